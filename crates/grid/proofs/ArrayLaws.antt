@@ -1,0 +1,66 @@
+-- Lists kept in arrays of 1,024 places.
+-- Assumes nothing.
+use Prim.Native.Nat.{ℕ, zero, suc, _+_, _-_, _≤_, _<_}
+use native.Mathlib.Omega.{arith}
+use mathlib.Core.Path.{_≡_, refl, sym, ap, _∙_, subst}
+use mathlib.Core.List.{List, [], _∷_, _++_, append-assoc}
+use lib.ListN.{length, getD, set, take, drop, replicate, length-append, length-replicate, getD-replicate, List·getD-append, List·getD-eq-default}
+use lib.Seq.{take-append-seam, drop-append-seam, getD-append-add, set-append-left, set-at, take-at}
+use Rattle.grid.specs.Lists.{arrayOf}
+
+module _ {A : Type 0} (d : A) where
+  -- an array has 1,024 places
+  pub array-length : (l : List A) → length l ≤ 1024 → length (arrayOf d l) ≡ 1024
+  unfolding arrayOf
+  array-length l h = simp (length-append, length-replicate) (omega arith)
+
+  -- the first places hold the list
+  pub array-take : (l : List A) → take (length l) (arrayOf d l) ≡ l
+  unfolding arrayOf
+  array-take l = take-append-seam l (replicate (1024 - length l) d)
+
+  -- what stands behind the list
+  pub array-behind : (l : List A) → drop (length l) (arrayOf d l) ≡ replicate (1024 - length l) d
+  unfolding arrayOf
+  array-behind l = drop-append-seam l (replicate (1024 - length l) d)
+
+  -- at a place of the list stands its member
+  pub array-in : (l : List A) (e : A) (i : ℕ) → i < length l → getD (arrayOf d l) i e ≡ getD l i e
+  unfolding arrayOf
+  array-in l e i h = List·getD-append l (replicate (1024 - length l) d) e i h
+
+  -- behind it stands d
+  pub array-out : (l : List A) (e : A) (i : ℕ) → length l ≤ i → i < 1024 → getD (arrayOf d l) i e ≡ d
+  unfolding arrayOf
+  array-out l e i h k =
+      let q : length l + (i - length l) ≡ i = omega arith in
+      subst (λ (j : ℕ). getD (l ++ replicate (1024 - length l) d) j e ≡ d) q
+      (getD-append-add l (replicate (1024 - length l) d) (i - length l) e ∙ getD-replicate (1024 - length l) (i - length l) d e (omega arith))
+
+  -- a member is replaced
+  pub array-set : (l : List A) (i : ℕ) (a : A) → i < length l → set (arrayOf d l) i a ≡ arrayOf d (set l i a)
+  unfolding arrayOf
+  array-set l i a h = set-append-left l (replicate (1024 - length l) d) i a h ∙ rw (length-of i) refl
+    where
+      length-of : (i : ℕ) → length (set l i a) ≡ length l
+      length-of i = simp lib.ListN.length-set
+
+  -- one more member
+  pub array-more : (l : List A) (a : A) → length l < 1024 → set (arrayOf d l) (length l) a ≡ arrayOf d (l ++ (a ∷ []))
+  unfolding arrayOf
+  array-more l a h = go (1024 - length l) (1024 - length (l ++ (a ∷ []))) (omega (arith, length-append l (a ∷ [])))
+    where
+      go : (m n : ℕ) → m ≡ suc n → set (l ++ replicate m d) (length l) a ≡ (l ++ (a ∷ [])) ++ replicate n d
+      go m n e = rw e (set-at l d (replicate n d) a (length l) refl ∙ sym (append-assoc l (a ∷ []) (replicate n d)))
+
+  -- one member less
+  pub array-less : (l : List A) (a : A) → length l < 1024 → set (arrayOf d (l ++ (a ∷ []))) (length l) d ≡ arrayOf d l
+  unfolding arrayOf
+  array-less l a h = go (1024 - length l) (1024 - length (l ++ (a ∷ []))) (omega (arith, length-append l (a ∷ [])))
+    where
+      go : (m n : ℕ) → m ≡ suc n → set ((l ++ (a ∷ [])) ++ replicate n d) (length l) d ≡ l ++ replicate m d
+      go m n e = rw (append-assoc l (a ∷ []) (replicate n d)) (rw e (set-at l a (replicate n d) d (length l) refl))
+
+  -- two lists of one length in equal arrays are equal
+  pub array-same : (l m : List A) → length l ≡ length m → arrayOf d l ≡ arrayOf d m → l ≡ m
+  array-same l m h e = sym (array-take l) ∙ rw (e, h) (array-take m)

@@ -1,0 +1,10 @@
+pub mod ListLaws
+pub mod Count
+pub mod Finite
+pub mod GridLaws
+pub mod RisingLaws
+pub mod ArrayLaws
+pub mod Signed
+pub mod SideLaws
+pub mod ShiftLaws
+pub mod AroundLaws

@@ -1,0 +1,4 @@
+pub mod Lists
+pub mod Link
+pub mod Grid
+pub mod Side
