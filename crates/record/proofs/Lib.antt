@@ -1,0 +1,15 @@
+pub mod RecordLaws
+pub mod FreshLaws
+pub mod LineLaws
+pub mod WriteLaws
+pub mod ProblemLaws
+pub mod FieldLaws
+pub mod StepLaws
+pub mod ReadLaws
+pub mod KeptLaws
+pub mod ArrowLaws
+pub mod ArrowsLaws
+pub mod WholeLaws
+pub mod BitLaws
+pub mod Accepted
+pub mod Longest

@@ -1,0 +1,357 @@
+-- A valid puzzle is read back from the record that is written for it.
+-- Assumes nothing.
+use Prim.Native.Nat.{ℕ, zero, suc, _+_, _-_, _*_, _/_, _%_, _^_, _≤_, _<_}
+use native.Mathlib.Nat.{mod-lt, pow-suc, add-suc, add-zero, div-div-eq-div-mul, div-lt-iff-lt-mul, mul-comm, div-one, not-suc-le-zero, le-of-suc-le-suc, mul-le-mul-right}
+use native.Mathlib.Omega.{arith}
+use mathlib.Core.Logic.{_⊎_, inl, inr}
+use mathlib.Core.Path.{_≡_, refl, sym, ap, _∙_}
+use mathlib.Core.Bool.{Bool, true, false, _||_, false≢true, true≢false}
+use mathlib.Core.List.{List, [], _∷_, _++_, append-assoc, append-nil, List·Memᴰ, List·Memᴰ·head, List·Memᴰ·tail, List·Memᴰ·not-nil, List·Memᴰ·append-cases}
+use lib.Dec.{eqb, lit<}
+use lib.ListN.{length, getD, drop, length-append}
+use lib.Seq.{getD-drop, drop-at, drop-drop, drop-length, getD-at}
+use borrow.Author.Tests.{eqb-true, eq-eqb, le-leb, lt-ltb}
+use Rattle.grid.proofs.ListLaws.{so-false, member-mem, split, mem-any}
+use Rattle.grid.specs.Lists.{member, any, flatMap}
+use Rattle.grid.specs.Grid.{Grid, size, row, col, only, up, down, left, right, neighbours}
+use Rattle.grid.proofs.GridLaws.{width-pos, index}
+use Rattle.record.specs.Record.{_>>=_, Outcome, ok, unless, Puzzle, bit, number, field, cellCodes, there, stepFrom, stepCells, arrowAt, arrowsAt, filler, readRecord}
+use Rattle.record.specs.Valid.{Walk, on, Fresh, Arrow, arrow, Arrows, Valid}
+use Rattle.record.proofs.FreshLaws.{together, arrows-length, one-length}
+use Rattle.record.specs.Write.{bitsOf, valueOf, pack, direction, stepBits, arrowBits, recordBits, writeRecord}
+
+-- every entry is a bit
+abbrev Bits : List ℕ → Type 0
+Bits b = (k : ℕ) → getD b k 0 < 2
+
+-- a bit of the number that bits make
+value-bit : (b : List ℕ) → Bits b → (r e : ℕ) → valueOf (suc (r + e)) b / 2 ^ e % 2 ≡ getD b r 0
+unfolding valueOf
+value-bit b h r zero = rw (add-zero r, div-one (2 * valueOf r b + getD b r 0)) (omega (arith, h r))
+value-bit b h r (suc e) =
+    rw (add-suc r e, pow-suc 2 e, mul-comm (2 ^ e) 2, ← div-div-eq-div-mul (2 * valueOf (suc (r + e)) b + getD b (suc (r + e)) 0) 2 (2 ^ e))
+    (ap (λ (x : ℕ). x / 2 ^ e % 2) half ∙ value-bit b h r e)
+  where
+    half : (2 * valueOf (suc (r + e)) b + getD b (suc (r + e)) 0) / 2 ≡ valueOf (suc (r + e)) b
+    half = omega (arith, h (suc (r + e)))
+
+-- a byte of the packed bits
+pub pack-byte : (m : ℕ) (b : List ℕ) (q : ℕ) → q < m → getD (pack m b) q 0 ≡ valueOf 8 (drop (8 * q) b)
+unfolding pack
+pack-byte zero b q l = absurd (not-suc-le-zero l)
+pack-byte (suc m) b zero l = refl
+pack-byte (suc m) b (suc q) l =
+    let n : 8 + 8 * q ≡ 8 * suc q = omega arith in
+    pack-byte m (drop 8 b) q (le-of-suc-le-suc l) ∙ ap (valueOf 8) (drop-drop (8 * q) 8 b ∙ ap (λ (x : ℕ). drop x b) n)
+
+-- as many bytes as were asked for
+pub length-pack : (m : ℕ) (b : List ℕ) → length (pack m b) ≡ m
+unfolding pack
+length-pack zero b = refl
+length-pack (suc m) b = ap suc (length-pack m (drop 8 b))
+
+pack-bit : (m : ℕ) (b : List ℕ) → Bits b → (k : ℕ) → k < 8 * m → bit (pack m b) k ≡ getD b k 0
+unfolding bit
+pack-bit m b h k l =
+    let n : suc (k % 8 + (7 - k % 8)) ≡ 8 = omega (arith, mod-lt k {m = 8} (lit< tt)) in
+    let w : 8 * (k / 8) + k % 8 ≡ k = omega arith in
+    ap (λ (x : ℕ). x / 2 ^ (7 - k % 8) % 2) (pack-byte m b (k / 8) (omega arith))
+    ∙ ap (λ (x : ℕ). valueOf x (drop (8 * (k / 8)) b) / 2 ^ (7 - k % 8) % 2) (sym n)
+    ∙ value-bit (drop (8 * (k / 8)) b) (λ i. rw getD-drop (h (8 * (k / 8) + i))) (k % 8) (7 - k % 8)
+    ∙ getD-drop (8 * (k / 8)) b (k % 8) 0
+    ∙ ap (λ (x : ℕ). getD b x 0) w
+
+pack-number : (m : ℕ) (b : List ℕ) → Bits b → (at k : ℕ) → at + k ≤ 8 * m → number (pack m b) at k ≡ valueOf k (drop at b)
+unfolding number valueOf
+pack-number m b h at zero l = refl
+pack-number m b h at (suc k) l = rw (pack-number m b h at k (omega arith), pack-bit m b h (at + k) (omega arith), getD-drop) refl
+
+-- a field has its bits
+pub length-bitsOf : (x k : ℕ) → length (bitsOf x k) ≡ k
+unfolding bitsOf
+length-bitsOf x zero = refl
+length-bitsOf x (suc k) = rw length-append (omega (arith, length-bitsOf (x / 2) k))
+
+-- the bits of x make x
+value-bitsOf : (k x : ℕ) (post : List ℕ) → x < 2 ^ k → valueOf k (bitsOf x k ++ post) ≡ x
+unfolding valueOf bitsOf
+value-bitsOf zero x post h = omega arith
+value-bitsOf (suc k) x post h =
+    rw (append-assoc (bitsOf (x / 2) k) ((x % 2) ∷ []) post, value-bitsOf k (x / 2) ((x % 2) ∷ post) (omega (arith, pow-suc 2 k)), getD-at (bitsOf (x / 2) k) (x % 2) post 0 k (length-bitsOf (x / 2) k))
+    (omega arith)
+
+-- the cell of a list of one
+there-read : (t : Bool) (x j : ℕ) → member j (only t x) ≡ true → there (only t x) ≡ ok j
+unfolding only member any there
+there-read true x j h = go (split (eqb j x)) h
+  where
+    go : (eqb j x ≡ true) ⊎ (eqb j x ≡ false) → (eqb j x || false) ≡ true → ok x ≡ ok j
+    go (inl e) k = ap {B = Outcome ℕ} ok (sym (eqb-true j x e))
+    go (inr e) k = absurd (false≢true (rw e at k))
+there-read false x j h = absurd (false≢true h)
+
+mem-member : {j : ℕ} {l : List ℕ} → List·Memᴰ j l → member j l ≡ true
+unfolding member
+mem-member {j} {l} m = mem-any (eqb j) l m (eq-eqb j j refl)
+
+no-member : (j : ℕ) (l : List ℕ) → (List·Memᴰ j l → ⊥) → member j l ≡ false
+no-member j l h = so-false (member j l) (λ t. h (member-mem j l t))
+
+direction-read : (g : Grid) (i j : ℕ) → List·Memᴰ j (neighbours g i) → (stepFrom g i (direction g i j) ≡ ok j) × (direction g i j < 4)
+unfolding neighbours direction up down left right stepFrom
+direction-read g i j m = one (split (member j (up g i)))
+  where
+    Goal : Type 0
+    Goal = (stepFrom g i (direction g i j) ≡ ok j) × (direction g i j < 4)
+
+    last : member j (up g i) ≡ false → member j (down g i) ≡ false → member j (left g i) ≡ false → Goal
+    last u d l = rw (u, d, l) (there-read _ _ j (four (List·Memᴰ·append-cases (up g i) m)), lit< tt)
+      where
+        no : (l : List ℕ) → member j l ≡ false → List·Memᴰ j l → ⊥
+        no l f k = true≢false (sym (mem-member k) ∙ f)
+
+        six : List·Memᴰ j (left g i) ⊎ List·Memᴰ j (right g i) → member j (right g i) ≡ true
+        six (inl k) = absurd (no (left g i) l k)
+        six (inr k) = mem-member k
+
+        five : List·Memᴰ j (down g i) ⊎ List·Memᴰ j (left g i ++ right g i) → member j (right g i) ≡ true
+        five (inl k) = absurd (no (down g i) d k)
+        five (inr k) = six (List·Memᴰ·append-cases (left g i) k)
+
+        four : List·Memᴰ j (up g i) ⊎ List·Memᴰ j (down g i ++ (left g i ++ right g i)) → member j (right g i) ≡ true
+        four (inl k) = absurd (no (up g i) u k)
+        four (inr k) = five (List·Memᴰ·append-cases (down g i) k)
+
+    three : member j (up g i) ≡ false → member j (down g i) ≡ false → (member j (left g i) ≡ true) ⊎ (member j (left g i) ≡ false) → Goal
+    three u d (inl t) = rw (u, d, t) (there-read _ _ j t, lit< tt)
+    three u d (inr f) = last u d f
+
+    two : member j (up g i) ≡ false → (member j (down g i) ≡ true) ⊎ (member j (down g i) ≡ false) → Goal
+    two u (inl t) = rw (u, t) (there-read _ _ j t, lit< tt)
+    two u (inr f) = three u f (split (member j (left g i)))
+
+    one : (member j (up g i) ≡ true) ⊎ (member j (up g i) ≡ false) → Goal
+    one (inl t) = rw t (there-read _ _ j t, lit< tt)
+    one (inr f) = two f (split (member j (down g i)))
+
+no-empty : {g : Grid} → Arrow g [] → ⊥
+no-empty h = elim h [ ]
+
+row-size : (g : Grid) (i : ℕ) → i < size g → row g i < g .height
+unfolding row size
+row-size g i h = div-lt-iff-lt-mul {k = g .width} (width-pos g h) .1 h
+
+col-size : (g : Grid) (i : ℕ) → i < size g → col g i < g .width
+unfolding col
+col-size g i h = mod-lt i (width-pos g h)
+
+value-nil : (k : ℕ) → valueOf k [] ≡ 0
+unfolding valueOf
+value-nil zero = refl
+value-nil (suc k) = omega (arith, value-nil k)
+
+length-stepBits : (g : Grid) (i : ℕ) (js : List ℕ) → length (stepBits g i js) ≡ 2 * length js
+unfolding stepBits
+length-stepBits g i [] = omega arith
+length-stepBits g i (j ∷ js) = rw length-append (omega (arith, length-bitsOf (direction g i j) 2, length-stepBits g j js))
+
+-- the bits of an arrow
+pub length-arrowBits : (g : Grid) (i : ℕ) (js : List ℕ) → length (arrowBits g (i ∷ js)) ≡ 20 + 2 * length js
+unfolding arrowBits
+length-arrowBits g i js = simp length-append (omega (arith, length-bitsOf (row g i) 5, length-bitsOf (col g i) 5, length-bitsOf (length js) 10, length-stepBits g i js))
+
+-- reading at the length of what stands before
+module _ (m : ℕ) (b : List ℕ) (h : Bits b) (fit : length b ≤ 8 * m) where
+  field-read : (pre post : List ℕ) (at x k : ℕ) → b ≡ pre ++ (bitsOf x k ++ post) → length pre ≡ at → x < 2 ^ k → field (pack m b) at k ≡ ok x
+  unfolding field
+  field-read pre post at x k e n l =
+      let t = simp length-append at (ap length e) in
+      let room : at + k ≤ 8 * length (pack m b) = omega (arith, length-pack m b, length-bitsOf x k) in
+      rw (le-leb (at + k) (8 * length (pack m b)) room)
+      (ap {B = Outcome ℕ} ok (pack-number m b h at k (omega (arith, length-pack m b)) ∙ ap (λ (r : List ℕ). valueOf k (drop at r)) e ∙ ap (valueOf k) (drop-at pre (bitsOf x k ++ post) at n) ∙ value-bitsOf k x post l))
+
+  cells-read : (cs pre post : List ℕ) (at : ℕ) → b ≡ pre ++ (flatMap (λ c. bitsOf c 2) cs ++ post) → length pre ≡ at → ((c : ℕ) → List·Memᴰ c cs → c < 3) → cellCodes (pack m b) at (length cs) ≡ ok cs
+  unfolding cellCodes flatMap _>>=_ unless
+  cells-read [] pre post at e n f = refl
+  cells-read (c ∷ cs) pre post at e n f =
+      let l = f c (List·Memᴰ·head refl) in
+      let e′ : b ≡ pre ++ (bitsOf c 2 ++ (flatMap (λ d. bitsOf d 2) cs ++ post)) = e ∙ simp append-assoc in
+      rw (
+        field-read pre (flatMap (λ d. bitsOf d 2) cs ++ post) at c 2 e′ n (omega arith),
+        lt-ltb c 3 l,
+        cells-read cs (pre ++ bitsOf c 2) post (at + 2) (e′ ∙ simp append-assoc) (rw length-append (omega (arith, length-bitsOf c 2))) (λ d k. f d (List·Memᴰ·tail k)),
+      )
+      refl
+
+  module _ (g : Grid) where
+    steps-read : (js pre post used : List ℕ) (i at : ℕ) → Walk g i js → Fresh used js → b ≡ pre ++ (stepBits g i js ++ post) → length pre ≡ at → stepCells (pack m b) g used i at (length js) ≡ ok js
+    unfolding stepCells stepBits _>>=_ unless
+    steps-read [] pre post used i at w f e n = refl
+    steps-read (j ∷ js) pre post used i at (on k w) (Fresh.cons d f) e n =
+        let e′ : b ≡ pre ++ (bitsOf (direction g i j) 2 ++ (stepBits g j js ++ post)) = e ∙ simp append-assoc in
+        let r = direction-read g i j k in
+        rw (
+          field-read pre (stepBits g j js ++ post) at (direction g i j) 2 e′ n (omega (arith, r .1)),
+          r .0,
+          no-member j used d,
+          steps-read js (pre ++ bitsOf (direction g i j) 2) post (j ∷ used) j (at + 2) w f (e′ ∙ simp append-assoc) (rw length-append (omega (arith, length-bitsOf (direction g i j) 2))),
+        )
+        refl
+
+    module _ (hh : g .height ≤ 32) (hw : g .width ≤ 32) where
+      arrow-read : (i at : ℕ) (js pre post used : List ℕ) → i < size g → Walk g i js → Fresh used (i ∷ js) → length js < 1024
+          → b ≡ pre ++ (arrowBits g (i ∷ js) ++ post) → length pre ≡ at → arrowAt (pack m b) g used at ≡ ok (i ∷ js)
+      unfolding arrowAt arrowBits _>>=_ unless
+      arrow-read i at js pre post used hi w (Fresh.cons d f) l e n =
+          let y : row g i < g .height = row-size g i hi in
+          let x : col g i < g .width = col-size g i hi in
+          let e1 : b ≡ pre ++ (bitsOf (row g i) 5 ++ (bitsOf (col g i) 5 ++ (bitsOf (length js) 10 ++ (stepBits g i js ++ post)))) = e ∙ simp append-assoc in
+          let e2 : b ≡ (pre ++ bitsOf (row g i) 5) ++ (bitsOf (col g i) 5 ++ (bitsOf (length js) 10 ++ (stepBits g i js ++ post))) = e1 ∙ simp append-assoc in
+          let e3 : b ≡ (pre ++ (bitsOf (row g i) 5 ++ bitsOf (col g i) 5)) ++ (bitsOf (length js) 10 ++ (stepBits g i js ++ post)) = e1 ∙ simp append-assoc in
+          let e4 : b ≡ (pre ++ (bitsOf (row g i) 5 ++ (bitsOf (col g i) 5 ++ bitsOf (length js) 10))) ++ (stepBits g i js ++ post) = e1 ∙ simp append-assoc in
+          rw (
+            field-read pre _ at (row g i) 5 e1 n (omega arith),
+            field-read (pre ++ bitsOf (row g i) 5) _ (at + 5) (col g i) 5 e2 (simp length-append (omega (arith, length-bitsOf (row g i) 5))) (omega arith),
+            field-read (pre ++ (bitsOf (row g i) 5 ++ bitsOf (col g i) 5)) _ (at + 10) (length js) 10 e3 (simp length-append (omega (arith, length-bitsOf (row g i) 5, length-bitsOf (col g i) 5))) (omega arith),
+            lt-ltb (row g i) (g .height) y,
+            lt-ltb (col g i) (g .width) x,
+            index g i,
+            no-member i used d,
+            steps-read js (pre ++ (bitsOf (row g i) 5 ++ (bitsOf (col g i) 5 ++ bitsOf (length js) 10))) post (i ∷ used) i (at + 20) w f e4
+                (simp length-append (omega (arith, length-bitsOf (row g i) 5, length-bitsOf (col g i) 5, length-bitsOf (length js) 10))),
+          )
+          refl
+
+      arrows-read : (as′ : List (List ℕ)) (pre used : List ℕ) (at : ℕ) → Arrows g used as′ → ((a : List ℕ) → List·Memᴰ a as′ → length a ≤ 1024)
+          → b ≡ pre ++ flatMap (arrowBits g) as′ → length pre ≡ at → 8 * m - length b < 8 → arrowsAt (pack m b) g used at (length as′) ≡ ok as′
+      unfolding arrowsAt flatMap _>>=_ unless filler
+      arrows-read [] pre used at r t e n q =
+          let e′ : b ≡ pre = e ∙ append-nil pre in
+          let z : drop at b ≡ [] = ap (drop at) e′ ∙ ap (λ (k : ℕ). drop k pre) (sym n) ∙ drop-length pre in
+          let len : length b ≡ at = ap length e′ ∙ n in
+          let k : ℕ = 8 * length (pack m b) - at in
+          rw (
+            lt-ltb (8 * length (pack m b) - at) 8 (omega (arith, length-pack m b)),
+            pack-number m b h at (8 * length (pack m b) - at) (omega (arith, length-pack m b)),
+            z,
+            value-nil (8 * length (pack m b) - at),
+          )
+          refl
+      arrows-read ([] ∷ as′) pre used at (Arrows.cons a f r) t e n q = absurd (no-empty a)
+      arrows-read ((i ∷ js) ∷ as′) pre used at (Arrows.cons (arrow hi w) f r) t e n q =
+          let e′ : b ≡ pre ++ (arrowBits g (i ∷ js) ++ flatMap (arrowBits g) as′) = e in
+          let l = t (i ∷ js) (List·Memᴰ·head refl) in
+          rw (
+            arrow-read i at js pre (flatMap (arrowBits g) as′) used hi w f (omega arith) e′ n,
+            arrows-read as′ (pre ++ arrowBits g (i ∷ js)) ((i ∷ js) ++ used) (at + 18 + 2 * length (i ∷ js)) r (λ a k. t a (List·Memᴰ·tail k)) (e′ ∙ simp append-assoc)
+                (rw length-append (omega (arith, length-arrowBits g i js))) q,
+          )
+          refl
+
+bits-append : (a b : List ℕ) → Bits a → Bits b → Bits (a ++ b)
+bits-append [] b ha hb k = hb k
+bits-append (x ∷ a) b ha hb zero = ha 0
+bits-append (x ∷ a) b ha hb (suc k) = bits-append a b (λ i. ha (suc i)) hb k
+
+bits-bitsOf : (x k : ℕ) → Bits (bitsOf x k)
+unfolding bitsOf
+bits-bitsOf x zero = λ i. lit< tt
+bits-bitsOf x (suc k) = bits-append (bitsOf (x / 2) k) ((x % 2) ∷ []) (bits-bitsOf (x / 2) k) one
+  where
+    one : Bits ((x % 2) ∷ [])
+    one zero = mod-lt x (lit< tt)
+    one (suc i) = lit< tt
+
+bits-flatMap : {A : Type 0} (f : A → List ℕ) (l : List A) → ((x : A) → Bits (f x)) → Bits (flatMap f l)
+unfolding flatMap
+bits-flatMap f [] h = λ i. lit< tt
+bits-flatMap f (x ∷ l) h = bits-append (f x) (flatMap f l) (h x) (bits-flatMap f l h)
+
+bits-steps : (g : Grid) (i : ℕ) (js : List ℕ) → Bits (stepBits g i js)
+unfolding stepBits
+bits-steps g i [] = λ k. lit< tt
+bits-steps g i (j ∷ js) = bits-append (bitsOf (direction g i j) 2) (stepBits g j js) (bits-bitsOf (direction g i j) 2) (bits-steps g j js)
+
+bits-arrow : (g : Grid) (a : List ℕ) → Bits (arrowBits g a)
+unfolding arrowBits
+bits-arrow g [] = λ k. lit< tt
+bits-arrow g (i ∷ js) =
+    bits-append (bitsOf (row g i) 5) _ (bits-bitsOf (row g i) 5) (bits-append (bitsOf (col g i) 5) _ (bits-bitsOf (col g i) 5)
+    (bits-append (bitsOf (length js) 10) (stepBits g i js) (bits-bitsOf (length js) 10) (bits-steps g i js)))
+
+-- two bits for each cell
+pub length-codes : (cs : List ℕ) → length (flatMap (λ c. bitsOf c 2) cs) ≡ 2 * length cs
+unfolding flatMap
+length-codes [] = omega arith
+length-codes (c ∷ cs) = rw length-append (omega (arith, length-bitsOf c 2, length-codes cs))
+
+-- no arrow is empty
+pub few-arrows : {g : Grid} {u : List ℕ} {as′ : List (List ℕ)} → Arrows g u as′ → length as′ ≤ length (together as′)
+unfolding flatMap
+few-arrows Arrows.nil = omega arith
+few-arrows (Arrows.cons (arrow h w) f r) = rw length-append (omega (arith, few-arrows r))
+
+-- a grid within the limits
+pub size-le : (g : Grid) → g .height ≤ 32 → g .width ≤ 32 → size g ≤ 1024
+unfolding size
+size-le g h w = omega (arith, mul-le-mul-right (g .width) h)
+
+module _ (p : Puzzle) (v : Valid p) (m : ℕ) (b : List ℕ) (h : Bits b) (fit : length b ≤ 8 * m) (near : 8 * m - length b < 8) where
+  read-bits : b ≡ bitsOf (p .grid .height - 1) 5 ++ (bitsOf (p .grid .width - 1) 5 ++ (bitsOf (length (p .arrows)) 11 ++ (flatMap (λ c. bitsOf c 2) (p .given) ++ flatMap (arrowBits (p .grid)) (p .arrows))))
+      → readRecord (pack m b) ≡ ok p
+  unfolding readRecord _>>=_
+  read-bits e =
+      let B1 : List ℕ = bitsOf (p .grid .height - 1) 5 in
+      let B2 : List ℕ = bitsOf (p .grid .width - 1) 5 in
+      let B3 : List ℕ = bitsOf (length (p .arrows)) 11 in
+      let C : List ℕ = flatMap (λ c. bitsOf c 2) (p .given) in
+      let l1 : length B1 ≡ 5 = length-bitsOf (p .grid .height - 1) 5 in
+      let l2 : length B2 ≡ 5 = length-bitsOf (p .grid .width - 1) 5 in
+      let l3 : length B3 ≡ 11 = length-bitsOf (length (p .arrows)) 11 in
+      let most : size (p .grid) ≤ 1024 = size-le (p .grid) (v .high .0) (v .high .1) in
+      let few : length (p .arrows) < 2 ^ 11 = omega (arith, few-arrows (v .arrows), arrows-length p v) in
+      let H : p .grid .height - 1 + 1 ≡ p .grid .height = omega (arith, v .low .0) in
+      let W : p .grid .width - 1 + 1 ≡ p .grid .width = omega (arith, v .low .1) in
+      let cells : cellCodes (pack m b) 21 (size (p .grid)) ≡ ok (p .given) =
+      rw (v .total) at (cells-read m b h fit (p .given) (B1 ++ (B2 ++ B3)) (flatMap (arrowBits (p .grid)) (p .arrows)) 21 (e ∙ simp append-assoc) (simp length-append (omega arith)) (v .codes)) in
+      let arrows : arrowsAt (pack m b) (p .grid) [] (21 + 2 * size (p .grid)) (length (p .arrows)) ≡ ok (p .arrows) =
+      arrows-read m b h fit (p .grid) (v .high .0) (v .high .1) (p .arrows) (B1 ++ (B2 ++ (B3 ++ C))) [] (21 + 2 * size (p .grid)) (v .arrows)
+      (λ a k. omega (arith, one-length (p .arrows) a k, arrows-length p v)) (e ∙ simp append-assoc) (simp length-append (omega (arith, length-codes (p .given), v .total))) near in
+      rw (
+        field-read m b h fit [] _ 0 (p .grid .height - 1) 5 e refl (omega (arith, v .high .0)),
+        field-read m b h fit B1 _ 5 (p .grid .width - 1) 5 e l1 (omega (arith, v .high .1)),
+        field-read m b h fit (B1 ++ B2) (C ++ flatMap (arrowBits (p .grid)) (p .arrows)) 10 (length (p .arrows)) 11 (e ∙ simp append-assoc) (simp length-append (omega arith)) few,
+        H,
+        W,
+        cells,
+        arrows,
+      )
+      refl
+
+bits-record : (p : Puzzle) → Bits (recordBits p)
+unfolding recordBits
+bits-record p =
+    bits-append (bitsOf (p .grid .height - 1) 5) _ (bits-bitsOf (p .grid .height - 1) 5)
+    (bits-append (bitsOf (p .grid .width - 1) 5) _ (bits-bitsOf (p .grid .width - 1) 5)
+    (bits-append (bitsOf (length (p .arrows)) 11) _ (bits-bitsOf (length (p .arrows)) 11)
+    (bits-append (flatMap (λ c. bitsOf c 2) (p .given)) (flatMap (arrowBits (p .grid)) (p .arrows)) (bits-flatMap (λ c. bitsOf c 2) (p .given) (λ c. bits-bitsOf c 2)) (bits-flatMap (arrowBits (p .grid)) (p .arrows) (bits-arrow (p .grid))))))
+
+pub round-trip : (p : Puzzle) → Valid p → readRecord (writeRecord p) ≡ ok p
+unfolding writeRecord
+round-trip p v = read-bits p v ((length (recordBits p) + 7) / 8) (recordBits p) (bits-record p) (omega arith) (omega arith) (unfold recordBits in refl)
+
+value-lt : (k : ℕ) (b : List ℕ) → Bits b → valueOf k b < 2 ^ k
+unfolding valueOf
+value-lt zero b h = lit< tt
+value-lt (suc k) b h = omega (arith, value-lt k b h, h k, pow-suc 2 k)
+
+pack-bytes : (m : ℕ) (b : List ℕ) → Bits b → (x : ℕ) → List·Memᴰ x (pack m b) → x < 256
+unfolding pack
+pack-bytes zero b h x m = absurd (List·Memᴰ·not-nil m)
+pack-bytes (suc n) b h x (List·Memᴰ·head e) = rw e (value-lt 8 b h)
+pack-bytes (suc n) b h x (List·Memᴰ·tail m) = pack-bytes n (drop 8 b) (λ k. rw getD-drop (h (8 + k))) x m
+
+-- a record that is written is a list of bytes
+pub written-bytes : (p : Puzzle) (x : ℕ) → List·Memᴰ x (writeRecord p) → x < 256
+unfolding writeRecord
+written-bytes p = pack-bytes ((length (recordBits p) + 7) / 8) (recordBits p) (bits-record p)

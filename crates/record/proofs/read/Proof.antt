@@ -1,0 +1,184 @@
+-- `record::read` meets its contract: each way out by its own law.
+-- Assumes nothing.
+use Prim.Native.Nat.{_+_, _*_, _≤_, _<_}
+use native.Mathlib.Omega.{arith}
+use mathlib.Core.Path.{_≡_, _∙_}
+use Rattle.record.specs.Record.{ok, field}
+use Rattle.record.proofs.RecordLaws.{field-ok}
+use Rattle.record.proofs.ReadLaws.{value-ok, fault-refused}
+use Rattle.record.proofs.ArrowLaws.{answered-done, answered-fault}
+use Rattle.record.proofs.WholeLaws.{whole-cut, whole-cut-2, whole-cut-3, whole-size, whole-cells, whole-arrows, whole-done}
+use borrow.Author.Needs.{needs}
+use Rattle.record.proofs.read.Statement.{statement}
+use Rattle.record.proofs.read.Tie as tie
+
+-- the three fields
+rows : (c : tie.After-known-told) → field (c .before .before .before .before .before .args .s .now) 0 5 ≡ ok (c .before .h .given .0 .0)
+rows c = value-ok (field (c .before .before .before .before .before .args .s .now) 0 5) (c .before .before .before .read-field .ensures) (c .before .h .given .1)
+
+columns : (c : tie.After-known-told2) → field (c .before .before .before .before .before .before .before .before .before .args .s .now) 5 5 ≡ ok (c .before .w .given .0 .0)
+columns c = value-ok (field (c .before .before .before .before .before .before .before .before .before .args .s .now) 5 5) (c .before .before .before .read-field2 .ensures) (c .before .w .given .1)
+
+count : (c : tie.After-known-told3) → field (c .before .before .before .before .before .before .before .before .before .before .before .before .before .args .s .now) 10 11 ≡ ok (c .before .m .given .0 .0)
+count c = value-ok (field (c .before .before .before .before .before .before .before .before .before .before .before .before .before .args .s .now) 10 11) (c .before .before .before .read-field3 .ensures) (c .before .m .given .1)
+
+-- the grid is within the limits
+limits : (c : tie.After-known-told3)
+    → (c .before .before .before .before .before .before .before .before .before .h .given .0 .0 < 32) × (c .before .before .before .before .before .w .given .0 .0 < 32) × ((c .before .before .before .before .before .before .before .before .before .h .given .0 .0 + 1) * (c .before .before .before .before .before .w .given .0 .0 + 1) ≤ 1024)
+limits c = whole-size (c .before .before .before .before .before .before .before .before .before .before .before .before .before .args .s .now) (rows (c .before .before .before .before .before .before .before .before)) (columns (c .before .before .before .before))
+
+read-field-requires : tie.Need-read-field-requires
+read-field-requires c κs = search needs
+
+enum-known-h : tie.Need-enum-known-h
+enum-known-h c = search needs
+
+enum-told : tie.Need-enum-told
+enum-told c = search needs
+
+refusal-requires : tie.Need-refusal-requires
+refusal-requires c κs = search needs
+
+returns : tie.Need-returns
+returns c = c .refusal .ensures ∙ whole-cut (c .before .before .before .before .before .args .s .now) (fault-refused (field (c .before .before .before .before .before .args .s .now) 0 5) (c .before .before .before .read-field .ensures) (c .before .enum-told .given .1))
+
+read-field-requires-2 : tie.Need-read-field-requires-2
+read-field-requires-2 c κs = search needs
+
+enum-known-w : tie.Need-enum-known-w
+enum-known-w c = search needs
+
+enum-told-2 : tie.Need-enum-told-2
+enum-told-2 c = search needs
+
+refusal-requires-2 : tie.Need-refusal-requires-2
+refusal-requires-2 c κs = search needs
+
+returns-2 : tie.Need-returns-2
+returns-2 c = c .refusal2 .ensures ∙ whole-cut-2 (c .before .before .before .before .before .before .before .before .before .args .s .now) (rows (c .before .before .before .before)) (fault-refused (field (c .before .before .before .before .before .before .before .before .before .args .s .now) 5 5) (c .before .before .before .read-field2 .ensures) (c .before .enum-told2 .given .1))
+
+read-field-requires-3 : tie.Need-read-field-requires-3
+read-field-requires-3 c κs = search needs
+
+enum-known-m : tie.Need-enum-known-m
+enum-known-m c = search needs
+
+enum-told-3 : tie.Need-enum-told-3
+enum-told-3 c = search needs
+
+refusal-requires-3 : tie.Need-refusal-requires-3
+refusal-requires-3 c κs = search needs
+
+returns-3 : tie.Need-returns-3
+returns-3 c = c .refusal3 .ensures ∙ whole-cut-3 (c .before .before .before .before .before .before .before .before .before .before .before .before .before .args .s .now) (rows (c .before .before .before .before .before .before .before .before)) (columns (c .before .before .before .before)) (fault-refused (field (c .before .before .before .before .before .before .before .before .before .before .before .before .before .args .s .now) 10 11) (c .before .before .before .read-field3 .ensures) (c .before .enum-told3 .given .1))
+
+add-height : tie.Need-add-height
+add-height c = omega (arith, limits c .0)
+
+add-width : tie.Need-add-width
+add-width c = omega (arith, limits c .1)
+
+no-codes-requires : tie.Need-no-codes-requires
+no-codes-requires c κs = search needs
+
+mul-read-cells : tie.Need-mul-read-cells
+mul-read-cells c = omega (arith, limits (c .before) .2)
+
+read-cells-requires : tie.Need-read-cells-requires
+read-cells-requires c κs = (limits (c .before .before) .2, c .before .no-codes .ensures)
+
+enum-known-a : tie.Need-enum-known-a
+enum-known-a c = search needs
+
+refusal-requires-4 : tie.Need-refusal-requires-4
+refusal-requires-4 c κs = search needs
+
+returns-4 : tie.Need-returns-4
+returns-4 c = c .refusal4 .ensures ∙ whole-cells (c .before .before .before .before .before .before .before .before .before .before .before .before .before .before .before .before .before .before .before .before .args .s .now) (rows (c .before .before .before .before .before .before .before .before .before .before .before .before .before .before .before)) (columns (c .before .before .before .before .before .before .before .before .before .before .before)) (count (c .before .before .before .before .before .before .before)) (answered-fault (c .before .before .before .before .read-cells .ensures) (c .before .before .a .given .1))
+
+enum-told-4 : tie.Need-enum-told-4
+enum-told-4 c = search needs
+
+no-cells-requires : tie.Need-no-cells-requires
+no-cells-requires c κs = search needs
+
+no-cells-requires-2 : tie.Need-no-cells-requires-2
+no-cells-requires-2 c κs = search needs
+
+no-codes-requires-2 : tie.Need-no-codes-requires-2
+no-codes-requires-2 c κs = search needs
+
+mul-read-arrows : tie.Need-mul-read-arrows
+mul-read-arrows c = omega (arith, limits (c .before .before .before .before .before .before .before .before) .2)
+
+mul-read-arrows-2 : tie.Need-mul-read-arrows-2
+mul-read-arrows-2 c = omega (arith, limits (c .before .before .before .before .before .before .before .before) .2)
+
+add-read-arrows : tie.Need-add-read-arrows
+add-read-arrows c = omega (arith, limits (c .before .before .before .before .before .before .before .before) .2)
+
+read-arrows-requires : tie.Need-read-arrows-requires
+read-arrows-requires c κs =
+    let z = limits (c .before .before .before .before .before .before .before .before .before .before .before) in
+    (omega (arith, z .0), omega (arith, z .1), omega (arith, z .2), omega (arith, field-ok (c .before .before .before .before .before .before .before .before .before .before .before .before .before .before .before .before .before .before .before .before .before .before .before .before .args .s .now) 10 11 (count (c .before .before .before .before .before .before .before .before .before .before .before))), c .before .before .before .before .before .no-cells .ensures, c .before .before .before .before .no-cells2 .ensures, c .before .before .before .no-codes2 .ensures)
+
+enum-known-b : tie.Need-enum-known-b
+enum-known-b c = search needs
+
+refusal-requires-5 : tie.Need-refusal-requires-5
+refusal-requires-5 c κs = search needs
+
+returns-5 : tie.Need-returns-5
+returns-5 c =
+    let d = answered-done (c .before .before .before .before .before .before .before .before .before .before .before .before .before .read-cells .ensures) (c .before .before .before .before .before .before .before .before .before .before .before .enum-told4 .given .1) in
+    c .refusal5 .ensures ∙ whole-arrows (c .before .before .before .before .before .before .before .before .before .before .before .before .before .before .before .before .before .before .before .before .before .before .before .before .before .before .before .before .before .args .s .now) (rows (c .before .before .before .before .before .before .before .before .before .before .before .before .before .before .before .before .before .before .before .before .before .before .before .before)) (columns (c .before .before .before .before .before .before .before .before .before .before .before .before .before .before .before .before .before .before .before .before)) (count (c .before .before .before .before .before .before .before .before .before .before .before .before .before .before .before .before)) (d .1) (answered-fault (c .before .before .before .before .read-arrows .ensures) (c .before .before .b .given .1))
+
+enum-told-5 : tie.Need-enum-told-5
+enum-told-5 c = search needs
+
+returns-6 : tie.Need-returns-6
+returns-6 c =
+    let d = answered-done (c .before .before .before .before .before .before .before .before .before .before .before .read-cells .ensures) (c .before .before .before .before .before .before .before .before .before .enum-told4 .given .1) in
+    let e = answered-done (c .before .before .read-arrows .ensures) (c .enum-told5 .given .1) in
+    whole-done (c .before .before .before .before .before .before .before .before .before .before .before .before .before .before .before .before .before .before .before .before .before .before .before .before .before .before .before .args .s .now) (rows (c .before .before .before .before .before .before .before .before .before .before .before .before .before .before .before .before .before .before .before .before .before .before)) (columns (c .before .before .before .before .before .before .before .before .before .before .before .before .before .before .before .before .before .before)) (count (c .before .before .before .before .before .before .before .before .before .before .before .before .before .before)) (d .1) (d .2) (e .1) (e .2 .0) (e .2 .1)
+
+pub read-spec : {M : Type 1} → statement M
+read-spec =
+    tie.close
+    (tie.spec
+    read-field-requires
+    enum-known-h
+    enum-told
+    refusal-requires
+    returns
+    read-field-requires-2
+    enum-known-w
+    enum-told-2
+    refusal-requires-2
+    returns-2
+    read-field-requires-3
+    enum-known-m
+    enum-told-3
+    refusal-requires-3
+    returns-3
+    add-height
+    add-width
+    no-codes-requires
+    mul-read-cells
+    read-cells-requires
+    enum-known-a
+    refusal-requires-4
+    returns-4
+    enum-told-4
+    no-cells-requires
+    no-cells-requires-2
+    no-codes-requires-2
+    mul-read-arrows
+    mul-read-arrows-2
+    add-read-arrows
+    read-arrows-requires
+    enum-known-b
+    refusal-requires-5
+    returns-5
+    enum-told-5
+    returns-6)

@@ -1,0 +1,149 @@
+-- `record::read_arrows` meets its contract: the first i arrows are read, and what is left makes of them what the whole makes.
+-- Assumes nothing.
+use Prim.Native.Nat.{ℕ, _+_, _-_, _*_, _≤_, _<_}
+use native.Mathlib.Omega.{arith}
+use mathlib.Core.Path.{_≡_, sym, _∙_}
+use mathlib.Core.List.{List, _++_}
+use lib.ListN.{length}
+use borrow.Author.Needs.{needs}
+use Rattle.record.specs.Record.{ok, arrowAt}
+use Rattle.record.specs.Problem.{arrowCells}
+use Rattle.record.specs.Inside.{fault, gridWith, Kept}
+use Rattle.record.proofs.KeptLaws.{kept-length}
+use Rattle.record.proofs.ArrowsLaws.{read-arrow, read-fault, ArrowsSoFar, arrows-start, arrows-fault, arrows-room, arrows-more, arrows-filled, arrows-unfilled}
+use Rattle.record.proofs.read_arrows.Statement.{statement}
+use Rattle.record.proofs.read_arrows.Tie as tie
+
+abbrev Inv-loop : tie.InvT-loop
+Inv-loop s height width at arrows line₀ ends₀ used₀ count₀ i₀ line ends used count i =
+    (i ≤ arrows) × (count ≤ 1024) × ArrowsSoFar s (gridWith height width) at arrows i count line ends used
+
+abbrev μ-loop : tie.MeasureT-loop
+μ-loop s height width at arrows line₀ ends₀ used₀ count₀ i₀ line ends used count i = arrows - i
+
+loop-holds : tie.Need-loop-holds Inv-loop μ-loop
+loop-holds c =
+    let a = c .before in
+    (omega arith, omega arith, arrows-start (a .args .s .now) (gridWith (a .args .height) (a .args .width)) (a .args .at) (a .args .arrows) (a .args .line .now) (a .args .ends .now) (a .args .used .now) (a .pre .4) (a .pre .5) (a .pre .6))
+
+mul-read-arrow : tie.Need-mul-read-arrow Inv-loop μ-loop
+mul-read-arrow c = search needs
+
+add-read-arrow : tie.Need-add-read-arrow Inv-loop μ-loop
+add-read-arrow c = search needs
+
+mul-read-arrow-2 : tie.Need-mul-read-arrow-2 Inv-loop μ-loop
+mul-read-arrow-2 c = search needs
+
+add-read-arrow-2 : tie.Need-add-read-arrow-2 Inv-loop μ-loop
+add-read-arrow-2 c = search needs
+
+read-arrow-requires : tie.Need-read-arrow-requires Inv-loop μ-loop
+read-arrow-requires c κs =
+    let a = c .before .before .before .before .before in
+    let w = c .before .before .before .loop .inv .2 in
+    (a .pre .0, a .pre .1, omega arith, (arrowCells (w .read), w .cells, w .kept))
+
+enum-known-f : tie.Need-enum-known-f Inv-loop μ-loop
+enum-known-f c = search needs
+
+-- the arrow that was read
+next : (c : tie.After-known-told Inv-loop μ-loop)
+    → (a : List ℕ)
+    × (arrowAt (c .before .before .before .before .before .before .before .before .before .args .s .now) (gridWith (c .before .before .before .before .before .before .before .before .before .args .height) (c .before .before .before .before .before .before .before .before .before .args .width)) (arrowCells (c .before .before .before .before .before .before .before .loop .inv .2 .read)) (c .before .before .before .before .before .before .before .before .before .args .at + 18 * c .before .before .before .before .before .before .before .loop .i + 2 * c .before .before .before .before .before .before .before .loop .count) ≡ ok a)
+    × (length (arrowCells (c .before .before .before .before .before .before .before .loop .inv .2 .read) ++ a) ≡ c .before .f .given .0 .0)
+    × Kept (arrowCells (c .before .before .before .before .before .before .before .loop .inv .2 .read) ++ a) (c .before .before .before .read-arrow .last .1 .1 .1 .1 .1 .0) (c .before .before .before .read-arrow .last .1 .1 .1 .1 .1 .1 .0)
+next c =
+    let w = c .before .before .before .before .before .before .before .loop .inv .2 in
+    read-arrow (c .before .before .before .read-arrow .ensures (arrowCells (w .read)) (w .cells) (w .kept)) (c .before .f .given .1)
+
+-- there is room for its end
+room : (c : tie.After-known-told Inv-loop μ-loop) → (c .before .before .before .before .before .before .before .loop .i < 1024) × (c .before .f .given .0 .0 ≤ 1024)
+room c =
+    let a = c .before .before .before .before .before .before .before .before .before in
+    let r = next c in
+    (arrows-room (a .args .s .now) (gridWith (a .args .height) (a .args .width)) (a .args .at) (a .args .arrows) (c .before .before .before .before .before .before .before .loop .i) (c .before .before .before .before .before .before .before .loop .count) (c .before .before .before .before .before .before .before .loop .inv .2) (r .1) (r .3), omega (arith, r .2, kept-length (r .3)))
+
+cast-ends : tie.Need-cast-ends Inv-loop μ-loop
+cast-ends c = omega (arith, room c .1)
+
+mul-ends : tie.Need-mul-ends Inv-loop μ-loop
+mul-ends c = omega (arith, room c .0)
+
+element-write-ends : tie.Need-element-write-ends Inv-loop μ-loop
+element-write-ends c = room c .0
+
+enum-known-f-2 : tie.Need-enum-known-f-2 Inv-loop μ-loop
+enum-known-f-2 c = search needs
+
+returns : tie.Need-returns Inv-loop μ-loop
+returns c =
+    let a = c .before .before .before .before .before .before .before .before .before in
+    let w = c .before .before .before .before .before .before .before .loop .inv .2 in
+    fault (arrows-fault (a .args .s .now) (gridWith (a .args .height) (a .args .width)) (a .args .at) (a .args .arrows) (c .before .before .before .before .before .before .before .loop .i) (c .before .before .before .before .before .before .before .loop .count) (c .before .before .before .before .before .before .before .loop .inv .2) (c .before .before .before .before .before .before .loop-test .taken) (read-fault (c .before .before .before .read-arrow .ensures (arrowCells (w .read)) (w .cells) (w .kept)) (c .before .f2 .given .1)))
+
+add-i : tie.Need-add-i Inv-loop μ-loop
+add-i c = search needs
+
+loop-less : tie.Need-loop-less Inv-loop μ-loop
+loop-less c = search needs
+
+loop-again : tie.Need-loop-again Inv-loop μ-loop
+loop-again c =
+    let a = c .before .before .before .before .before .before .before .before .before in
+    let r = next c in
+    (omega arith, room c .1, arrows-more (a .args .s .now) (gridWith (a .args .height) (a .args .width)) (a .args .at) (a .args .arrows) (c .before .before .before .before .before .before .before .loop .i) (c .before .before .before .before .before .before .before .loop .count) (c .before .before .before .before .before .before .before .loop .inv .2) (c .before .before .before .before .before .before .loop-test .taken) (r .1) (r .2) (r .3))
+
+mul-is-filler : tie.Need-mul-is-filler Inv-loop μ-loop
+mul-is-filler c = search needs
+
+add-is-filler : tie.Need-add-is-filler Inv-loop μ-loop
+add-is-filler c = search needs
+
+mul-is-filler-2 : tie.Need-mul-is-filler-2 Inv-loop μ-loop
+mul-is-filler-2 c = search needs
+
+add-is-filler-2 : tie.Need-add-is-filler-2 Inv-loop μ-loop
+add-is-filler-2 c = search needs
+
+is-filler-requires : tie.Need-is-filler-requires Inv-loop μ-loop
+is-filler-requires c κs = search needs
+
+returns-2 : tie.Need-returns-2 Inv-loop μ-loop
+returns-2 c =
+    let a = c .before .before .before .before .before in
+    arrows-filled (a .args .s .now) (gridWith (a .args .height) (a .args .width)) (a .args .at) (a .args .arrows) (c .before .before .before .loop .i) (c .before .before .before .loop .count) (c .before .before .before .loop .inv .2) (c .before .before .before .loop .inv .0) (c .before .before .loop-test .left) (sym (c .before .is-filler .ensures) ∙ c .if1 .taken)
+
+returns-3 : tie.Need-returns-3 Inv-loop μ-loop
+returns-3 c =
+    let a = c .before .before .before .before .before in
+    arrows-unfilled (a .args .s .now) (gridWith (a .args .height) (a .args .width)) (a .args .at) (a .args .arrows) (c .before .before .before .loop .i) (c .before .before .before .loop .count) (c .before .before .before .loop .inv .2) (c .before .before .before .loop .inv .0) (c .before .before .loop-test .left) (sym (c .before .is-filler .ensures) ∙ c .if1 .left)
+
+pub read-arrows-spec : {M : Type 1} → statement M
+read-arrows-spec =
+    tie.close
+    (tie.spec
+    Inv-loop
+    μ-loop
+    loop-holds
+    mul-read-arrow
+    add-read-arrow
+    mul-read-arrow-2
+    add-read-arrow-2
+    read-arrow-requires
+    enum-known-f
+    cast-ends
+    mul-ends
+    element-write-ends
+    enum-known-f-2
+    returns
+    add-i
+    loop-less
+    loop-again
+    mul-is-filler
+    add-is-filler
+    mul-is-filler-2
+    add-is-filler-2
+    is-filler-requires
+    returns-2
+    returns-3)

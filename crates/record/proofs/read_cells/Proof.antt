@@ -1,0 +1,89 @@
+-- `record::read_cells` meets its contract: the first i codes are in the array, and what is left makes of them what the whole makes.
+-- Assumes nothing.
+use Prim.Native.Nat.{_+_, _-_, _*_, _≤_}
+use native.Mathlib.Omega.{arith}
+use mathlib.Core.Path.{_≡_}
+use borrow.Author.Needs.{needs}
+use Rattle.record.specs.Record.{ok}
+use Rattle.record.specs.Inside.{fault, codeAt}
+use Rattle.record.proofs.ReadLaws.{value-ok, fault-refused, code-small, CellsSoFar, cells-start, cells-fault, cells-more, cells-end}
+use Rattle.record.proofs.read_cells.Statement.{statement}
+use Rattle.record.proofs.read_cells.Tie as tie
+
+abbrev Inv-loop : tie.InvT-loop
+Inv-loop s n cells₀ i₀ cells i = (i ≤ n) × CellsSoFar s n i cells
+
+abbrev μ-loop : tie.MeasureT-loop
+μ-loop s n cells₀ i₀ cells i = n - i
+
+loop-holds : tie.Need-loop-holds Inv-loop μ-loop
+loop-holds c = (omega arith, cells-start (c .before .args .s .now) (c .before .args .n) (c .before .args .cells .now) (c .before .pre .1))
+
+mul-read-code : tie.Need-mul-read-code Inv-loop μ-loop
+mul-read-code c = search needs
+
+add-read-code : tie.Need-add-read-code Inv-loop μ-loop
+add-read-code c = search needs
+
+read-code-requires : tie.Need-read-code-requires Inv-loop μ-loop
+read-code-requires c κs = search needs
+
+enum-known-f : tie.Need-enum-known-f Inv-loop μ-loop
+enum-known-f c = search needs
+
+-- the code that was read
+value : (c : tie.After-known-told Inv-loop μ-loop) → codeAt (c .before .before .before .before .before .before .before .args .s .now) (21 + 2 * c .before .before .before .before .before .loop .i) ≡ ok (c .before .f .given .0 .0)
+value c = value-ok (codeAt (c .before .before .before .before .before .before .before .args .s .now) (21 + 2 * c .before .before .before .before .before .loop .i)) (c .before .before .before .read-code .ensures) (c .before .f .given .1)
+
+cast-cells : tie.Need-cast-cells Inv-loop μ-loop
+cast-cells c =
+    let e = value c in
+    omega (arith, code-small (c .before .before .before .before .before .before .before .args .s .now) (21 + 2 * c .before .before .before .before .before .loop .i) e)
+
+element-write-cells : tie.Need-element-write-cells Inv-loop μ-loop
+element-write-cells c = search needs
+
+enum-known-f-2 : tie.Need-enum-known-f-2 Inv-loop μ-loop
+enum-known-f-2 c = search needs
+
+returns : tie.Need-returns Inv-loop μ-loop
+returns c =
+    let a = c .before .before .before .before .before .before .before in
+    let e = fault-refused (codeAt (a .args .s .now) (21 + 2 * c .before .before .before .before .before .loop .i)) (c .before .before .before .read-code .ensures) (c .before .f2 .given .1) in
+    fault (cells-fault (a .args .s .now) (a .args .n) (c .before .before .before .before .before .loop .i) (c .before .before .before .before .loop-test .taken) (c .before .before .before .before .before .loop .inv .1) e)
+
+add-i : tie.Need-add-i Inv-loop μ-loop
+add-i c = search needs
+
+loop-less : tie.Need-loop-less Inv-loop μ-loop
+loop-less c = search needs
+
+loop-again : tie.Need-loop-again Inv-loop μ-loop
+loop-again c =
+    let a = c .before .before .before .before .before .before .before in (
+      omega arith,
+      cells-more (a .args .s .now) (a .args .n) (c .before .before .before .before .before .loop .i) (c .before .f .given .0 .0) (c .before .before .before .before .loop-test .taken) (a .pre .0) (c .before .before .before .before .before .loop .inv .1) (value c),
+    )
+
+returns-2 : tie.Need-returns-2 Inv-loop μ-loop
+returns-2 c = cells-end (c .before .before .before .args .s .now) (c .before .before .before .args .n) (c .before .loop .i) (c .before .loop .inv .0) (c .loop-test .left) (c .before .loop .inv .1)
+
+pub read-cells-spec : {M : Type 1} → statement M
+read-cells-spec =
+    tie.close
+    (tie.spec
+    Inv-loop
+    μ-loop
+    loop-holds
+    mul-read-code
+    add-read-code
+    read-code-requires
+    enum-known-f
+    cast-cells
+    element-write-cells
+    enum-known-f-2
+    returns
+    add-i
+    loop-less
+    loop-again
+    returns-2)

@@ -1,0 +1,5 @@
+pub mod Record
+pub mod Write
+pub mod Valid
+pub mod Problem
+pub mod Inside
