@@ -1,0 +1,97 @@
+-- A list of decisions on a board that is tested once: each step is the single decide, which keeps a board well formed.
+-- Assumes nothing.
+use Prim.Native.Nat.{ℕ, suc, _+_, _*_, _/_, _%_, _≤_, _<_}
+use native.Mathlib.Numerals.{add-one}
+use native.Mathlib.Omega.{arith}
+use mathlib.Core.Path.{_≡_, refl, sym, subst}
+use mathlib.Core.Bool.{true, false}
+use mathlib.Core.List.{List, [], _∷_}
+use lib.ListN.{length, getD, drop, drop-of-length-le}
+use lib.Seq.{drop-cons}
+use borrow.Author.Tests.{eq-eqb, ne-eqb}
+use Rattle.grid.specs.Grid.{size}
+use Rattle.record.specs.Record.{Puzzle}
+use Rattle.record.specs.Valid.{Valid}
+use Rattle.record.specs.Problem.{puzzleOf, gridOf}
+use Rattle.record.specs.declared.Problem.{Problem}
+use Rattle.record.specs.declared.Answer.{Answer}
+use Rattle.record.specs.declared.Answer.the-variants.{Done, Refused}
+use Rattle.board.specs.declared.Board.{Board}
+use Rattle.board.specs.declared.Decided.{Decided}
+use Rattle.board.specs.Board.{decide}
+use Rattle.board.specs.Form.{wellFormed}
+use Rattle.board.specs.Decide.{area, placed, decideOf, refusedWith, onward, decideFrom, decideAllOf}
+use Rattle.board.specs.Inside.{Placing, bits, off, twice, put, held, allPlaced}
+use Rattle.board.proofs.Standing.{Standing, after-standing}
+use Rattle.board.proofs.ProblemForm.{formed-valid}
+use Rattle.board.proofs.BoardForm.{whole-is, decisionsOf, whole-standing, whole-again}
+use Rattle.board.proofs.CallLaws.{standing-well, decide-left}
+use Rattle.board.proofs.Answers.{decide-7, decide-9, decide-done}
+
+-- decide keeps a board well formed
+pub decide-well : (b : Board) → wellFormed b ≡ true → (i v : ℕ) → wellFormed (decideOf b i v .board) ≡ true
+decide-well b h i v =
+    let w = whole-is b h in
+    let p : Puzzle = puzzleOf (b .problem) in
+    let ok : Valid p = formed-valid (b .problem) (w .problem) in
+    let s : Standing (p .grid) (decisionsOf b) = unfold puzzleOf in whole-standing b w in
+    subst (λ (z : Board). wellFormed (decideOf z i v .board) ≡ true) (whole-again b w)
+    (rw (decide-left p ok s i v) (standing-well p ok (after-standing (p .grid) (decide i v) s)))
+
+module _ (b₀ : Board) (q : Problem) (cells order : List ℕ) (n count x y : ℕ) (rest : List ℕ)
+    (e : size (gridOf q) ≡ n) (w : wellFormed (held q cells order count) ≡ true) (low : x * 256 + y < 65536) where
+  value : (x * 256 + y) / 32768 ≤ 1
+  value = omega arith
+
+  -- a decision that is refused
+  pub place-refused : {k : ℕ} {cells′ order′ : List ℕ} → Placing n count (x * 256 + y) cells order (Refused k) cells′ order′ → decideFrom b₀ (held q cells order count) (x ∷ y ∷ rest) ≡ refusedWith k b₀
+  unfolding decideFrom onward area
+  place-refused (bits h) = rw (ne-eqb ((x * 256 + y) % 32768 / 1024) 0 h) refl
+  place-refused (off h l) =
+      rw (eq-eqb ((x * 256 + y) % 32768 / 1024) 0 h, ← decide-7 (held q cells order count) ((x * 256 + y) % 1024) ((x * 256 + y) / 32768) w (rw e l)) refl
+  place-refused (twice h l d) =
+      rw (eq-eqb ((x * 256 + y) % 32768 / 1024) 0 h, ← decide-9 (held q cells order count) ((x * 256 + y) % 1024) ((x * 256 + y) / 32768) w (rw e l) value d) refl
+
+  -- a decision that is put
+  pub place-put : {cells′ order′ : List ℕ} → Placing n count (x * 256 + y) cells order Done cells′ order′
+      → (decideFrom b₀ (held q cells order count) (x ∷ y ∷ rest) ≡ decideFrom b₀ (held q cells′ order′ (count + 1)) rest) × (wellFormed (held q cells′ order′ (count + 1)) ≡ true)
+  unfolding decideFrom onward area placed
+  place-put (put h l d) =
+      let i : ℕ = (x * 256 + y) % 1024 in
+      let v : ℕ = (x * 256 + y) / 32768 in
+      let b : Board = held q cells order count in
+      let r = decide-done b i v w (rw e l) value d in
+      (rw (eq-eqb ((x * 256 + y) % 32768 / 1024) 0 h, ← r) refl, subst (λ z. wellFormed (z .board) ≡ true) (sym r) (decide-well b w i v))
+
+-- the next two bytes, the last one, none
+pub two-left : (l : List ℕ) (at x y : ℕ) → at + 1 < length l → x ≡ getD l at 0 → y ≡ getD l (at + 1) 0 → drop at l ≡ x ∷ y ∷ drop (at + 2) l
+two-left l at x y h ex ey =
+    let a : at + 1 ≡ suc at = add-one at in
+    let b : at + 2 ≡ suc (suc at) = omega arith in
+    rw (ex, ey, a, b, drop-cons l at 0 (omega arith), drop-cons l (suc at) 0 (omega arith)) refl
+
+pub one-left : (l : List ℕ) (at : ℕ) → at < length l → length l ≤ at + 1 → drop at l ≡ getD l at 0 ∷ []
+one-left l at h k = rw (drop-cons l at 0 h, drop-of-length-le l {i = suc at} (omega arith)) refl
+
+pub none-left : (l : List ℕ) (at : ℕ) → length l ≤ at → drop at l ≡ []
+none-left l at h = drop-of-length-le l {i = at} h
+
+-- ---- the whole list
+
+-- a board that fails the test, and one that passes it
+pub all-6 : (b : Board) (bytes : List ℕ) → wellFormed b ≡ false → refusedWith 6 b ≡ decideAllOf b bytes
+unfolding decideAllOf
+all-6 b bytes w = rw w refl
+
+pub all-tested : (b : Board) (bytes : List ℕ) → wellFormed b ≡ true → decideFrom b b bytes ≡ decideAllOf b bytes
+unfolding decideAllOf
+all-tested b bytes w = rw w refl
+
+-- the answer beside the last board, or beside the first
+pub all-done : (b₀ b : Board) {a : Answer} → a ≡ Done → _≡_ {A = Decided} (record { answer = a; board = b }) (allPlaced b₀ a b)
+unfolding allPlaced
+all-done b₀ b e = rw e refl
+
+pub all-refused : (b₀ b : Board) {a : Answer} {k : ℕ} → a ≡ Refused k → _≡_ {A = Decided} (record { answer = a; board = b₀ }) (allPlaced b₀ a b)
+unfolding allPlaced refusedWith
+all-refused b₀ b e = rw e refl

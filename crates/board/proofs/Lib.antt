@@ -1,0 +1,13 @@
+pub mod BoardLaws
+pub mod Standing
+pub mod ArrayTests
+pub mod ProblemForm
+pub mod BoardForm
+pub mod CallLaws
+pub mod Passes
+pub mod Marking
+pub mod Steps
+pub mod Verdicts
+pub mod Answers
+pub mod Fold
+pub mod OpenLaws

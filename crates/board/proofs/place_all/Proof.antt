@@ -1,0 +1,188 @@
+-- `board::place_all` meets its contract: what is left of the bytes makes of the board what the whole makes of the first.
+-- Assumes nothing.
+use Prim.Native.Nat.{ℕ, _+_, _*_, _≤_, _<_, _-_}
+use native.Mathlib.Omega.{arith}
+use mathlib.Core.Path.{_≡_, refl, sym, ap, _∙_}
+use mathlib.Core.Bool.{true}
+use mathlib.Core.List.{List, _∷_}
+use lib.ListN.{length, drop}
+use borrow.Author.Needs.{needs}
+use Rattle.grid.specs.Grid.{size}
+use Rattle.record.specs.Problem.{gridOf}
+use Rattle.record.specs.declared.Problem.{Problem}
+use Rattle.board.specs.Form.{wellFormed}
+use Rattle.board.specs.Decide.{decideFrom}
+use Rattle.board.specs.Inside.{held, allPlaced}
+use Rattle.board.proofs.BoardForm.{whole-is, whole-room, whole-most}
+use Rattle.board.proofs.Fold.{place-refused, place-put, two-left, one-left, none-left}
+use Rattle.board.proofs.place_all.Statement.{statement}
+use Rattle.board.proofs.place_all.Tie as tie
+
+-- amid the bytes, on the board of any problem of n cells that is well formed with the first arrays
+record Amid (n decided : ℕ) (cells₀ order₀ bytes : List ℕ) (count at : ℕ) (cells order : List ℕ) : Type 0 where
+  within : at ≤ length bytes
+  same : (q : Problem) → size (gridOf q) ≡ n → wellFormed (held q cells₀ order₀ decided) ≡ true
+      → (wellFormed (held q cells order count) ≡ true)
+      × (decideFrom (held q cells₀ order₀ decided) (held q cells₀ order₀ decided) bytes ≡ decideFrom (held q cells₀ order₀ decided) (held q cells order count) (drop at bytes))
+
+abbrev Inv-loop : tie.InvT-loop
+Inv-loop cells₀ order₀ n decided bytes count₀ at₀ cells order count at = Amid n decided cells₀ order₀ bytes count at cells order
+
+abbrev μ-loop : tie.MeasureT-loop
+μ-loop cells₀ order₀ n decided bytes count₀ at₀ cells order count at = length bytes - at
+
+-- the bytes read
+abbrev first : tie.After-place Inv-loop μ-loop → ℕ
+first c = c .before .before .before .before .before .number .result
+
+abbrev second : tie.After-place Inv-loop μ-loop → ℕ
+second c = c .before .before .before .number2 .result
+
+-- two bytes make a word of 16 bits
+low-word : (c : tie.After-number2 Inv-loop μ-loop) → c .before .before .number .result * 256 + c .number2 .result < 65536
+low-word c =
+    let t = c .before .before .before .before .before .loop in
+    omega (arith, c .before .before .number .ensures, c .number2 .ensures, c .before .before .before .shared-slice-known2 .given (t .at), c .before .shared-slice-known3 .given (t .at + 1))
+
+-- what is left begins with them
+next-two : (c : tie.After-place Inv-loop μ-loop) →
+    let a = c .before .before .before .before .before .before .before .before in
+    drop (a .loop .at) (a .before .before .args .bytes .now) ≡ first c ∷ second c ∷ drop (a .loop .at + 2) (a .before .before .args .bytes .now)
+next-two c =
+    let a = c .before .before .before .before .before .before .before .before in
+    two-left (a .before .before .args .bytes .now) (a .loop .at) (first c) (second c) (c .before .before .before .before .before .before .before .loop-test .taken)
+    (c .before .before .before .before .before .number .ensures) (c .before .before .before .number2 .ensures)
+
+-- the board after a decision that is put
+after-put : (c : tie.After-enum-told Inv-loop μ-loop) (q : Problem) →
+    let a = c .before .before .before .before .before .before .before .before .before .before in
+    let s = a .before .before .args in
+    let p = c .before .before .place in
+    let b₀ = held q (s .cells .now) (s .order .now) (s .decided) in
+    size (gridOf q) ≡ s .n → wellFormed b₀ ≡ true
+    → (decideFrom b₀ b₀ (s .bytes .now) ≡ decideFrom b₀ (held q (p .last .0) (p .last .1 .0) (a .loop .count + 1)) (drop (a .loop .at + 2) (s .bytes .now)))
+    × (wellFormed (held q (p .last .0) (p .last .1 .0) (a .loop .count + 1)) ≡ true)
+after-put c q e w =
+    let p = c .before .before in
+    let a = p .before .before .before .before .before .before .before .before in
+    let s = a .before .before in
+    let t = a .loop in
+    let b₀ = held q (s .args .cells .now) (s .args .order .now) (s .args .decided) in
+    let r = place-put b₀ q (t .cells) (t .order) (s .args .n) (t .count) (first p) (second p) (drop (t .at + 2) (s .args .bytes .now)) e (t .inv .same q e w .0) (low-word (p .before .before .before))
+    (rw (c .enum-told .given .1) at (p .place .ensures)) in
+    (t .inv .same q e w .1 ∙ ap (decideFrom b₀ (held q (t .cells) (t .order) (t .count))) (next-two p) ∙ r .0, r .1)
+
+loop-holds : tie.Need-loop-holds Inv-loop μ-loop
+loop-holds c = record { within = omega arith; same = λ q e w. (w, refl) }
+
+add-loop : tie.Need-add-loop Inv-loop μ-loop
+add-loop c = search needs
+
+shared-slice-read-number : tie.Need-shared-slice-read-number Inv-loop μ-loop
+shared-slice-read-number c = search needs
+
+number-requires : tie.Need-number-requires Inv-loop μ-loop
+number-requires c κs = search needs
+
+mul-word : tie.Need-mul-word Inv-loop μ-loop
+mul-word c = omega (arith, c .number .ensures, c .before .shared-slice-known2 .given (c .before .before .before .loop .at))
+
+add-number : tie.Need-add-number Inv-loop μ-loop
+add-number c = search needs
+
+shared-slice-read-number-2 : tie.Need-shared-slice-read-number-2 Inv-loop μ-loop
+shared-slice-read-number-2 c = search needs
+
+number-requires-2 : tie.Need-number-requires-2 Inv-loop μ-loop
+number-requires-2 c κs = search needs
+
+add-word : tie.Need-add-word Inv-loop μ-loop
+add-word c = omega (arith, low-word c)
+
+place-requires : tie.Need-place-requires Inv-loop μ-loop
+place-requires c κs =
+    let a = c .before .before .before .before .before .before .before in
+    let t = a .loop in
+    let h = a .before .before .pre in
+    let b = held (h .problem) (t .cells) (t .order) (t .count) in
+    let w = whole-is b (t .inv .same (h .problem) (h .area) (h .well) .0) in
+    (omega (arith, h .area, whole-most b w), low-word (c .before .before), λ i l e. whole-room b w i (rw (h .area) l) e)
+
+enum-told : tie.Need-enum-told Inv-loop μ-loop
+enum-told c = search needs
+
+enum-told-2 : tie.Need-enum-told-2 Inv-loop μ-loop
+enum-told-2 c = search needs
+
+returns : tie.Need-returns Inv-loop μ-loop
+unfolding allPlaced
+returns c =
+    let p = c .before .before in
+    let a = p .before .before .before .before .before .before .before .before in
+    let s = a .before .before in
+    let t = a .loop in
+    λ q e w.
+    let b₀ = held q (s .args .cells .now) (s .args .order .now) (s .args .decided) in
+    let r = place-refused b₀ q (t .cells) (t .order) (s .args .n) (t .count) (first p) (second p) (drop (t .at + 2) (s .args .bytes .now)) e (t .inv .same q e w .0) (low-word (p .before .before .before))
+    (rw (c .enum-told2 .given .1) at (p .place .ensures)) in
+    rw (c .enum-told2 .given .1) (sym (t .inv .same q e w .1 ∙ ap (decideFrom b₀ (held q (t .cells) (t .order) (t .count))) (next-two p) ∙ r))
+
+add-count : tie.Need-add-count Inv-loop μ-loop
+add-count c =
+    let a = c .before .before .before .before .before .before .before .before .before .before in
+    let h = a .before .before .pre in
+    let p = c .before .before .place in
+    omega (arith, whole-is (held (h .problem) (p .last .0) (p .last .1 .0) (a .loop .count + 1)) (after-put c (h .problem) (h .area) (h .well) .1) .few)
+
+add-at : tie.Need-add-at Inv-loop μ-loop
+add-at c = search needs
+
+loop-less : tie.Need-loop-less Inv-loop μ-loop
+loop-less c = search needs
+
+loop-again : tie.Need-loop-again Inv-loop μ-loop
+loop-again c = record { within = omega arith; same = λ q e w. let r = after-put c q e w in (r .1, r .0) }
+
+returns-2 : tie.Need-returns-2 Inv-loop μ-loop
+unfolding allPlaced decideFrom
+returns-2 c =
+    let s = c .before .before .before .before in
+    let t = c .before .before .loop in
+    λ q e w.
+    let b₀ = held q (s .args .cells .now) (s .args .order .now) (s .args .decided) in
+    sym (t .inv .same q e w .1 ∙ ap (decideFrom b₀ (held q (t .cells) (t .order) (t .count))) (one-left (s .args .bytes .now) (t .at) (c .if1 .taken) (c .before .loop-test .left)))
+
+returns-3 : tie.Need-returns-3 Inv-loop μ-loop
+unfolding allPlaced decideFrom
+returns-3 c =
+    let s = c .before .before .before .before in
+    let t = c .before .before .loop in
+    λ q e w.
+    let b₀ = held q (s .args .cells .now) (s .args .order .now) (s .args .decided) in
+    sym (t .inv .same q e w .1 ∙ ap (decideFrom b₀ (held q (t .cells) (t .order) (t .count))) (none-left (s .args .bytes .now) (t .at) (c .if1 .left)))
+
+pub place-all-spec : {M : Type 1} → statement M
+place-all-spec =
+    tie.close
+    (tie.spec
+    Inv-loop
+    μ-loop
+    loop-holds
+    add-loop
+    shared-slice-read-number
+    number-requires
+    mul-word
+    add-number
+    shared-slice-read-number-2
+    number-requires-2
+    add-word
+    place-requires
+    enum-told
+    enum-told-2
+    returns
+    add-count
+    add-at
+    loop-less
+    loop-again
+    returns-2
+    returns-3)

@@ -1,0 +1,46 @@
+-- Lists of calls on a board, as the contracts have them, and what is proved of them (the board's part of demand 3; refusal 6).
+-- Assumes nothing.
+use Prim.Native.Nat.{ℕ, _<_}
+use mathlib.Core.Logic.{_↔_}
+use mathlib.Core.Path.{_≡_}
+use mathlib.Core.List.{List, [], _∷_, List·Memᴰ}
+use Rattle.record.specs.Record.{Puzzle}
+use Rattle.record.specs.Problem.{numberOf}
+use Rattle.record.specs.declared.Answer.the-variants.{Done}
+use Rattle.board.specs.declared.Board.{Board}
+use Rattle.board.specs.Board.{Literal, Call, decide, undo, find, SameCells, SameDecisions, afterAll, refusal}
+use Rattle.board.specs.Kept.{boardOf, openOf}
+use Rattle.board.specs.Decide.{decideOf, undoOf}
+
+-- the board that a call leaves, refused or not; find changes nothing on it
+unfoldable pub left : Board → Call → Board
+left b (decide i v) = decideOf b i v .board
+left b undo = undoOf b .board
+left b (find k) = b
+
+-- the board that a list of calls leaves, each on the board that the call before left
+unfoldable pub leftAll : Board → List Call → Board
+leftAll b [] = b
+leftAll b (c ∷ cs) = leftAll (left b c) cs
+
+-- some accepted record, a list of bytes, and some list of calls leave this board
+pub record Leaves (b : Board) : Type 0 where
+  pub bytes : List ℕ
+  pub low : (x : ℕ) → List·Memᴰ x bytes → x < 256
+  pub calls : List Call
+  pub accepted : openOf bytes .answer ≡ Done
+  pub leaves : leftAll (openOf bytes .board) calls ≡ b
+
+-- the decisions that the plain machine keeps after the calls cs
+abbrev pub standing : Puzzle → List Call → List Literal
+standing p cs = afterAll (p .grid) cs []
+
+-- what holds after the lists of calls cs and ds on boards opened from one accepted record s with puzzle p
+pub record AfterCalls (s : List ℕ) (p : Puzzle) (cs ds : List Call) : Type 0 where
+  -- the board is that of the decisions that stand
+  pub board : leftAll (openOf s .board) cs ≡ boardOf p (standing p cs)
+  -- the next call's refusal is the machine's
+  pub decides : (i v : ℕ) → numberOf (decideOf (leftAll (openOf s .board) cs) i v .answer) ≡ refusal (p .grid) (decide i v) (standing p cs)
+  pub undoes : numberOf (undoOf (leftAll (openOf s .board) cs) .answer) ≡ refusal (p .grid) undo (standing p cs)
+  -- the boards have equal cells exactly when the same decisions stand
+  pub cells : SameCells (p .grid) (leftAll (openOf s .board) cs .cells) (leftAll (openOf s .board) ds .cells) ↔ SameDecisions (standing p cs) (standing p ds)

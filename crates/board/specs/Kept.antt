@@ -1,0 +1,34 @@
+-- A board as the code keeps it, and what `open` answers.
+-- Assumes nothing.
+use Prim.Native.Nat.{ℕ}
+use mathlib.Core.List.{List, [], map}
+use lib.ListN.{length}
+use Rattle.grid.specs.Lists.{arrayOf}
+use Rattle.record.specs.Record.{Outcome, ok, refused, Puzzle, readRecord}
+use Rattle.record.specs.Problem.{problemOf, blank}
+use Rattle.record.specs.declared.Answer.the-variants.{Done, Refused}
+use Rattle.board.specs.declared.Board.{Board}
+use Rattle.board.specs.declared.Opened.{Opened}
+use Rattle.board.specs.Board.{Literal, cellsAfter}
+
+-- the board of a puzzle with the standing decisions ds, in arrays
+unfoldable pub boardOf : Puzzle → List Literal → Board
+boardOf p ds = record {
+  problem = problemOf p;
+  cells = arrayOf 2 (cellsAfter (p .grid) ds);
+  order = arrayOf 0 (map (λ (d : Literal). d .0) ds);
+  decided = length ds;
+}
+
+-- the board of no cells that stands beside a refused record
+unfoldable pub blankBoard : Board
+blankBoard = record { problem = blank; cells = arrayOf 2 []; order = arrayOf 0 []; decided = 0 }
+
+-- the answer to what was read, with the fresh board: all undecided
+unfoldable pub opening : Outcome Puzzle → Opened
+opening (refused k) = record { answer = Refused k; board = blankBoard }
+opening (ok p) = record { answer = Done; board = boardOf p [] }
+
+-- what `open` answers of the bytes s
+unfoldable pub openOf : List ℕ → Opened
+openOf s = opening (readRecord s)

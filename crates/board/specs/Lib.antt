@@ -1,0 +1,6 @@
+pub mod Board
+pub mod Kept
+pub mod Form
+pub mod Decide
+pub mod Calls
+pub mod Inside

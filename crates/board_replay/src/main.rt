@@ -1,0 +1,497 @@
+// Replays a list of calls from standard input: each is made, and what it answers and leaves is compared with what the list says.
+// Then boards that no list of calls could leave, damaged one field at a time: each must be refused with 6 and come back unchanged.
+//
+// A head of lines ends with an empty line. Then come entries to the end: u16 length, that many bytes of record, u16 number of calls,
+// and the calls: u8 kind, and for 0 (decide) u16 index, u8 value, u8 refusal; for 1 (undo) u8 refusal; for 3 (cells) a state for
+// each cell. A u16 has its high byte first; a refusal is 0 for none.
+use board::Board;
+use board::Decided;
+use libc::STDOUT_FILENO;
+use record::Answer;
+use record::Problem;
+ghost use Prim.Native.Nat.{_+_, _≤_, _<_};
+ghost use mathlib.Core.Path.{_≡_};
+ghost use lib.ListN.{length};
+
+// What was counted, and whether the list ended with an entry.
+struct Tally {
+    boards: usize,
+    differ: usize,
+    whole: bool,
+}
+
+// What a call left: the board, whether something differed, and where the call ends in the list, 0 where the list ends inside it.
+struct Step {
+    board: Board,
+    differs: bool,
+    end: usize,
+}
+
+fn room() -> [u8; 131072]
+    ensures { λ r. ⌜ 131072 ≡ length r ⌝ }
+{
+    [0; 131072]
+}
+
+fn wide(x: u8) -> usize
+    ensures { λ r. ⌜ r < 256 ⌝ }
+{
+    x as usize
+}
+
+// The byte at at, 0 behind the end.
+fn byte_at(list: &[u8], at: usize) -> usize
+    ensures { λ r. ⌜ r < 256 ⌝ }
+{
+    if at < list.len() {
+        return wide(list[at]);
+    }
+    0
+}
+
+// The u16 at at, with 0 for each byte behind the end.
+fn number_at(list: &[u8], at: usize) -> usize
+    requires { ⌜ at ≤ length (now list) ⌝ }
+    ensures { λ r. ⌜ r < 65536 ⌝ }
+{
+    byte_at(list, at) * 256 + byte_at(list, at + 1)
+}
+
+// Where the data begins: behind the first empty line, or behind the end where there is none.
+fn data_start(list: &[u8]) -> usize {
+    let mut i = 1;
+    while i < list.len() {
+        if list[i - 1] == 10 {
+            if list[i] == 10 {
+                return i + 1;
+            }
+        }
+        i += 1;
+    }
+    i
+}
+
+// The number of an answer: 0 where the call is done.
+fn number(answer: Answer) -> usize {
+    match answer {
+        Answer::Done => 0,
+        Answer::Refused(k) => wide(k),
+    }
+}
+
+// Whether the states in the array differ from the n states of the list from at on, with 2 behind them.
+fn states_differ(list: &[u8], at: usize, n: usize, cells: &[u8; 1024]) -> bool
+    requires { ⌜ at ≤ length (now list) ⌝ }
+{
+    let mut i = 0;
+    while i < 1024 {
+        let mut state = 2;
+        if i < n {
+            state = byte_at(list, at + i);
+        }
+        if wide(cells[i]) != state {
+            return true;
+        }
+        i += 1;
+    }
+    false
+}
+
+// The step that a call with this answer makes.
+fn answered(d: Decided, expected: usize, end: usize) -> Step {
+    let answer = d.answer;
+    let board = d.board;
+    Step {
+        board,
+        differs: number(answer) != expected,
+        end,
+    }
+}
+
+// H × W, and 0 where a size is above 32.
+fn area(height: usize, width: usize) -> usize
+    ensures { λ r. ⌜ r ≤ 1024 ⌝ }
+{
+    if 32 < height {
+        return 0;
+    }
+    if 32 < width {
+        return 0;
+    }
+    height * width
+}
+
+// Makes the call at at.
+fn make_call(list: &[u8], at: usize, b: Board) -> Step
+    requires { ⌜ at < length (now list) ⌝ }
+{
+    let kind = list[at];
+    if kind == 0 {
+        if list.len() < at + 5 {
+            return Step {
+                board: b,
+                differs: true,
+                end: 0,
+            };
+        }
+        return answered(
+            b.decide(number_at(list, at + 1), list[at + 3]),
+            wide(list[at + 4]),
+            at + 5,
+        );
+    }
+    if kind == 1 {
+        if list.len() < at + 2 {
+            return Step {
+                board: b,
+                differs: true,
+                end: 0,
+            };
+        }
+        return answered(b.undo(), wide(list[at + 1]), at + 2);
+    }
+    let n = area(b.problem.height, b.problem.width);
+    if kind != 3 {
+        return Step {
+            board: b,
+            differs: true,
+            end: 0,
+        };
+    }
+    if list.len() < at + 1 + n {
+        return Step {
+            board: b,
+            differs: true,
+            end: 0,
+        };
+    }
+    let cells = b.cells;
+    Step {
+        board: b,
+        differs: states_differ(list, at + 1, n, &cells),
+        end: at + 1 + n,
+    }
+}
+
+// What the calls of an entry counted, and where the entry ends, 0 where the list ends inside it.
+struct Run {
+    differ: usize,
+    end: usize,
+}
+
+// Makes the calls of an entry, which begin at start, on a fresh board of its record.
+fn run_calls(list: &[u8], start: usize, calls: usize, fresh: Board) -> Run
+    requires { ⌜ calls < 65536 ⌝ }
+{
+    let mut b = fresh;
+    let mut differ = 0;
+    let mut at = start;
+    let mut i = 0;
+    while i < calls {
+        if list.len() <= at {
+            return Run { differ, end: 0 };
+        }
+        let s = make_call(list, at, b);
+        b = s.board;
+        if s.differs {
+            differ += 1;
+        }
+        at = s.end;
+        if at == 0 {
+            return Run { differ, end: 0 };
+        }
+        i += 1;
+    }
+    Run { differ, end: at }
+}
+
+// Opens the record of the entry at at, and makes its calls.
+fn run_entry(list: &[u8], at: usize) -> Run
+    requires { ⌜ at < length (now list) ⌝ }
+{
+    let calls = at + 2 + number_at(list, at);
+    if list.len() < calls + 2 {
+        return Run { differ: 0, end: 0 };
+    }
+    let o = Board::open(&list[at + 2..calls]);
+    let answer = o.answer;
+    let board = o.board;
+    if number(answer) != 0 {
+        return Run { differ: 1, end: 0 };
+    }
+    run_calls(list, calls + 2, number_at(list, calls), board)
+}
+
+// Goes through the entries.
+fn replay(list: &[u8]) -> Tally {
+    let mut boards = 0;
+    let mut differ = 0;
+    let mut at = data_start(list);
+    if list.len() < at {
+        return Tally {
+            boards,
+            differ,
+            whole: false,
+        };
+    }
+    while at < list.len() {
+        let r = run_entry(list, at);
+        boards += 1;
+        if r.differ != 0 {
+            differ += 1;
+        }
+        if r.end <= at {
+            return Tally {
+                boards,
+                differ,
+                whole: false,
+            };
+        }
+        at = r.end;
+    }
+    Tally {
+        boards,
+        differ,
+        whole: true,
+    }
+}
+
+// ---- damaged boards
+
+// Whether two arrays differ.
+fn bytes_differ(a: &[u8; 1024], b: &[u8; 1024]) -> bool {
+    let mut i = 0;
+    while i < 1024 {
+        if a[i] != b[i] {
+            return true;
+        }
+        i += 1;
+    }
+    false
+}
+
+fn words_differ(a: &[u16; 1024], b: &[u16; 1024]) -> bool {
+    let mut i = 0;
+    while i < 1024 {
+        if a[i] != b[i] {
+            return true;
+        }
+        i += 1;
+    }
+    false
+}
+
+fn problems_differ(p: Problem, q: Problem) -> bool {
+    if p.height != q.height || p.width != q.width || p.count != q.count {
+        return true;
+    }
+    let a = p.cells;
+    let b = q.cells;
+    if bytes_differ(&a, &b) {
+        return true;
+    }
+    let a = p.arrows;
+    let b = q.arrows;
+    if words_differ(&a, &b) {
+        return true;
+    }
+    let a = p.ends;
+    let b = q.ends;
+    words_differ(&a, &b)
+}
+
+fn boards_differ(x: Board, y: Board) -> bool {
+    let p = x.problem;
+    let q = y.problem;
+    if problems_differ(p, q) || x.decided != y.decided {
+        return true;
+    }
+    let a = x.cells;
+    let b = y.cells;
+    if bytes_differ(&a, &b) {
+        return true;
+    }
+    let a = x.order;
+    let b = y.order;
+    words_differ(&a, &b)
+}
+
+// Whether an answer is not refusal 6 with the board b unchanged.
+fn taken(d: Decided, b: Board) -> bool {
+    let answer = d.answer;
+    let board = d.board;
+    number(answer) != 6 || boards_differ(board, b)
+}
+
+// Whether some call on the board is not refused with 6, or changes it.
+fn accepted(b: Board) -> bool {
+    taken(b.decide(1, 1), b)
+        || taken(b.undo(), b)
+        || taken(b.decide_all(b""), b)
+        || taken(b.decide_all(b"\x80\x01"), b)
+}
+
+fn with_problem(b: Board, problem: Problem) -> Board {
+    let cells = b.cells;
+    let order = b.order;
+    Board {
+        problem,
+        cells,
+        order,
+        decided: b.decided,
+    }
+}
+
+// The k-th damage to a problem: sizes, codes, arrow cells, ends, count, and what stands behind them.
+fn damaged_problem(q: Problem, k: usize) -> Problem {
+    let mut p = q;
+    match k {
+        0 => {
+            p.height = 0;
+        }
+        1 => {
+            p.height = 33;
+        }
+        2 => {
+            p.width = 0;
+        }
+        3 => {
+            p.width = 33;
+        }
+        4 => {
+            p.cells[0] = 3;
+        }
+        5 => {
+            p.cells[3] = 1;
+        }
+        6 => {
+            p.cells[1023] = 1;
+        }
+        7 => {
+            p.arrows[2] = 3;
+        }
+        8 => {
+            p.arrows[1] = 0;
+        }
+        9 => {
+            p.arrows[0] = 2;
+            p.arrows[2] = 1;
+            p.arrows[1] = 0;
+        }
+        10 => {
+            p.arrows[3] = 1;
+        }
+        11 => {
+            p.arrows[1023] = 1;
+        }
+        12 => {
+            p.ends[0] = 0;
+        }
+        13 => {
+            p.ends[0] = 2;
+        }
+        14 => {
+            p.ends[0] = 1025;
+        }
+        15 => {
+            p.ends[1] = 1;
+        }
+        16 => {
+            p.ends[1023] = 1;
+        }
+        17 => {
+            p.count = 0;
+        }
+        18 => {
+            p.count = 2;
+        }
+        _ => {
+            p.count = 1025;
+        }
+    }
+    p
+}
+
+// The k-th damage to what is decided on a board: states, order, count, and what stands behind them.
+fn damaged_states(board: Board, k: usize) -> Board {
+    let mut b = board;
+    match k {
+        0 => {
+            b.cells[0] = 2;
+        }
+        1 => {
+            b.cells[1] = 1;
+        }
+        2 => {
+            b.cells[2] = 3;
+        }
+        3 => {
+            b.cells[3] = 1;
+        }
+        4 => {
+            b.cells[1023] = 0;
+        }
+        5 => {
+            b.order[0] = 1;
+        }
+        6 => {
+            b.order[0] = 3;
+        }
+        7 => {
+            b.order[1] = 1;
+        }
+        8 => {
+            b.order[1023] = 1;
+        }
+        9 => {
+            b.decided = 0;
+        }
+        10 => {
+            b.decided = 2;
+        }
+        _ => {
+            b.decided = 1025;
+        }
+    }
+    b
+}
+
+// How many of the damaged boards are accepted, of 20 damages to the problem and 12 to what is decided.
+fn damages(b: Board) -> usize {
+    let mut count = 0;
+    let mut k = 0;
+    while k < 32 {
+        let mut d = b;
+        if k < 20 {
+            let q = b.problem;
+            d = with_problem(b, damaged_problem(q, k));
+        } else {
+            d = damaged_states(b, k - 20);
+        }
+        if accepted(d) {
+            count += 1;
+        }
+        k += 1;
+    }
+    count
+}
+
+fn main() {
+    let mut space = room();
+    let n = io::read_full(0, &mut space);
+    let tally = replay(&space[..n]);
+    io::print_decimal(STDOUT_FILENO, tally.boards as u64);
+    io::write_all(STDOUT_FILENO, b" boards, ");
+    io::print_decimal(STDOUT_FILENO, tally.differ as u64);
+    io::write_all(STDOUT_FILENO, b" differ\n");
+    if !tally.whole {
+        io::write_all(STDOUT_FILENO, b"list damaged\n");
+    }
+    let o = Board::open(b"\x00\x80\x08\x00\x00\x05\xE0");
+    let fresh = o.board;
+    let d = fresh.decide(0, 1);
+    let b = d.board;
+    io::write_all(STDOUT_FILENO, b"32 damaged boards, ");
+    io::print_decimal(STDOUT_FILENO, damages(b) as u64);
+    io::write_all(STDOUT_FILENO, b" accepted\n");
+}
