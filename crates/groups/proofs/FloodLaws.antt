@@ -1,0 +1,329 @@
+-- The mathematics of a flood: no code is named here.
+-- Assumes nothing.
+use Prim.Native.Nat.{ℕ, zero, suc, _+_, _-_, _*_, _/_, _%_, _≤_, _<_}
+use native.Mathlib.Decide.{ℕ-discrete, decLt}
+use native.Mathlib.Nat.{div-add-mod'}
+use native.Mathlib.Omega.{arith}
+use mathlib.Core.Path.{_≡_, refl, sym, ap, _∙_}
+use mathlib.Core.Bool.{Bool, true, false, So, cond}
+use mathlib.Core.Logic.{_⊎_, inl, inr}
+use mathlib.Core.List.{List, [], _∷_, List·Memᴰ, List·Memᴰ·head, List·Memᴰ·append-cases, List·Memᴰ·not-nil, List·Memᴰ·eq-of-singleton}
+use lib.Dec.{eqb}
+use lib.ListN.{length, getD, set, length-set, replicate, length-replicate, getD-replicate}
+use lib.Seq.{getD-set-same, getD-set-other}
+use borrow.Author.Tests.{eq-eqb, ne-eqb}
+use Rattle.grid.specs.Link.{here, step, linked-end}
+use Rattle.grid.specs.Grid.{Adjacent, Grid, size, neighbours}
+use Rattle.grid.specs.Side.{sized, besideOf, InPlace}
+use Rattle.grid.specs.declared.Side.the-variants.{At}
+use Rattle.grid.proofs.GridLaws.{adj-sym}
+use Rattle.grid.proofs.SideLaws.{area, in-place, in-grid, beside-at, beside-in, towards-mem}
+use Rattle.grid.proofs.AroundLaws.{gathered, gathered-next, gathered-same, gathered-all}
+use Rattle.groups.specs.Groups.{Joined, noGroup}
+use Rattle.groups.specs.Flood.{free, Offered, skip, take, OfferedSide, beyond, within, Kept, same, new, Shut, Flooding, Right, none, some, Sofar, Spread, Ready}
+use Rattle.groups.proofs.GroupLaws.{linked-size}
+use Rattle.groups.proofs.LabelLaws.{Components}
+
+-- by cases on whether j is q
+by-eq : {P : Type 0} (j q : ℕ) → (j ≡ q → P) → ((j ≡ q → ⊥) → P) → P
+by-eq {P} j q f h = go (ℕ-discrete j q)
+  where
+    go : Dec (j ≡ q) → P
+    go (yes e) = f e
+    go (no ne) = h ne
+
+-- the entry at j after a store at q
+data Entry (L : List ℕ) (q v j : ℕ) : Type 0 where
+  hit : j ≡ q → getD (set L q v) j 0 ≡ v → Entry L q v j
+  miss : (j ≡ q → ⊥) → getD (set L q v) j 0 ≡ getD L j 0 → Entry L q v j
+
+at : (L : List ℕ) (q v j : ℕ) → q < length L → Entry L q v j
+at L q v j h = by-eq j q (λ e. hit e (rw e (getD-set-same L q v 0 h))) (λ ne. miss ne (getD-set-other L q j v 0 ne))
+
+-- a label is given: one entry fewer is free
+pub free-set : (L : List ℕ) (q s : ℕ) → getD L q 0 ≡ noGroup → (s ≡ noGroup → ⊥) → free (set L q s) + 1 ≡ free L
+unfolding free
+free-set [] q s e ne = absurd (omega (arith, e))
+free-set (x ∷ xs) zero s e ne = rw (ne-eqb s noGroup ne, eq-eqb x noGroup e) (omega arith)
+free-set (x ∷ xs) (suc q) s e ne = omega (arith, free-set xs q s e ne)
+
+one-le : (b : Bool) → cond b 1 0 ≤ 1
+one-le true = omega arith
+one-le false = omega arith
+
+-- no more entries are free than there are
+pub free-le : (L : List ℕ) → free L ≤ length L
+unfolding free
+free-le [] = omega arith
+free-le (x ∷ xs) = omega (arith, free-le xs, one-le (eqb x noGroup))
+
+-- an entry with no label is an entry
+below-long : (L : List ℕ) (q : ℕ) → getD L q 0 ≡ noGroup → q < length L
+below-long [] q e = absurd (omega (arith, e))
+below-long (x ∷ xs) zero e = omega arith
+below-long (x ∷ xs) (suc q) e = omega (arith, below-long xs q e)
+
+-- a label that is there stays
+set-stays : (L : List ℕ) (q s : ℕ) → s < 1024 → getD L q 0 ≡ noGroup → (k : ℕ) → (getD L k 0 ≡ noGroup → ⊥) → getD (set L q s) k 0 ≡ noGroup → ⊥
+set-stays L q s small u k h = go (at L q s k (below-long L q u))
+  where
+    go : Entry L q s k → getD (set L q s) k 0 ≡ noGroup → ⊥
+    go (hit e v) x = omega (arith, v, x)
+    go (miss ne v) x = h (sym v ∙ x)
+
+-- what one offer does
+module _ {p : ℕ → Bool} {q s : ℕ} {L st : List ℕ} {c : ℕ} {L′ st′ : List ℕ} {r : ℕ} (small : s < 1024) where
+  offered-room : Offered p q s L st c L′ st′ r → c + free L ≤ 1024 → r + free L′ ≤ 1024
+  offered-room (skip no-go l t e) h = rw (l, e) h
+  offered-room (take o u l t e) h = rw (l, e) (omega (arith, free-set L q s u (λ x. omega (arith, x))))
+
+  offered-falls : Offered p q s L st c L′ st′ r → 2 * free L′ + r ≤ 2 * free L + c
+  offered-falls (skip no-go l t e) = rw (l, e) (omega arith)
+  offered-falls (take o u l t e) = rw (l, e) (omega (arith, free-set L q s u (λ x. omega (arith, x))))
+
+  offered-stays : Offered p q s L st c L′ st′ r → (k : ℕ) → (getD L k 0 ≡ noGroup → ⊥) → getD L′ k 0 ≡ noGroup → ⊥
+  offered-stays (skip no-go l t e) k h = rw l h
+  offered-stays (take o u l t e) k h = rw l (set-stays L q s small u k h)
+
+  pub offered-labelled : Offered p q s L st c L′ st′ r → So (p q) → getD L′ q 0 ≡ noGroup → ⊥
+  offered-labelled (skip no-go l t e) o = rw l (no-go o)
+  offered-labelled (take o′ u l t e) o = rw l (λ x. omega (arith, x, getD-set-same L q s 0 (below-long L q u)))
+
+  pub offered-keeps :
+      {g : Grid} {L₀ : List ℕ} {i : ℕ} → Offered p q s L st c L′ st′ r → (So (p q) → Joined g p s q) → Flooding g p s L₀ i L st c
+      → Flooding g p s L₀ i L′ st′ r
+  offered-keeps (skip no-go l t e) linked F = rw (l, t, e) F
+  offered-keeps {g} {L₀} {i} (take o u l t e) linked F = rw (l, t, e) moved
+    where
+      apart : s ≡ noGroup → ⊥
+      apart x = omega (arith, x)
+
+      q-in : q < length L
+      q-in = below-long L q u
+
+      c-in : c < length st
+      c-in = omega (arith, free-set L q s u apart, F .room, F .stack-long)
+
+      joined : Joined g p s q
+      joined = linked o
+
+      was : Kept g p s L₀ L q → getD L₀ q 0 ≡ noGroup
+      was (same k) = sym k ∙ u
+      was (new k₀ k n) = k₀
+
+      kept′ : (j : ℕ) → Kept g p s L₀ L j → Entry L q s j → Kept g p s L₀ (set L q s) j
+      kept′ j k (hit e v) = new (rw e (was (F .kept q))) v (rw e joined)
+      kept′ j (same k) (miss ne v) = same (v ∙ k)
+      kept′ j (new k₀ k n) (miss ne v) = new k₀ (v ∙ k) n
+
+      waiting′ : (t : ℕ) → t < c + 1 → Entry st c q t → Joined g p s (getD (set st c q) t 0)
+      waiting′ t h (hit e v) = rw v joined
+      waiting′ t h (miss ne v) = rw v (F .waiting t (omega (arith, ne)))
+
+      done′ : (j : ℕ) → j < size g → getD (set L q s) j 0 ≡ s → ((t : ℕ) → t < c + 1 → getD (set st c q) t 0 ≡ j → ⊥) → (j ≡ i → ⊥) → Entry L q s j → Shut g p (set L q s) j
+      done′ j h x gone ne (hit e v) k side o′ = absurd (gone c (omega arith) (getD-set-same st c q 0 c-in ∙ sym e))
+      done′ j h x gone ne (miss a v) k side o′ =
+          set-stays L q s small u k
+          (F .done j h (sym v ∙ x) (λ t b y. gone t (omega arith) (getD-set-other st c t q 0 (λ f. omega (arith, f)) ∙ y)) ne k side o′)
+
+      moved : Flooding g p s L₀ i (set L q s) (set st c q) (c + 1)
+      moved = record {
+        labels-long = length-set L q s ∙ F .labels-long;
+        stack-long = length-set st c q ∙ F .stack-long;
+        room = omega (arith, free-set L q s u apart, F .room);
+        kept = λ j. kept′ j (F .kept j) (at L q s j q-in);
+        waiting = λ t h. waiting′ t h (at st c q t c-in);
+        done = λ j h x gone ne. done′ j h x gone ne (at L q s j q-in);
+      }
+
+-- a neighbour is an entry
+pub beside-small : {h w y x q : ℕ} (k : ℕ) → InPlace h w y x → At q ≡ besideOf (sized h w) (y * w + x) k → q < 1024
+unfolding size
+beside-small {h} {w} {y} {x} {q} k p e = omega (arith, beside-in (sized h w) (y * w + x) k q (in-grid p .within) e, area h w (p .tall) (p .wide))
+
+-- what the neighbours of i in the first k directions, offered in turn, do
+pub record Offers (g : Grid) (p : ℕ → Bool) (s i k : ℕ) (L st : List ℕ) (c : ℕ) (L′ st′ : List ℕ) (r : ℕ) : Type 0 where
+  pub room : r + free L′ ≤ 1024
+  falls : 2 * free L′ + r ≤ 2 * free L + c
+  stays : (j : ℕ) → (getD L j 0 ≡ noGroup → ⊥) → getD L′ j 0 ≡ noGroup → ⊥
+  labelled : (j : ℕ) → List·Memᴰ j (gathered g i k) → So (p j) → getD L′ j 0 ≡ noGroup → ⊥
+  keeps : (L₀ : List ℕ) → ((j : ℕ) → List·Memᴰ j (neighbours g i) → So (p j) → Joined g p s j) → Flooding g p s L₀ i L st c → Flooding g p s L₀ i L′ st′ r
+
+module _ {g : Grid} {p : ℕ → Bool} {s i : ℕ} {L st : List ℕ} {c : ℕ} where
+  -- before the first
+  pub offers-none : c + free L ≤ 1024 → Offers g p s i 0 L st c L st c
+  unfolding gathered
+  offers-none h = record {
+    room = h;
+    falls = omega arith;
+    stays = λ j u. u;
+    labelled = λ j m. absurd (List·Memᴰ·not-nil m);
+    keeps = λ L₀ near F. F;
+  }
+
+  -- one more
+  pub offers-more :
+      {k : ℕ} {L′ st′ : List ℕ} {r : ℕ} {L″ st″ : List ℕ} {r′ : ℕ} → s < 1024 → Offers g p s i k L st c L′ st′ r
+      → OfferedSide p (besideOf g i k) s L′ st′ r L″ st″ r′ → Offers g p s i (k + 1) L st c L″ st″ r′
+  offers-more {k} small O (beyond off l t e) = rw (l, t, e) (record {
+    room = O .room;
+    falls = O .falls;
+    stays = O .stays;
+    labelled = λ j. rw (gathered-same g i k off) (O .labelled j);
+    keeps = O .keeps;
+  })
+  offers-more {k} {L″ = L″} small O (within q at-q o) = record {
+    room = offered-room small o (O .room);
+    falls = omega (arith, offered-falls small o, O .falls);
+    stays = λ j u. offered-stays small o j (O .stays j u);
+    labelled = λ j m. labelled′ j (List·Memᴰ·append-cases (gathered g i k) (rw (gathered-next g i k q at-q) at m));
+    keeps = λ L₀ near F. offered-keeps small o (near q (towards-mem g i k (rw (beside-at g i k q at-q) (List·Memᴰ·head refl)))) (O .keeps L₀ near F);
+  }
+    where
+      labelled′ : (j : ℕ) → List·Memᴰ j (gathered g i k) ⊎ List·Memᴰ j (q ∷ []) → So (p j) → getD L″ j 0 ≡ noGroup → ⊥
+      labelled′ j (inl m) = λ y. offered-stays small o j (O .labelled j m y)
+      labelled′ j (inr m) = rw (List·Memᴰ·eq-of-singleton m) (offered-labelled small o)
+
+-- a cell is taken from the stack, and its neighbours are offered
+module _ {g : Grid} {p : ℕ → Bool} {s : ℕ} {L₀ : List ℕ} (fits : size g ≤ 1024) where
+  pop : {L st : List ℕ} {c : ℕ} → 0 < c → Flooding g p s L₀ 1024 L st c → Flooding g p s L₀ (getD st (c - 1) 0) L st (c - 1)
+  pop {L} {st} {c} pos F = record {
+    labels-long = F .labels-long;
+    stack-long = F .stack-long;
+    room = omega (arith, F .room);
+    kept = F .kept;
+    waiting = λ t h. F .waiting t (omega arith);
+    done = λ j h x gone ne. F .done j h x (λ t b y. by-eq t (c - 1) (λ e. ne (sym y ∙ ap (λ (m : ℕ). getD st m 0) e)) (λ e. gone t (omega arith) y)) (λ e. omega arith);
+  }
+
+  close : {L st : List ℕ} {c i : ℕ} → Shut g p L i → Flooding g p s L₀ i L st c → Flooding g p s L₀ 1024 L st c
+  close {L} {st} {c} {i} shut F = record {
+    labels-long = F .labels-long;
+    stack-long = F .stack-long;
+    room = F .room;
+    kept = F .kept;
+    waiting = F .waiting;
+    done = λ j h x gone ne. by-eq j i (λ e. rw e shut) (λ a. F .done j h x gone a);
+  }
+
+  spread-keeps :
+      {L st L′ st′ : List ℕ} {c r : ℕ} → 0 < c → getD st (c - 1) 0 < size g
+      → Offers g p s (getD st (c - 1) 0) 4 L st (c - 1) L′ st′ r → Flooding g p s L₀ 1024 L st c → Flooding g p s L₀ 1024 L′ st′ r
+  spread-keeps {st = st} {c = c} pos on O F = close (λ k side. O .labelled k (rw (gathered-all g i) (side .1))) (O .keeps L₀ near (pop pos F))
+    where
+      i : ℕ
+      i = getD st (c - 1) 0
+
+      near : (j : ℕ) → List·Memᴰ j (neighbours g i) → So (p j) → Joined g p s j
+      near j m o = step (F .waiting (c - 1) (omega arith)) (on, m) o
+
+-- the cell on top of the stack has its row and column
+pub top : {h w s : ℕ} {L st : List ℕ} {c i : ℕ} → Ready h w s L st c → i ≡ getD st (c - 1) 0 → InPlace h w (i / w) (i % w)
+top r e = in-place (record { tall = r .tall; wide = r .wide; within = rw e (r .top) })
+
+-- what is done when the neighbours in all four directions have been offered
+pub spread-does :
+    {h w s : ℕ} {p : ℕ → Bool} {L st L′ st′ : List ℕ} {c i r : ℕ} → Ready h w s L st c → i ≡ getD st (c - 1) 0
+    → Offers (sized h w) p s (i / w * w + i % w) 4 L st (c - 1) L′ st′ r → Spread (sized h w) p s L st c L′ st′ r
+unfolding size
+spread-does {h} {w} {i = i} ready at-top O = record {
+  keeps = λ L₀ F. spread-keeps (area h w (ready .tall) (ready .wide)) (ready .count) (ready .top) (rw (div-add-mod' i w, at-top) at O) F;
+  stays = O .stays;
+  falls = omega (arith, ready .count, O .falls);
+}
+
+-- the floods from the cells below s are done, and so is that from s
+module _ {g : Grid} {p : ℕ → Bool} {s : ℕ} {L₀ : List ℕ} (fits : size g ≤ 1024) (on : s < size g) (S : Sofar g p s L₀) where
+  no-seed-yet : (j : ℕ) → j < size g → getD L₀ j 0 ≡ s → ⊥
+  no-seed-yet j h x = go (S .right j (omega arith))
+    where
+      go : Right g p s L₀ j → ⊥
+      go (none e) = omega (arith, e, x)
+      go (some lt le n) = omega (arith, lt, x)
+
+  pub flood-starts : (st : List ℕ) → length st ≡ 1024 → Flooding g p s L₀ 1024 L₀ st 0
+  flood-starts st long = record {
+    labels-long = S .labels-long;
+    stack-long = long;
+    room = omega (arith, free-le L₀, S .labels-long);
+    kept = λ j. same refl;
+    waiting = λ t h. absurd (omega (arith, h));
+    done = λ j h x gone ne. absurd (no-seed-yet j h x);
+  }
+
+  flood-ends :
+      {L : List ℕ} → length L ≡ 1024 → ((j : ℕ) → Kept g p s L₀ L j) → ((j : ℕ) → j < size g → getD L j 0 ≡ s → Shut g p L j)
+      → (So (p s) → getD L s 0 ≡ noGroup → ⊥) → Sofar g p (s + 1) L
+  flood-ends {L} long kept shut seed = record { labels-long = long; right = λ j h. right′ j (S .right j h) (kept j); full = full′; closed = closed′ }
+    where
+      first : (j : ℕ) → getD L₀ j 0 ≡ noGroup → So (p j) → s ≤ j
+      first j u o = by-lt (decLt j s)
+        where
+          by-lt : Dec (j < s) → s ≤ j
+          by-lt (yes h) = absurd (S .full j h o u)
+          by-lt (no h) = omega (arith, h)
+
+      right′ : (j : ℕ) → Right g p s L₀ j → Kept g p s L₀ L j → Right g p (s + 1) L j
+      right′ j a (new u v n) = some (omega (arith, v)) (omega (arith, v, first j u (linked-end n))) (rw v n)
+      right′ j (none u) (same v) = none (v ∙ u)
+      right′ j (some lt le n) (same v) = some (omega (arith, v, lt)) (omega (arith, v, le)) (rw v n)
+
+      stays : (j : ℕ) → (getD L₀ j 0 ≡ noGroup → ⊥) → getD L j 0 ≡ getD L₀ j 0
+      stays j ne = go (kept j)
+        where
+          go : Kept g p s L₀ L j → getD L j 0 ≡ getD L₀ j 0
+          go (same v) = v
+          go (new u v n) = absurd (ne u)
+
+      full′ : (j : ℕ) → j < s + 1 → So (p j) → getD L j 0 ≡ noGroup → ⊥
+      full′ j h o x = by-eq j s (λ q. seed (rw q at o) (rw q at x)) (λ ne. let old = S .full j (omega arith) o in old (sym (stays j old) ∙ x))
+
+      closed′ : (j k : ℕ) → Adjacent g j k → So (p j) → So (p k) → (getD L j 0 ≡ noGroup → ⊥) → getD L k 0 ≡ getD L j 0
+      closed′ j k side oj ok lab = go (kept j) (kept k)
+        where
+          go : Kept g p s L₀ L j → Kept g p s L₀ L k → getD L k 0 ≡ getD L j 0
+          go (same v) b =
+              let lab₀ : getD L₀ j 0 ≡ noGroup → ⊥ = λ x. lab (v ∙ x) in
+              let e₀ = S .closed j k side oj ok lab₀ in
+              stays k (λ x. lab₀ (sym e₀ ∙ x)) ∙ e₀ ∙ sym v
+          go (new u v n) (new u′ v′ n′) = v′ ∙ sym v
+          go (new u v n) (same v′) =
+              let lab₀ : getD L₀ k 0 ≡ noGroup → ⊥ = λ x. shut j (side .0) v k side ok (v′ ∙ x) in
+              absurd (lab₀ (sym (S .closed k j (adj-sym g j k side) ok oj lab₀) ∙ u))
+
+  pub flooding-ends : {L st : List ℕ} {c : ℕ} → c ≡ 0 → Flooding g p s L₀ 1024 L st c → (So (p s) → getD L s 0 ≡ noGroup → ⊥) → Sofar g p (s + 1) L
+  flooding-ends e F seed = flood-ends (F .labels-long) (F .kept) (λ j h x. F .done j h x (λ t b y. omega arith) (λ q. omega arith)) seed
+
+-- before the first flood, and after the last
+pub sofar-none : {g : Grid} {p : ℕ → Bool} → size g ≤ 1024 → Sofar g p 0 (replicate 1024 noGroup)
+sofar-none {g} {p} fits = record {
+  labels-long = length-replicate {A = ℕ} 1024 noGroup;
+  right = λ j h. none (getD-replicate {A = ℕ} 1024 j noGroup 0 h);
+  full = λ j h. absurd (omega (arith, h));
+  closed = λ j k side oj ok lab. absurd (lab (getD-replicate {A = ℕ} 1024 j noGroup 0 (omega (arith, side .0))));
+}
+
+module _ {g : Grid} {p : ℕ → Bool} {L : List ℕ} (fits : size g ≤ 1024) (S : Sofar g p (size g) L) where
+  own′ : (i : ℕ) → i < size g → So (p i) → Right g p (size g) L i → Joined g p (getD L i 0) i
+  own′ i h o (none u) = absurd (S .full i h o u)
+  own′ i h o (some lt le n) = n
+
+  alike : {i j : ℕ} → i < size g → Joined g p i j → getD L j 0 ≡ getD L i 0
+  alike h (here o) = refl
+  alike h (step {i = j} {j = k} n side o) = S .closed j k side (linked-end n) o (S .full j (side .0) (linked-end n)) ∙ alike h n
+
+  least′ : (j : ℕ) → j < size g → So (p j) → Right g p (size g) L j → getD L j 0 ≤ j
+  least′ j h o (none u) = absurd (S .full j h o u)
+  least′ j h o (some lt le n) = le
+
+  none′ : (i : ℕ) → ((i < size g) × So (p i) → ⊥) → Right g p (size g) L i → getD L i 0 ≡ noGroup
+  none′ i ne (none u) = u
+  none′ i ne (some lt le n) = absurd (ne (linked-size g p lt n, linked-end n))
+
+  pub components : Components g p L
+  components = record {
+    long = S .labels-long;
+    own = λ i h o. own′ i h o (S .right i (omega arith));
+    least = λ i j h n. let k = linked-size g p h n in rw (← (alike h n)) (least′ j k (linked-end n) (S .right j (omega (arith, k))));
+    none = λ i h ne. none′ i ne (S .right i h);
+  }

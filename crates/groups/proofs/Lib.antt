@@ -1,0 +1,7 @@
+pub mod ArrowLaws
+pub mod FloodLaws
+pub mod GroupLaws
+pub mod LabelLaws
+pub mod MarkLaws
+pub mod Shift
+pub mod RulesLaws

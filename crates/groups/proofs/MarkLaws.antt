@@ -1,0 +1,124 @@
+-- Marks of listed cells, and masks: what each entry says.
+-- Assumes nothing.
+use Prim.Native.Nat.{ℕ, _+_, _≤_, _<_}
+use native.Mathlib.Decide.{ℕ-discrete, decLt}
+use native.Mathlib.Numerals.{add-one}
+use native.Mathlib.Omega.{arith}
+use mathlib.Core.Path.{_≡_, refl, sym, ap, _∙_}
+use mathlib.Core.Bool.{Bool, true, false, cond, _||_}
+use mathlib.Core.List.{List, [], _∷_, _++_, map, List·Memᴰ}
+use lib.Dec.{eqb}
+use lib.ListN.{length, getD, set, take, replicate, length-set, length-replicate, getD-replicate}
+use lib.Seq.{ext-getD, getD-set-same, getD-set-other, take-suc}
+use borrow.Author.Tests.{eq-eqb, ne-eqb}
+use Rattle.grid.specs.Lists.{upto, any, member, flatMap}
+use Rattle.grid.specs.Grid.{Grid, size, cellsOf}
+use Rattle.grid.proofs.ListLaws.{so-false, member-mem, getD-map-range, length-map-range}
+use Rattle.grid.proofs.ArrayLaws.{array-length, array-in, array-out}
+use Rattle.record.specs.Problem.{arrowCells}
+use Rattle.groups.specs.Groups.{maskOf, marksOf}
+use Rattle.groups.specs.Arrows.{onArrow}
+
+-- ---- marks
+
+pub marks-length : (l : List ℕ) → length (marksOf l) ≡ 1024
+unfolding marksOf upto
+marks-length l = length-map-range (λ i. cond (member i l) 1 0) 0 1024
+
+pub marks-at : (l : List ℕ) (i : ℕ) → i < 1024 → getD (marksOf l) i 0 ≡ cond (member i l) 1 0
+unfolding marksOf upto
+marks-at l i h = getD-map-range (λ j. cond (member j l) 1 0) 0 1024 i 0 h ∙ ap (λ (j : ℕ). cond (member j l) 1 0) (omega arith)
+
+-- no cell is marked
+pub marks-none : replicate 1024 0 ≡ marksOf []
+unfolding member any
+marks-none = ext-getD 0 (replicate 1024 0) (marksOf []) (length-replicate {A = ℕ} 1024 0 ∙ sym (marks-length []))
+    (λ i h. let k : i < 1024 = omega (arith, h, length-replicate {A = ℕ} 1024 0) in getD-replicate {A = ℕ} 1024 i 0 0 k ∙ sym (marks-at [] i k))
+
+or-false : (b : Bool) → (b || false) ≡ b
+or-false true = refl
+or-false false = refl
+
+or-true : (b : Bool) → (b || true) ≡ true
+or-true true = refl
+or-true false = refl
+
+or-assoc : (a b c : Bool) → ((a || b) || c) ≡ (a || (b || c))
+or-assoc true b c = refl
+or-assoc false b c = refl
+
+any-append : (p : ℕ → Bool) (a b : List ℕ) → any p (a ++ b) ≡ (any p a || any p b)
+unfolding any
+any-append p [] b = refl
+any-append p (x ∷ xs) b = ap (λ (t : Bool). p x || t) (any-append p xs b) ∙ sym (or-assoc (p x) (any p xs) (any p b))
+
+-- one more cell is listed
+member-snoc : (l : List ℕ) (x i : ℕ) → member i (l ++ (x ∷ [])) ≡ (member i l || eqb i x)
+unfolding member any
+member-snoc l x i = any-append (eqb i) l (x ∷ []) ∙ ap (λ (t : Bool). any (eqb i) l || t) (or-false (eqb i x))
+
+-- one more cell is marked
+pub marks-more : (l : List ℕ) (k : ℕ) → k < length l → getD l k 0 < 1024 → set (marksOf (take k l)) (getD l k 0) 1 ≡ marksOf (take (k + 1) l)
+marks-more l k h c = ext-getD 0 (set M x 1) (marksOf (take (k + 1) l)) (length-set M x 1 ∙ marks-length (take k l) ∙ sym (marks-length (take (k + 1) l)))
+    (λ i b. let s : i < 1024 = omega (arith, b, length-set M x 1, marks-length (take k l)) in at i s (ℕ-discrete i x) ∙ sym (marks-at (take (k + 1) l) i s ∙ ap (λ (t : Bool). cond t 1 0) (more i)))
+  where
+    x : ℕ
+    x = getD l k 0
+
+    M : List ℕ
+    M = marksOf (take k l)
+
+    more : (i : ℕ) → member i (take (k + 1) l) ≡ (member i (take k l) || eqb i x)
+    more i = rw (add-one, take-suc l k 0) (member-snoc (take k l) x i)
+
+    at : (i : ℕ) → i < 1024 → Dec (i ≡ x) → getD (set M x 1) i 0 ≡ cond (member i (take k l) || eqb i x) 1 0
+    at i s (yes e) = rw (e, eq-eqb x x refl, or-true) (getD-set-same M x 1 0 (omega (arith, marks-length (take k l))))
+    at i s (no ne) = getD-set-other M x i 1 0 ne ∙ marks-at (take k l) i s ∙ rw (ne-eqb i x ne, or-false)
+
+-- ---- masks
+
+module _ (g : Grid) (p : ℕ → Bool) where
+  -- the entry of a cell
+  abbrev entry : ℕ → ℕ
+  entry i = cond (p i) 1 0
+
+  row-length : length (map entry (cellsOf g)) ≡ size g
+  unfolding cellsOf upto
+  row-length = length-map-range entry 0 (size g)
+
+  row-at : (i : ℕ) → i < size g → getD (map entry (cellsOf g)) i 0 ≡ entry i
+  unfolding cellsOf upto
+  row-at i h = getD-map-range entry 0 (size g) i 0 h ∙ ap entry (omega arith)
+
+  -- an entry of the grid, and one behind it
+  pub mask-at : (i : ℕ) → i < size g → getD (maskOf g p) i 0 ≡ entry i
+  unfolding maskOf
+  mask-at i h = array-in 0 (map entry (cellsOf g)) 0 i (rw row-length h) ∙ row-at i h
+
+  pub mask-behind : (i : ℕ) → size g ≤ i → i < 1024 → getD (maskOf g p) i 0 ≡ 0
+  unfolding maskOf
+  mask-behind i h k = array-out 0 (map entry (cellsOf g)) 0 i (rw row-length h) k
+
+  pub mask-length : size g ≤ 1024 → length (maskOf g p) ≡ 1024
+  unfolding maskOf
+  mask-length fits = array-length 0 (map entry (cellsOf g)) (rw row-length fits)
+
+-- the marks of cells of the grid are their mask
+pub marks-mask : (g : Grid) (p : ℕ → Bool) (l : List ℕ) → size g ≤ 1024 → ((i : ℕ) → member i l ≡ p i) → ((i : ℕ) → List·Memᴰ i l → i < size g) → marksOf l ≡ maskOf g p
+marks-mask g p l fits same on = ext-getD 0 (marksOf l) (maskOf g p) (marks-length l ∙ sym (mask-length g p fits))
+    (λ i h. let k : i < 1024 = omega (arith, h, marks-length l) in marks-at l i k ∙ at i k (decLt i (size g)))
+  where
+    at : (i : ℕ) → i < 1024 → Dec (i < size g) → cond (member i l) 1 0 ≡ getD (maskOf g p) i 0
+    at i k (yes h) = ap (λ (t : Bool). cond t 1 0) (same i) ∙ sym (mask-at g p i h)
+    at i k (no h) = rw (so-false (member i l) (λ m. h (on i (member-mem i l m)))) (sym (mask-behind g p i (omega (arith, h)) k))
+
+-- a cell of some arrow is one of the arrows' cells
+pub on-arrow : (arrows : List (List ℕ)) (i : ℕ) → member i (arrowCells arrows) ≡ onArrow arrows i
+unfolding arrowCells onArrow member any flatMap
+on-arrow [] i = refl
+on-arrow (a ∷ rest) i = any-append (eqb i) a (arrowCells rest) ∙ ap (λ (t : Bool). any (eqb i) a || t) (on-arrow rest i)
+
+-- what `mark_arrow_cells` leaves, where the line holds the arrows' cells
+pub arrow-marks : (g : Grid) (arrows : List (List ℕ)) (l : List ℕ) → size g ≤ 1024 → l ≡ arrowCells arrows → ((i : ℕ) → List·Memᴰ i l → i < size g)
+    → marksOf l ≡ maskOf g (onArrow arrows)
+arrow-marks g arrows l fits e on = marks-mask g (onArrow arrows) l fits (λ i. ap (member i) e ∙ on-arrow arrows i) on

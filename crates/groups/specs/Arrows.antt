@@ -1,0 +1,38 @@
+-- Arrow cells, and the pairs of squares of an arrow with none between them.
+-- Assumes nothing.
+use Prim.Native.Nat.{ℕ, _≤_, _<_}
+use mathlib.Core.Path.{_≡_}
+use mathlib.Core.Bool.{Bool, cond}
+use mathlib.Core.List.{List, [], _∷_, _++_}
+use lib.ListN.{length, getD}
+use Rattle.grid.specs.Lists.{any, member}
+use Rattle.board.specs.Board.{square}
+
+-- i is an arrow cell: a cell of some arrow
+unfoldable pub onArrow : List (List ℕ) → ℕ → Bool
+onArrow arrows i = any (member i) arrows
+
+-- two squares of an arrow with none between them
+pub record Pair : Type 0 where
+  pub last : ℕ
+  pub between : List ℕ
+  pub cur : ℕ
+
+-- the pairs of an arrow after the square i, with the cells passed since
+unfoldable pub pairsFrom : List ℕ → ℕ → List ℕ → List ℕ → List Pair
+pairsFrom cells i passed [] = []
+pairsFrom cells i passed (j ∷ js) =
+    cond (square cells j)
+    (record { last = i; between = passed; cur = j } ∷ pairsFrom cells j [] js)
+    (pairsFrom cells i (passed ++ (j ∷ [])) js)
+
+-- the pairs of an arrow, in arrow order
+unfoldable pub pairs : List ℕ → List ℕ → List Pair
+pairs cells [] = []
+pairs cells (i ∷ js) = cond (square cells i) (pairsFrom cells i [] js) (pairs cells js)
+
+-- the cells of all arrows stand in the first places of an array
+pub record Line (line : List ℕ) (total : ℕ) : Type 0 where
+  pub long : length line ≡ 1024
+  pub within : total ≤ 1024
+  pub cells : (k : ℕ) → k < total → getD line k 0 < 1024

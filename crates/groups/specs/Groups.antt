@@ -1,0 +1,70 @@
+-- The groups of a test: the largest side-connected sets of cells that pass it. A block is a group of squares, a potential group
+-- one of cells that aren't empty. A group is named by its first cell in row order and lists its cells by index.
+-- Assumes nothing.
+use mathlib.Core.Bool.{So, Bool, cond, _&&_}
+use Prim.Native.Nat.{ℕ, min, max}
+use mathlib.Core.List.{List, [], _∷_, map}
+use lib.Dec.{eqb}
+use lib.ListN.{getD}
+use Rattle.grid.specs.Link.{Linked}
+use Rattle.grid.specs.Grid.{Adjacent, Grid, cellsOf, neighbours}
+use Rattle.grid.specs.Lists.{upto, filter, flatMap, member, arrayOf}
+use Rattle.board.specs.Board.{square, filled}
+
+-- i and j are joined by a chain of neighbours that all pass
+abbrev pub Joined : Grid → (ℕ → Bool) → ℕ → ℕ → Type 0
+Joined g p i j = Linked (Adjacent g) (λ c. So (p c)) i j
+
+-- every name a becomes b
+unfoldable pub rename : ℕ → ℕ → List ℕ → List ℕ
+rename a b [] = []
+rename a b (x ∷ xs) = cond (eqb x a) b x ∷ rename a b xs
+
+-- the groups of i and j become one, under the lower of their two names
+unfoldable pub join : ℕ → ℕ → List ℕ → List ℕ
+join i j l = rename (max (getD l i 0) (getD l j 0)) (min (getD l i 0) (getD l j 0)) l
+
+-- all pairs joined in turn
+unfoldable pub joinAll : List (ℕ × ℕ) → List ℕ → List ℕ
+joinAll [] l = l
+joinAll (e ∷ es) l = joinAll es (join (e .0) (e .1) l)
+
+-- the pairs of neighbours that both pass
+unfoldable pub edges : Grid → (ℕ → Bool) → List (ℕ × ℕ)
+edges g p = flatMap (λ i. map (λ j. (i, j)) (filter (λ j. p i && p j) (neighbours g i))) (cellsOf g)
+
+-- the name of each cell's group: at first each cell is named by itself, and then each pair of neighbours is joined
+unfoldable pub labels : Grid → (ℕ → Bool) → List ℕ
+labels g p = joinAll (edges g p) (cellsOf g)
+
+-- the cells of the group named f, rising
+unfoldable pub group : Grid → (ℕ → Bool) → List ℕ → ℕ → List ℕ
+group g p l f = filter (λ i. p i && eqb (getD l i 0) f) (cellsOf g)
+
+-- the groups' names, rising
+unfoldable pub names : Grid → (ℕ → Bool) → List ℕ → List ℕ
+names g p l = filter (λ i. p i && eqb (getD l i 0) i) (cellsOf g)
+
+-- the number that stands for no group
+abbrev pub noGroup : ℕ
+noGroup = 1024
+
+-- the first cell of the group of cell i, or that it has none
+unfoldable pub labelAt : Grid → (ℕ → Bool) → ℕ → ℕ
+labelAt g p i = cond (p i) (getD (labels g p) i 0) noGroup
+
+-- the same for every cell, in an array
+unfoldable pub labelArray : Grid → (ℕ → Bool) → List ℕ
+labelArray g p = arrayOf noGroup (map (labelAt g p) (cellsOf g))
+
+-- the cells that count: for potential groups those that aren't empty, for blocks the squares
+unfoldable pub counts : Bool → List ℕ → ℕ → Bool
+counts potential cells i = cond potential (filled cells i) (square cells i)
+
+-- 1 for each cell that passes the test and 0 for each other, in an array
+unfoldable pub maskOf : Grid → (ℕ → Bool) → List ℕ
+maskOf g p = arrayOf 0 (map (λ i. cond (p i) 1 0) (cellsOf g))
+
+-- 1 for each cell of the list and 0 for each other, in an array
+unfoldable pub marksOf : List ℕ → List ℕ
+marksOf l = map (λ i. cond (member i l) 1 0) (upto 1024)

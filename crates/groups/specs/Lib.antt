@@ -1,0 +1,4 @@
+pub mod Arrows
+pub mod Flood
+pub mod Groups
+pub mod Rules

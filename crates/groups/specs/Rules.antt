@@ -1,0 +1,89 @@
+-- The block rules of a fully decided board.
+-- Assumes nothing.
+use Prim.Native.Nat.{ℕ, _+_, _<_}
+use mathlib.Core.Path.{_≡_}
+use mathlib.Core.Bool.{Bool, true, false, _&&_}
+use mathlib.Core.List.{List, _∷_, _++_, List·Memᴰ}
+use lib.Dec.{eqb}
+use lib.ListN.{length, getD}
+use Rattle.grid.specs.Lists.{any, all, filter, flatMap}
+use Rattle.grid.specs.Grid.{Grid, size, cellsOf, row, col}
+use Rattle.board.specs.Board.{square}
+use Rattle.groups.specs.Groups.{Joined, labels, group, names}
+use Rattle.groups.specs.Arrows.{onArrow, Pair, pairs}
+
+-- a shift, which is a signed row and column offset: rows down − up, columns right − left
+pub record Shift : Type 0 where
+  pub up : ℕ
+  pub down : ℕ
+  pub left : ℕ
+  pub right : ℕ
+
+-- x, shifted, is y
+pub record Moved (g : Grid) (s : Shift) (x y : ℕ) : Type 0 where
+  pub rows : row g y + s .up ≡ row g x + s .down
+  pub cols : col g y + s .left ≡ col g x + s .right
+
+-- Q is a shifted copy of P plus exactly one square; no turning, no flipping
+pub record Grown (g : Grid) (P Q : ℕ → Type 0) : Type 0 where
+  pub shift : Shift
+  pub copy : (x : ℕ) → P x → (y : ℕ) × Q y × Moved g shift x y
+  pub extra : ℕ
+  pub within : Q extra
+  pub added : (x : ℕ) → P x → Moved g shift x extra → ⊥
+  pub rest : (y : ℕ) → Q y → (y ≡ extra → ⊥) → (x : ℕ) × P x × Moved g shift x y
+
+-- j is in the block of the square i: the largest side-connected set of squares that i is in
+abbrev pub SameBlock : Grid → List ℕ → ℕ → ℕ → Type 0
+SameBlock g cells i j = Joined g (square cells) i j
+
+module _ (g : Grid) (arrows : List (List ℕ)) (cells : List ℕ) where
+  -- the block of i has exactly one arrow cell
+  pub record OneArrowCell (i : ℕ) : Type 0 where
+    pub cell : ℕ
+    pub within : SameBlock g cells i cell
+    pub arrow : onArrow arrows cell ≡ true
+    pub unique : (j : ℕ) → SameBlock g cells i j → onArrow arrows j ≡ true → j ≡ cell
+
+  -- i and j are squares of one arrow, i before j, with no square between
+  pub record Next (i j : ℕ) : Type 0 where
+    pub before : List ℕ
+    pub between : List ℕ
+    pub behind : List ℕ
+    pub arrow : List·Memᴰ (before ++ (i ∷ (between ++ (j ∷ behind)))) arrows
+    pub first : square cells i ≡ true
+    pub second : square cells j ≡ true
+    pub none : (k : ℕ) → List·Memᴰ k between → square cells k ≡ false
+
+  -- the block rules, for a fully decided board
+  pub record BlockRules : Type 0 where
+    -- each block has exactly one arrow cell
+    pub one : (i : ℕ) → i < size g → square cells i ≡ true → OneArrowCell i
+    -- for two squares on one arrow with none between them, the later cell's block is the earlier cell's block, grown
+    pub grown : (i j : ℕ) → Next i j → Grown g (SameBlock g cells i) (SameBlock g cells j)
+
+-- the same as tests
+
+-- the block, first cell f, shifted so that f comes to t, lies in the reach r
+unfoldable pub fits : Grid → List ℕ → List ℕ → ℕ → ℕ → Bool
+fits g b r f t =
+    all (λ c. any (λ d. eqb (row g d + row g f) (row g c + row g t) && eqb (col g d + col g f) (col g c + col g t)) r) b
+
+module _ (g : Grid) (arrows : List (List ℕ)) (cells : List ℕ) where
+  -- the block named f has exactly one arrow cell
+  unfoldable pub oneTest : List ℕ → ℕ → Bool
+  oneTest l f = eqb (length (filter (onArrow arrows) (group g (square cells) l f))) 1
+
+  -- the second block of the pair is the first, grown by one square
+  unfoldable pub grownTest : List ℕ → Pair → Bool
+  grownTest l p =
+      let f = getD l (p .last) 0 in
+      let b = group g (square cells) l f in
+      let c = group g (square cells) l (getD l (p .cur) 0) in
+      eqb (length c) (length b + 1) && any (fits g b c f) c
+
+  -- the block rules, computed
+  unfoldable pub rulesTest : Bool
+  rulesTest =
+      let l = labels g (square cells) in
+      all (oneTest l) (names g (square cells) l) && all (grownTest l) (flatMap (pairs cells) arrows)
