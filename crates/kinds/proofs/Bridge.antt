@@ -1,0 +1,297 @@
+-- The kinds that Kinds computes mean the predicates of Confine.
+-- Assumes nothing.
+use Prim.Native.Nat.{ℕ, _<_}
+use mathlib.Core.Logic.{_⊎_, inl, inr}
+use mathlib.Core.Path.{_≡_, refl, sym, ap, _∙_, subst}
+use mathlib.Core.Bool.{Bool, true, false, So, cond, _&&_, false≢true}
+use mathlib.Core.List.{List, [], _∷_, map, List·Memᴰ, List·Memᴰ·head, List·Memᴰ·not-nil, List·Memᴰ·eq-of-singleton, Memᴰ·map, Memᴰ·of-map}
+use native.Mathlib.Omega.{arith}
+use native.Mathlib.Decide.{decLt}
+use lib.Dec.{eqb}
+use lib.ListN.{getD, List·getD-eq-default}
+use borrow.Author.Tests.{eqb-true, eq-eqb}
+use Rattle.grid.proofs.ListLaws.{once-one, once-nil, length-map-range, getD-map-range, filter-mem, mem-filter, mem-upto, dec-so, so-false, and-true, true-and, any-mem, mem-any, once-mem, mem-once}
+use Rattle.grid.proofs.GridLaws.{dec-adjacent, adj-sym}
+use Rattle.grid.specs.Lists.{upto, filter}
+use Rattle.grid.specs.Grid.{Grid, size, cellsOf, neighbours, Adjacent}
+use Rattle.grid.specs.Link.{linked-end, linked-start, linked-trans}
+use Rattle.record.proofs.LineLaws.{ValidArrows}
+use Rattle.board.proofs.BoardLaws.{un-not-em, sq-not-un, sq-not-em, un-below, sq-below, cell-cases, ValidCells}
+use Rattle.board.specs.Board.{empty, square, undecided}
+use Rattle.groups.specs.Groups.{labels}
+use Rattle.groups.specs.Arrows.{onArrow}
+use Rattle.groups.proofs.GroupLaws.{Labels, labelled}
+use Rattle.kinds.specs.Kinds.{Kind, vacant, floating, inBlock, isFloating, isIn, isBeside, kindBeside, arrowBlock, blocksBeside, kindAt, kindsOf, has}
+use Rattle.kinds.specs.Meaning.{PartialBoard, Block, InArrow, Touch, Neighbour, Floating, Reach}
+use Rattle.kinds.proofs.Confine.{Decide}
+use Rattle.kinds.proofs.Decide.{all-decided, reach-decided}
+
+-- ---- kinds by tests
+
+-- kindAt, with its tests as arguments
+abbrev kindOf : Bool → Bool → Bool → ℕ → List ℕ → Kind
+kindOf e s a m l = cond e vacant (cond s (cond a (inBlock m) floating) (kindBeside l))
+
+in-of : (e s a : Bool) (m : ℕ) (l : List ℕ) (f : ℕ) → So (isIn f (kindOf e s a m l)) → So s × So a × (m ≡ f)
+unfolding isIn kindBeside
+in-of true s a m l f h = absurd (false≢true h)
+in-of false true true m l f h = (refl, refl, eqb-true m f h)
+in-of false true false m l f h = absurd (false≢true h)
+in-of false false a m [] f h = absurd (false≢true h)
+in-of false false a m (x ∷ []) f h = absurd (false≢true h)
+in-of false false a m (x ∷ y ∷ l) f h = absurd (false≢true h)
+
+beside-of : (e s a : Bool) (m : ℕ) (l : List ℕ) (f : ℕ) → So (isBeside f (kindOf e s a m l)) → (e ≡ false) × (s ≡ false) × (l ≡ f ∷ [])
+unfolding isBeside kindBeside
+beside-of true s a m l f h = absurd (false≢true h)
+beside-of false true true m l f h = absurd (false≢true h)
+beside-of false true false m l f h = absurd (false≢true h)
+beside-of false false a m [] f h = absurd (false≢true h)
+beside-of false false a m (x ∷ []) f h = (refl, refl, ap (λ y. y ∷ []) (eqb-true x f h))
+beside-of false false a m (x ∷ y ∷ l) f h = absurd (false≢true h)
+
+floating-of : (e s a : Bool) (m : ℕ) (l : List ℕ) → So (isFloating (kindOf e s a m l)) → (e ≡ false) × ((So s × (a ≡ false)) ⊎ ((s ≡ false) × (l ≡ [])))
+unfolding isFloating kindBeside
+floating-of true s a m l h = absurd (false≢true h)
+floating-of false true true m l h = absurd (false≢true h)
+floating-of false true false m l h = (refl, inl (refl, refl))
+floating-of false false a m [] h = (refl, inr (refl, refl))
+floating-of false false a m (x ∷ []) h = absurd (false≢true h)
+floating-of false false a m (x ∷ y ∷ l) h = absurd (false≢true h)
+
+vacant-of : (e s a : Bool) (m : ℕ) (l : List ℕ) → kindOf e s a m l ≡ vacant → So e
+unfolding kindBeside
+vacant-of true s a m l h = refl
+vacant-of false true true m l h = absurd (let z : _≡_ {A = ℕ} 0 1 = cc in omega arith)
+vacant-of false true false m l h = absurd (let z : _≡_ {A = ℕ} 0 1 = cc in omega arith)
+vacant-of false false a m [] h = absurd (let z : _≡_ {A = ℕ} 0 1 = cc in omega arith)
+vacant-of false false a m (x ∷ []) h = absurd (let z : _≡_ {A = ℕ} 0 1 = cc in omega arith)
+vacant-of false false a m (x ∷ y ∷ l) h = absurd (let z : _≡_ {A = ℕ} 0 1 = cc in omega arith)
+
+-- a grid with the arrows of a record, and the cells of a board
+pub record Setting : Type 0 where
+  pub grid : Grid
+  pub arrows : List (List ℕ)
+  pub lines : ValidArrows grid arrows
+  pub cells : List ℕ
+  pub valid : ValidCells grid cells
+
+module _ (set : Setting) where
+  open Setting set using (grid, arrows, cells, valid)
+
+  -- the board as Confine takes it
+  abbrev pub boardOf : PartialBoard
+  boardOf = record {
+    Adj = Adjacent grid;
+    adj-sym = adj-sym grid;
+    Arrow = λ c. So (onArrow arrows c);
+    Empty = λ c. So (empty cells c);
+    Square = λ c. So (square cells c);
+    Undecided = λ c. So (undecided cells c);
+    cases = λ c. cell-cases cells c (valid .three c);
+  }
+
+  -- squares and undecided cells lie on the grid
+  pub sq< : (c : ℕ) → So (square cells c) → c < size grid
+  sq< c s = omega (arith, sq-below cells c s, valid .long)
+
+  pub un< : (c : ℕ) → So (undecided cells c) → c < size grid
+  un< c s = omega (arith, un-below cells c s, valid .long)
+
+  -- the name of the block of a square
+  abbrev pub blockLabel : ℕ → ℕ
+  blockLabel i = getD (labels grid (square cells)) i 0
+
+  -- the kinds of all cells
+  abbrev pub kinds : List Kind
+  kinds = kindsOf grid arrows cells (labels grid (square cells))
+
+  -- the kind of a cell
+  abbrev pub kind : ℕ → Kind
+  kind = kindAt grid arrows cells (labels grid (square cells))
+
+  -- the block named f has an arrow cell
+  abbrev pub arrowed : ℕ → Bool
+  arrowed = arrowBlock grid arrows cells (labels grid (square cells))
+
+  -- the arrow blocks around a cell, with repetitions
+  abbrev pub around : ℕ → List ℕ
+  around i = map blockLabel (filter (λ j. square cells j && arrowed (blockLabel j)) (neighbours grid i))
+
+  -- the arrow blocks around a cell, each once
+  abbrev pub listed : ℕ → List ℕ
+  listed = blocksBeside grid arrows cells (labels grid (square cells))
+
+  -- the kind of a cell of the grid
+  pub kind-get : (i : ℕ) → i < size grid → getD kinds i vacant ≡ kind i
+  unfolding kindsOf cellsOf upto
+  kind-get i l = getD-map-range kind 0 (size grid) i vacant l ∙ ap kind (omega arith)
+
+  -- what a kind says of the cell
+  pub kind-vacant : (i : ℕ) → kind i ≡ vacant → So (empty cells i)
+  unfolding kindAt
+  kind-vacant i e = vacant-of (empty cells i) (square cells i) (arrowed (blockLabel i)) (blockLabel i) (listed i) e
+
+  pub kind-in-block : (i x : ℕ) → kind i ≡ inBlock x → So (square cells i)
+  unfolding kindAt isIn
+  kind-in-block i x e = in-of (empty cells i) (square cells i) (arrowed (blockLabel i)) (blockLabel i) (listed i) x (subst (λ z. So (isIn x z)) (sym e) (eq-eqb x x refl)) .0
+
+  has-so : (p : Kind → Bool) → ¬ So (p vacant) → (i : ℕ) → So (has p kinds i) → (i < size grid) × So (p (kind i))
+  unfolding has kindsOf cellsOf upto
+  has-so p v i h = go (decLt i (size grid))
+    where
+      go : Dec (i < size grid) → (i < size grid) × So (p (kind i))
+      go (yes l) = (l, subst (λ z. So (p z)) (getD-map-range kind 0 (size grid) i vacant l ∙ ap kind (omega arith)) h)
+      go (no l) = absurd (v (subst (λ z. So (p z)) (List·getD-eq-default kinds vacant {n = i} (omega (arith, length-map-range kind 0 (size grid)))) h))
+
+  so-has : (p : Kind → Bool) (i : ℕ) → i < size grid → So (p (kind i)) → So (has p kinds i)
+  unfolding has kindsOf cellsOf upto
+  so-has p i l h = subst (λ z. So (p z)) (sym (getD-map-range kind 0 (size grid) i vacant l ∙ ap kind (omega arith))) h
+
+  -- the law of the blocks' names
+  pub block-labels : Labels grid (square cells)
+  block-labels = labelled grid (square cells) sq<
+
+  -- blocks, touching and the like are decided
+  pub decisions : Decide boardOf
+  decisions = all-decided boardOf (size grid) (dec-adjacent grid) (λ c. dec-so (onArrow arrows c)) (λ c. dec-so (square cells c)) (λ c. dec-so (undecided cells c)) sq< un<
+
+  -- the reach is decided
+  pub dec-reach : (a c : ℕ) → Dec (Reach boardOf a c)
+  dec-reach = reach-decided boardOf (size grid) (dec-adjacent grid) (λ c. dec-so (onArrow arrows c)) (λ c. dec-so (square cells c)) (λ c. dec-so (undecided cells c)) sq< un<
+
+  -- a name is an arrow block's
+  arrowed-so : (f : ℕ) → So (arrowed f) → (d : ℕ) × So (square cells d) × So (onArrow arrows d) × (blockLabel d ≡ f)
+  unfolding arrowBlock
+  arrowed-so f h =
+      let r = any-mem _ (cellsOf grid) h in
+      let q = and-true (square cells (r .0) && eqb (blockLabel (r .0)) f) _ (r .2) in
+      let q′ = and-true (square cells (r .0)) _ (q .0) in
+      (r .0, q′ .0, q .1, eqb-true _ _ (q′ .1))
+
+  so-arrowed : (f d : ℕ) → So (square cells d) → So (onArrow arrows d) → blockLabel d ≡ f → So (arrowed f)
+  unfolding arrowBlock cellsOf
+  so-arrowed f d s a e = mem-any _ (cellsOf grid) (mem-upto (size grid) (sq< d s)) (true-and (true-and s (eq-eqb _ _ e)) a)
+
+  -- a square's block has an arrow cell
+  pub arrowed-in : (c : ℕ) → So (square cells c) → So (arrowed (blockLabel c)) → InArrow boardOf c
+  arrowed-in c s h = let r = arrowed-so (blockLabel c) h in (r .0, r .2, block-labels .same (r .0) c (r .1) s (r .3))
+
+  pub in-arrowed : (c : ℕ) → InArrow boardOf c → So (arrowed (blockLabel c))
+  in-arrowed c (d, a, l) = so-arrowed (blockLabel c) d (linked-start l) a (block-labels .linked d c l)
+
+  -- what the kind of a cell of an arrow block says
+  pub kind-arrow : (i x : ℕ) → kind i ≡ inBlock x → InArrow boardOf i × (blockLabel i ≡ x)
+  unfolding kindAt isIn
+  kind-arrow i x e =
+      let q = in-of (empty cells i) (square cells i) (arrowed (blockLabel i)) (blockLabel i) (listed i) x (subst (λ z. So (isIn x z)) (sym e) (eq-eqb x x refl)) in
+      (arrowed-in i (q .0) (q .1), q .2)
+
+  -- the blocks around an undecided cell
+  pub around-so : (i f : ℕ) → i < size grid → List·Memᴰ f (around i) → (d : ℕ) × So (onArrow arrows d) × Touch boardOf d i × (blockLabel d ≡ f) × So (square cells d)
+  around-so i f l m =
+      let r = Memᴰ·of-map blockLabel _ m in
+      let q = filter-mem (λ j. square cells j && arrowed (blockLabel j)) (neighbours grid i) (r .1) in
+      let q′ = and-true (square cells (r .0)) _ (q .1) in
+      let w = arrowed-so (blockLabel (r .0)) (q′ .1) in
+      (w .0, w .2, (r .0, (l, q .0), block-labels .same (w .0) (r .0) (w .1) (q′ .0) (w .3)), w .3 ∙ r .2, w .1)
+
+  pub so-around : (i d : ℕ) → So (onArrow arrows d) → Touch boardOf d i → List·Memᴰ (blockLabel d) (around i)
+  so-around i d a (y, e, l) = subst (λ x. List·Memᴰ x (around i)) (sym (block-labels .linked d y l))
+      (Memᴰ·map blockLabel (mem-filter (λ j. square cells j && arrowed (blockLabel j)) (neighbours grid i) (e .1) (true-and (linked-end l) (in-arrowed y (d, a, l)))))
+
+  -- the three kinds
+  pub in-blk : (a i : ℕ) → So (square cells a) → So (has (isIn (blockLabel a)) kinds i) → Block boardOf a i
+  unfolding kindAt isIn
+  in-blk a i sa h =
+      let r = has-so (isIn (blockLabel a)) false≢true i h in
+      let q = in-of (empty cells i) (square cells i) (arrowed (blockLabel i)) (blockLabel i) (listed i) (blockLabel a) (r .1) in
+      block-labels .same a i sa (q .0) (sym (q .2))
+
+  pub blk-in : (a i : ℕ) → So (onArrow arrows a) → Block boardOf a i → So (has (isIn (blockLabel a)) kinds i)
+  unfolding kindAt isIn
+  blk-in a i ar l = so-has (isIn (blockLabel a)) i (sq< i (linked-end l))
+      (rw (so-false (empty cells i) (sq-not-em cells i (linked-end l)), linked-end l, in-arrowed i (a, ar, l)) (eq-eqb _ _ (sym (block-labels .linked a i l))))
+
+  pub listed-mem : (i f : ℕ) → List·Memᴰ f (listed i) → List·Memᴰ f (around i)
+  unfolding blocksBeside
+  listed-mem i f m = once-mem (around i) m
+
+  pub mem-listed : (i f : ℕ) → List·Memᴰ f (around i) → List·Memᴰ f (listed i)
+  unfolding blocksBeside
+  mem-listed i f m = mem-once (around i) m
+
+  pub undecided-so : (i : ℕ) → empty cells i ≡ false → square cells i ≡ false → So (undecided cells i)
+  undecided-so i e s = go (cell-cases cells i (valid .three i))
+    where
+      go : So (empty cells i) ⊎ So (square cells i) ⊎ So (undecided cells i) → So (undecided cells i)
+      go (inl z) = absurd (false≢true (sym e ∙ z))
+      go (inr (inl z)) = absurd (false≢true (sym s ∙ z))
+      go (inr (inr z)) = z
+
+  pub un-sq-false : (i : ℕ) → So (undecided cells i) → square cells i ≡ false
+  un-sq-false i u = so-false (square cells i) (λ z. sq-not-un cells i z u)
+
+  pub un-em-false : (i : ℕ) → So (undecided cells i) → empty cells i ≡ false
+  un-em-false i u = so-false (empty cells i) (un-not-em cells i u)
+
+  -- beside the arrow block of a only
+  pub beside-nbr : (a i : ℕ) → So (square cells a) → So (has (isBeside (blockLabel a)) kinds i) → Neighbour boardOf a i
+  unfolding kindAt isBeside
+  beside-nbr a i sa h =
+      let r = has-so (isBeside (blockLabel a)) false≢true i h in
+      let q = beside-of (empty cells i) (square cells i) (arrowed (blockLabel i)) (blockLabel i) (listed i) (blockLabel a) (r .1) in
+      let w = around-so i (blockLabel a) (r .0) (listed-mem i (blockLabel a) (subst (λ z. List·Memᴰ (blockLabel a) z) (sym (q .2)) (List·Memᴰ·head refl))) in (
+        undecided-so i (q .0) (q .1),
+        near (w .0) (w .2) (block-labels .same a (w .0) sa (w .4) (sym (w .3))),
+        λ (d, ad, nb, (y, e, l)). nb (block-labels .same a d sa (linked-start l)
+            (sym (List·Memᴰ·eq-of-singleton (subst (λ z. List·Memᴰ (blockLabel d) z) (q .2) (mem-listed i (blockLabel d) (so-around i d ad (y, e, l))))))),
+      )
+    where
+      near : (d : ℕ) → Touch boardOf d i → Block boardOf a d → Touch boardOf a i
+      near d (y, e, l) k = (y, e, linked-trans k l)
+
+  pub nbr-beside : (a i : ℕ) → So (onArrow arrows a) → Neighbour boardOf a i → So (has (isBeside (blockLabel a)) kinds i)
+  unfolding kindAt isBeside blocksBeside kindBeside
+  nbr-beside a i ar (u, t, nf) = so-has (isBeside (blockLabel a)) i (un< i u)
+      (rw (un-em-false i u, un-sq-false i u, once-one (around i) (blockLabel a) (so-around i a ar t) all-a) (eq-eqb (blockLabel a) (blockLabel a) refl))
+    where
+      all-a : (x : ℕ) → List·Memᴰ x (around i) → x ≡ blockLabel a
+      all-a x m = let w = around-so i x (un< i u) m in go (w .0) (w .1) (w .2) (w .3) (decisions .blk a (w .0))
+        where
+          go : (d : ℕ) → So (onArrow arrows d) → Touch boardOf d i → blockLabel d ≡ x → Dec (Block boardOf a d) → x ≡ blockLabel a
+          go d ad t e (yes b) = sym e ∙ sym (block-labels .linked a d b)
+          go d ad t e (no b) = absurd (nf (d, ad, b, t))
+
+  -- floating
+  pub floating-so : (i : ℕ) → So (has isFloating kinds i) → Floating boardOf i
+  unfolding kindAt isFloating
+  floating-so i h = go (q .0) (q .1)
+    where
+      r : (i < size grid) × So (isFloating (kind i))
+      r = has-so isFloating false≢true i h
+
+      q : (empty cells i ≡ false) × ((So (square cells i) × (arrowed (blockLabel i) ≡ false)) ⊎ ((square cells i ≡ false) × (listed i ≡ [])))
+      q = floating-of (empty cells i) (square cells i) (arrowed (blockLabel i)) (blockLabel i) (listed i) (r .1)
+
+      go : empty cells i ≡ false → (So (square cells i) × (arrowed (blockLabel i) ≡ false)) ⊎ ((square cells i ≡ false) × (listed i ≡ [])) → Floating boardOf i
+      go e (inl (s, n)) = inl (s, λ w. false≢true (sym n ∙ in-arrowed i w))
+      go e (inr (s, n)) = inr (undecided-so i e s, λ (d, ad, t). List·Memᴰ·not-nil (subst (λ z. List·Memᴰ (blockLabel d) z) n (mem-listed i (blockLabel d) (so-around i d ad t))))
+
+  pub so-floating : (i : ℕ) → Floating boardOf i → So (has isFloating kinds i)
+  unfolding kindAt isFloating blocksBeside kindBeside
+  so-floating i (inl (s, n)) = so-has isFloating i (sq< i s)
+      (rw (so-false (empty cells i) (sq-not-em cells i s), s, so-false (arrowed (blockLabel i)) (λ z. n (arrowed-in i s z))))
+  so-floating i (inr (u, n)) = so-has isFloating i (un< i u)
+      (rw (un-em-false i u, un-sq-false i u, once-nil (around i) (λ x m. let w = around-so i x (un< i u) m in n (w .0, w .1, w .2))))
+
+  floats< : (c : ℕ) → So (has isFloating kinds c) → c < size grid
+  floats< c h = go (floating-so c h)
+    where
+      go : Floating boardOf c → c < size grid
+      go (inl s) = sq< c (s .0)
+      go (inr u) = un< c (u .0)
+
+  -- the law of the floating groups' names
+  pub float-labels : Labels grid (has isFloating kinds)
+  float-labels = labelled grid (has isFloating kinds) floats<

@@ -1,0 +1,274 @@
+-- Arrays that are filled cell by cell, and arrays of marks that are set in any order.
+-- Assumes nothing.
+use Prim.Native.Nat.{ℕ, zero, suc, _+_, _-_, _≤_, _<_}
+use native.Mathlib.Nat.{add-zero, zero-add}
+use native.Mathlib.Numerals.{add-one}
+use native.Mathlib.Decide.{ℕ-discrete, decLt}
+use native.Mathlib.Omega.{arith}
+use mathlib.Core.Bool.{Bool, true, false, cond, _&&_, _||_}
+use mathlib.Core.Path.{_≡_, refl, sym, ap, _∙_, subst}
+use mathlib.Core.List.{List, [], _∷_, _++_, map}
+use lib.Dec.{eqb}
+use lib.ListN.{length, getD, set, replicate, length-append, length-set, length-replicate, getD-replicate}
+use lib.Seq.{ext-getD, getD-set-same, getD-set-other, set-getD}
+use borrow.Author.Tests.{eq-eqb, ne-eqb}
+use Rattle.grid.specs.Lists.{range, upto, filter, any, arrayOf}
+use Rattle.grid.specs.Grid.{Grid, size, cellsOf, neighbours}
+use Rattle.grid.proofs.ListLaws.{length-range, filter-length, length-map-range, getD-map-range}
+use Rattle.grid.proofs.ArrayLaws.{array-length, array-in, array-out, array-more}
+use Rattle.groups.specs.Groups.{maskOf}
+use Rattle.kinds.specs.Kinds.{kindCode, ownerBy}
+use Rattle.kinds.specs.Inside.{Marks, arrowAmong, kindIn, codesIn, ownersIn, nearAt, nearAmong, reaches, reachesAt, Counted, miss, hit, Reached}
+
+-- ---- one more
+
+range-more : (a k : ℕ) → range a (suc k) ≡ range a k ++ ((a + k) ∷ [])
+unfolding range
+range-more a zero = ap (λ (x : ℕ). x ∷ []) (sym (add-zero a))
+range-more a (suc k) = ap (λ (l : List ℕ). a ∷ l) (range-more (suc a) k ∙ ap (λ (x : ℕ). range (suc a) k ++ (x ∷ [])) (omega arith))
+
+pub upto-more : (k : ℕ) → upto (k + 1) ≡ upto k ++ (k ∷ [])
+unfolding upto
+upto-more k = ap (range 0) (add-one k) ∙ range-more 0 k ∙ ap (λ (x : ℕ). range 0 k ++ (x ∷ [])) (zero-add k)
+
+module _ {A : Type 0} where
+  pub map-append : {B : Type 0} (f : A → B) (l m : List A) → map f (l ++ m) ≡ map f l ++ map f m
+  map-append f [] m = refl
+  map-append f (x ∷ l) m = ap (λ t. f x ∷ t) (map-append f l m)
+
+  pub any-append : (p : A → Bool) (l m : List A) → any p (l ++ m) ≡ (any p l || any p m)
+  unfolding any
+  any-append p [] m = refl
+  any-append p (x ∷ l) m = go (p x) (any-append p l m)
+    where
+      go : (b : Bool) → any p (l ++ m) ≡ (any p l || any p m) → (b || any p (l ++ m)) ≡ ((b || any p l) || any p m)
+      go true h = refl
+      go false h = h
+
+  pub filter-append : (p : A → Bool) (l m : List A) → filter p (l ++ m) ≡ filter p l ++ filter p m
+  unfolding filter
+  filter-append p [] m = refl
+  filter-append p (x ∷ l) m = go (p x) (filter-append p l m)
+    where
+      go : (b : Bool) → filter p (l ++ m) ≡ filter p l ++ filter p m → cond b (x ∷ filter p (l ++ m)) (filter p (l ++ m)) ≡ cond b (x ∷ filter p l) (filter p l) ++ filter p m
+      go true h = ap (λ t. x ∷ t) h
+      go false h = h
+
+or-false : (b : Bool) → (b || false) ≡ b
+or-false true = refl
+or-false false = refl
+
+-- one more cell is tested
+pub any-more : (p : ℕ → Bool) (k : ℕ) → any p (upto (k + 1)) ≡ (any p (upto k) || p k)
+unfolding any
+any-more p k = ap (any p) (upto-more k) ∙ any-append p (upto k) (k ∷ []) ∙ ap (λ (b : Bool). any p (upto k) || b) (or-false (p k))
+
+-- one more cell is counted
+pub count-hit : (p : ℕ → Bool) (k : ℕ) → p k ≡ true → length (filter p (upto (k + 1))) ≡ length (filter p (upto k)) + 1
+unfolding filter
+count-hit p k h = ap (λ (l : List ℕ). length (filter p l)) (upto-more k) ∙ ap length (filter-append p (upto k) (k ∷ [])) ∙ length-append (filter p (upto k)) (filter p (k ∷ [])) ∙ rw h refl
+
+pub count-miss : (p : ℕ → Bool) (k : ℕ) → p k ≡ false → length (filter p (upto (k + 1))) ≡ length (filter p (upto k))
+unfolding filter
+count-miss p k h = ap (λ (l : List ℕ). length (filter p l)) (upto-more k) ∙ ap length (filter-append p (upto k) (k ∷ [])) ∙ length-append (filter p (upto k)) (filter p (k ∷ [])) ∙ rw h (add-zero (length (filter p (upto k))))
+
+-- ---- filled cell by cell: the values F of the first k cells, and d behind them
+
+module _ (d : ℕ) (F : ℕ → ℕ) where
+  pub filled-none : replicate 1024 d ≡ arrayOf d (map F (upto 0))
+  unfolding arrayOf upto range
+  filled-none = refl
+
+  upto-length : (k : ℕ) → length (map F (upto k)) ≡ k
+  unfolding upto
+  upto-length k = length-map-range F 0 k
+
+  pub filled-more : (k v : ℕ) → k < 1024 → v ≡ F k → set (arrayOf d (map F (upto k))) k v ≡ arrayOf d (map F (upto (k + 1)))
+  filled-more k v h e =
+      subst (λ (i : ℕ). set (arrayOf d (map F (upto k))) i v ≡ arrayOf d (map F (upto k) ++ (v ∷ []))) (upto-length k)
+      (array-more d (map F (upto k)) v (omega (arith, upto-length k)))
+      ∙ ap (arrayOf d) (ap (λ (x : ℕ). map F (upto k) ++ (x ∷ [])) e ∙ sym (map-append F (upto k) (k ∷ [])) ∙ ap (map F) (sym (upto-more k)))
+
+  pub filled-length : (k : ℕ) → k ≤ 1024 → length (arrayOf d (map F (upto k))) ≡ 1024
+  filled-length k h = array-length d (map F (upto k)) (omega (arith, upto-length k))
+
+  pub filled-at : (k i : ℕ) → i < k → getD (arrayOf d (map F (upto k))) i 0 ≡ F i
+  unfolding upto
+  filled-at k i h = array-in d (map F (upto k)) 0 i (omega (arith, upto-length k)) ∙ getD-map-range F 0 k i 0 h ∙ ap F (zero-add i)
+
+  pub filled-past : (k i : ℕ) → k ≤ i → i < 1024 → getD (arrayOf d (map F (upto k))) i 0 ≡ d
+  filled-past k i h l = array-out d (map F (upto k)) 0 i (omega (arith, upto-length k)) l
+
+  -- a place that holds d already
+  pub filled-skip : (k : ℕ) → k < 1024 → F k ≡ d → arrayOf d (map F (upto (k + 1))) ≡ arrayOf d (map F (upto k))
+  filled-skip k h e = sym (filled-more k d h (sym e)) ∙ ap (set (arrayOf d (map F (upto k))) k) (sym (filled-past k k (omega arith) h)) ∙ set-getD (arrayOf d (map F (upto k))) k 0
+
+  -- an array is known by its places
+  pub filled-is : (k : ℕ) (L : List ℕ) → k ≤ 1024 → length L ≡ 1024 → ((i : ℕ) → i < k → getD L i 0 ≡ F i) → ((i : ℕ) → k ≤ i → i < 1024 → getD L i 0 ≡ d) → L ≡ arrayOf d (map F (upto k))
+  filled-is k L h long front back =
+      ext-getD 0 L (arrayOf d (map F (upto k))) (long ∙ sym (filled-length k h)) (λ i l. by i (omega arith) (decLt i k))
+    where
+      by : (i : ℕ) → i < 1024 → Dec (i < k) → getD L i 0 ≡ getD (arrayOf d (map F (upto k))) i 0
+      by i l (yes m) = front i m ∙ sym (filled-at k i m)
+      by i l (no m) = back i (omega arith) l ∙ sym (filled-past k i (omega arith) l)
+
+-- two fillings that agree on the cells
+pub filled-same : (d : ℕ) (F G : ℕ → ℕ) (k : ℕ) → k ≤ 1024 → ((i : ℕ) → i < k → F i ≡ G i) → arrayOf d (map F (upto k)) ≡ arrayOf d (map G (upto k))
+filled-same d F G k h e = filled-is d G k (arrayOf d (map F (upto k))) h (filled-length d F k h) (λ i l. filled-at d F k i l ∙ e i l) (filled-past d F k)
+
+-- ---- marks
+
+pub marks-none : Marks (replicate 1024 0) (λ m. false)
+marks-none = record { long = length-replicate {A = ℕ} 1024 0; at = λ m h. getD-replicate {A = ℕ} 1024 m 0 0 h }
+
+pub marks-same : {M : List ℕ} (t u : ℕ → Bool) → ((m : ℕ) → m < 1024 → t m ≡ u m) → Marks M t → Marks M u
+marks-same t u e k = record { long = k .long; at = λ m h. k .at m h ∙ ap (λ (b : Bool). cond b 1 0) (e m h) }
+
+-- a mark is set
+pub marks-set : {M : List ℕ} (t : ℕ → Bool) (q : ℕ) → q < 1024 → Marks M t → Marks (set M q 1) (λ m. t m || eqb q m)
+marks-set {M} t q h k = record { long = length-set M q 1 ∙ k .long; at = λ m l. by m l (ℕ-discrete m q) }
+  where
+    or-true : (b : Bool) → _≡_ {A = ℕ} (cond (b || true) 1 0) 1
+    or-true true = refl
+    or-true false = refl
+
+    by : (m : ℕ) → m < 1024 → Dec (m ≡ q) → getD (set M q 1) m 0 ≡ cond (t m || eqb q m) 1 0
+    by m l (yes e) = rw (eq-eqb q m (sym e)) (ap (λ (i : ℕ). getD (set M q 1) i 0) e ∙ getD-set-same M q 1 0 (omega (arith, k .long)) ∙ sym (or-true (t m)))
+    by m l (no ne) = rw (ne-eqb q m (λ e. ne (sym e)), or-false (t m)) (getD-set-other M q m 1 0 ne ∙ k .at m l)
+
+-- the marks of a grid's cells
+pub marks-mask : (g : Grid) {M : List ℕ} (t : ℕ → Bool) → size g ≤ 1024 → ((m : ℕ) → size g ≤ m → t m ≡ false) → Marks M t → M ≡ maskOf g t
+unfolding maskOf cellsOf
+marks-mask g {M} t h out k = filled-is 0 (λ i. cond (t i) 1 0) (size g) M h (k .long) (λ i l. k .at i (omega arith)) (λ i l m. k .at i m ∙ rw (out i l))
+
+-- the mask at a cell of the grid
+pub mask-at : (g : Grid) (t : ℕ → Bool) (i : ℕ) → i < size g → getD (maskOf g t) i 0 ≡ cond (t i) 1 0
+unfolding maskOf cellsOf
+mask-at g t i h = filled-at 0 (λ i. cond (t i) 1 0) (size g) i h
+
+-- a mark is 1 exactly where the test passes
+pub mark-test : (b : Bool) → eqb (cond b 1 0) 1 ≡ b
+mark-test true = refl
+mark-test false = refl
+
+-- ---- the name at a place is marked if the place has the tag
+module _ {M : List ℕ} (t : ℕ → Bool) (has tag f : ℕ) (k : Marks M t) where
+  -- the marks afterwards
+  abbrev then : ℕ → Bool
+  then m = t m || (eqb has tag && eqb f m)
+
+  pub name-off : (has ≡ tag → ⊥) → Marks M then
+  name-off h = marks-same t then (λ m l. rw (ne-eqb has tag h) (sym (or-false (t m)))) k
+
+  pub name-none : 1024 ≤ f → Marks M then
+  name-none h = marks-same t then (λ m l. rw (ne-eqb f m (λ e. omega (arith, e))) (go (eqb has tag) (t m))) k
+    where
+      go : (b c : Bool) → c ≡ (c || (b && false))
+      go true true = refl
+      go true false = refl
+      go false true = refl
+      go false false = refl
+
+  pub name-set : has ≡ tag → f < 1024 → Marks (set M f 1) then
+  name-set e h = marks-same (λ m. t m || eqb f m) then (λ m l. rw (eq-eqb has tag e)) (marks-set t f h k)
+
+-- ---- the marks of arrow blocks
+
+pub among-none : {M : List ℕ} (blocks ons : List ℕ) → Marks M (λ m. false) → Marks M (arrowAmong blocks ons 0)
+unfolding arrowAmong upto range any
+among-none blocks ons k = k
+
+pub among-more : {M : List ℕ} (blocks ons : List ℕ) (i : ℕ) → Marks M (λ m. arrowAmong blocks ons i m || (eqb (getD ons i 0) 1 && eqb (getD blocks i 0) m)) → Marks M (arrowAmong blocks ons (i + 1))
+unfolding arrowAmong
+among-more blocks ons i k =
+    marks-same (λ m. arrowAmong blocks ons i m || (eqb (getD ons i 0) 1 && eqb (getD blocks i 0) m)) (arrowAmong blocks ons (i + 1))
+    (λ m l. sym (any-more (λ j. eqb (getD ons j 0) 1 && eqb (getD blocks j 0) m) i)) k
+
+-- ---- the kinds of the cells passed
+
+module _ (blocks arrowed : List ℕ) (g : Grid) (cells : List ℕ) where
+  pub codes-none : replicate 1024 0 ≡ codesIn blocks arrowed g cells 0
+  unfolding codesIn
+  codes-none = filled-none 0 (λ i. kindCode (kindIn blocks arrowed g cells i))
+
+  pub codes-more : (K : List ℕ) (i : ℕ) → i < 1024 → K ≡ codesIn blocks arrowed g cells i → set K i (kindCode (kindIn blocks arrowed g cells i)) ≡ codesIn blocks arrowed g cells (i + 1)
+  unfolding codesIn
+  codes-more K i h e = rw e (filled-more 0 (λ i. kindCode (kindIn blocks arrowed g cells i)) i (kindCode (kindIn blocks arrowed g cells i)) h refl)
+
+  pub owners-none : replicate 1024 1024 ≡ ownersIn blocks arrowed g cells 0
+  unfolding ownersIn
+  owners-none = filled-none 1024 (λ i. ownerBy 1024 (kindIn blocks arrowed g cells i))
+
+  pub owners-more : (L : List ℕ) (i : ℕ) → i < 1024 → L ≡ ownersIn blocks arrowed g cells i → set L i (ownerBy 1024 (kindIn blocks arrowed g cells i)) ≡ ownersIn blocks arrowed g cells (i + 1)
+  unfolding ownersIn
+  owners-more L i h e = rw e (filled-more 1024 (λ i. ownerBy 1024 (kindIn blocks arrowed g cells i)) i (ownerBy 1024 (kindIn blocks arrowed g cells i)) h refl)
+
+  pub owners-length : (k : ℕ) → k ≤ 1024 → length (ownersIn blocks arrowed g cells k) ≡ 1024
+  unfolding ownersIn
+  owners-length k h = filled-length 1024 (λ i. ownerBy 1024 (kindIn blocks arrowed g cells i)) k h
+
+-- ---- the marks of floating groups near a block
+
+module _ (kinds owners : List ℕ) (f : ℕ) where
+  -- a cell that is no neighbour of f
+  pub near-off : {M : List ℕ} (t : ℕ → Bool) (i : ℕ) (js : List ℕ) → (eqb (getD kinds i 0) 2 && eqb (getD owners i 0) f) ≡ false → Marks M t → Marks M (λ m. t m || nearAt kinds owners f i js m)
+  unfolding nearAt
+  near-off t i js e k = marks-same t (λ m. t m || nearAt kinds owners f i js m) (λ m l. rw e (sym (or-false (t m)))) k
+
+  -- a neighbour of f: none, one more and all of its neighbours are passed
+  pub near-none : {M : List ℕ} (t : ℕ → Bool) → Marks M t → Marks M (λ m. t m || any (λ j. eqb (getD kinds j 0) 4 && eqb (getD owners j 0) m) [])
+  unfolding any
+  near-none t k = marks-same t (λ m. t m || false) (λ m l. sym (or-false (t m))) k
+
+  pub near-more : {M : List ℕ} (t : ℕ → Bool) (js : List ℕ) (j : ℕ) → Marks M (λ m. (t m || any (λ j. eqb (getD kinds j 0) 4 && eqb (getD owners j 0) m) js) || (eqb (getD kinds j 0) 4 && eqb (getD owners j 0) m))
+      → Marks M (λ m. t m || any (λ j. eqb (getD kinds j 0) 4 && eqb (getD owners j 0) m) (js ++ (j ∷ [])))
+  unfolding any
+  near-more t js j k = marks-same _ (λ m. t m || any (λ j. eqb (getD kinds j 0) 4 && eqb (getD owners j 0) m) (js ++ (j ∷ [])))
+      (λ m l. or-assoc (t m) (any (λ j. eqb (getD kinds j 0) 4 && eqb (getD owners j 0) m) js) (eqb (getD kinds j 0) 4 && eqb (getD owners j 0) m)
+      ∙ ap (λ (b : Bool). t m || b) (ap (λ (b : Bool). any (λ j. eqb (getD kinds j 0) 4 && eqb (getD owners j 0) m) js || b) (sym (or-false _)) ∙ sym (any-append (λ j. eqb (getD kinds j 0) 4 && eqb (getD owners j 0) m) js (j ∷ [])))) k
+    where
+      or-assoc : (a b c : Bool) → ((a || b) || c) ≡ (a || (b || c))
+      or-assoc true b c = refl
+      or-assoc false b c = refl
+
+  pub near-all : {M : List ℕ} (t : ℕ → Bool) (i : ℕ) (js : List ℕ) → getD kinds i 0 ≡ 2 → getD owners i 0 ≡ f → Marks M (λ m. t m || any (λ j. eqb (getD kinds j 0) 4 && eqb (getD owners j 0) m) js) → Marks M (λ m. t m || nearAt kinds owners f i js m)
+  unfolding nearAt
+  near-all t i js e q k = marks-same _ (λ m. t m || nearAt kinds owners f i js m) (λ m l. rw (eq-eqb (getD kinds i 0) 2 e, eq-eqb (getD owners i 0) f q)) k
+
+  -- the cells in row order
+  pub among-near-none : {M : List ℕ} (g : Grid) → Marks M (λ m. false) → Marks M (nearAmong kinds owners g f 0)
+  unfolding nearAmong upto range any
+  among-near-none g k = k
+
+  pub among-near-more : {M : List ℕ} (g : Grid) (i : ℕ) → Marks M (λ m. nearAmong kinds owners g f i m || nearAt kinds owners f i (neighbours g i) m) → Marks M (nearAmong kinds owners g f (i + 1))
+  unfolding nearAmong
+  among-near-more g i k =
+      marks-same (λ m. nearAmong kinds owners g f i m || nearAt kinds owners f i (neighbours g i) m) (nearAmong kinds owners g f (i + 1))
+      (λ m l. sym (any-more (λ j. nearAt kinds owners f j (neighbours g j) m) i)) k
+
+-- ---- the marks of the reach
+
+module _ (kinds owners near : List ℕ) (f : ℕ) where
+  -- the mark of cell i
+  abbrev mark : ℕ → ℕ
+  mark i = cond (reachesAt kinds owners near f i) 1 0
+
+  pub reached-none : Reached kinds owners near f 0 (replicate 1024 0) 0
+  unfolding filter upto range
+  reached-none = record { marked = filled-none 0 mark; number = refl }
+
+  pub reached-more : {L L′ : List ℕ} {k c r : ℕ} → k < 1024 → Counted (reaches near f (getD kinds k 0) (getD owners k 0)) k L c L′ r → Reached kinds owners near f k L c → Reached kinds owners near f (k + 1) L′ r
+  unfolding reachesAt
+  reached-more {L} {L′} {k} h (miss t l e) R = record {
+    marked = l ∙ R .marked ∙ sym (filled-skip 0 mark k h (rw t));
+    number = e ∙ R .number ∙ sym (count-miss (reachesAt kinds owners near f) k t);
+  }
+  reached-more {L} {L′} {k} h (hit t l e) R = record {
+    marked = l ∙ ap (λ (x : List ℕ). set x k 1) (R .marked) ∙ filled-more 0 mark k 1 h (rw t);
+    number = e ∙ ap (λ (x : ℕ). x + 1) (R .number) ∙ sym (count-hit (reachesAt kinds owners near f) k t);
+  }
+
+  -- no more are counted than passed
+  pub reached-few : {L : List ℕ} {k c : ℕ} → Reached kinds owners near f k L c → c ≤ k
+  unfolding upto
+  reached-few {k = k} R = omega (arith, R .number, filter-length (reachesAt kinds owners near f) (upto k), length-range 0 k)

@@ -1,0 +1,16 @@
+pub mod Confine
+pub mod Decide
+pub mod Bridge
+pub mod Fence
+pub mod KindLaws
+pub mod FenceMeaning
+pub mod Filled
+pub mod Insertion
+pub mod Traversal
+pub mod Turns
+pub mod Owners
+pub mod Views
+pub mod Reaches
+pub mod Ordering
+pub mod Fences
+pub mod FenceList

@@ -1,0 +1,311 @@
+-- The arrays that are computed hold the view of the board.
+-- Assumes nothing.
+use Prim.Native.Nat.{ℕ, _*_, _≤_, _<_}
+use native.Mathlib.Nat.{zero-add}
+use native.Mathlib.Decide.{decLt}
+use native.Mathlib.Omega.{arith}
+use mathlib.Core.Logic.{_⊎_, inl, inr}
+use mathlib.Core.Path.{_≡_, refl, sym, ap, _∙_}
+use mathlib.Core.Bool.{Bool, true, false, So, cond, _&&_, false≢true}
+use mathlib.Core.List.{List, [], _∷_, map, List·Memᴰ, List·Memᴰ·head, List·Memᴰ·tail}
+use lib.Dec.{eqb, ltb}
+use lib.ListN.{length, getD, take, List·getD-eq-default}
+use lib.Seq.{getD-take}
+use borrow.Author.Tests.{eqb-true, ne-eqb, lt-ltb}
+use Rattle.grid.specs.Lists.{upto, any, filter, once}
+use Rattle.grid.specs.Grid.{Grid, size, cellsOf, neighbours}
+use Rattle.grid.specs.Side.{sized}
+use Rattle.grid.specs.Link.{here}
+use Rattle.grid.proofs.ListLaws.{split, so-false, and-true, any-mem, upto-mem, length-map-range, getD-map-range}
+use Rattle.grid.proofs.GridLaws.{beside as side, on-grid}
+use Rattle.board.specs.Board.{empty, square}
+use Rattle.groups.specs.Groups.{labels, labelAt, labelArray, maskOf}
+use Rattle.groups.specs.Arrows.{onArrow}
+use Rattle.groups.proofs.GroupLaws.{label-least}
+use Rattle.kinds.specs.Kinds.{Kind, vacant, barrier, floating, inBlock, beside, isFloating, kindBeside, arrowBlock, blocksBeside, kindAt, kindsOf, has, view, viewWith, kindCode, ownerBy, kindArray, ownerArray}
+use Rattle.kinds.specs.Inside.{Marks, arrowAmong, arrowAt, arrowsAt, kindIn, codesIn, ownersIn, floats, Given, Detailed, Unnamed, Sofar}
+use Rattle.kinds.proofs.Filled.{marks-same, marks-mask, mask-at, mark-test, filled-at, filled-past, filled-is, filled-length, filled-same, owners-length}
+use Rattle.kinds.proofs.Traversal.{sofar-labels}
+
+-- two tests that agree on a list's members
+pub any-same : (t u : ℕ → Bool) (l : List ℕ) → ((x : ℕ) → List·Memᴰ x l → t x ≡ u x) → any t l ≡ any u l
+unfolding any
+any-same t u [] h = refl
+any-same t u (x ∷ l) h = rw (h x (List·Memᴰ·head refl), any-same t u l (λ y m. h y (List·Memᴰ·tail m)))
+
+module _ (g : Grid) (small : size g ≤ 1024) (arrows : List (List ℕ)) (cells blocks ons : List ℕ) (given : Given g arrows cells blocks ons) where
+  -- the name of the block of a square
+  abbrev label : ℕ → ℕ
+  label i = getD (labels g (square cells)) i 0
+
+  -- the block named f has an arrow cell
+  abbrev arrowed : ℕ → Bool
+  arrowed = arrowBlock g arrows cells (labels g (square cells))
+
+  -- a square's name is a cell of the grid
+  label-below : (i : ℕ) → i < size g → So (square cells i) → label i < size g
+  label-below i l s = omega (arith, label-least g (square cells) i i l l (here s))
+
+  -- what the arrays hold at a cell
+  block-at : (i : ℕ) → i < size g → getD blocks i 0 ≡ cond (square cells i) (label i) 1024
+  unfolding labelArray labelAt cellsOf
+  block-at i l = ap (λ (b : List ℕ). getD b i 0) (given .named) ∙ filled-at 1024 (labelAt g (square cells)) (size g) i l
+
+  on-at : (i : ℕ) → i < size g → eqb (getD ons i 0) 1 ≡ onArrow arrows i
+  on-at i l = ap (λ (m : List ℕ). eqb (getD m i 0) 1) (given .marked) ∙ ap (λ (x : ℕ). eqb x 1) (mask-at g (onArrow arrows) i l) ∙ mark-test (onArrow arrows i)
+
+  -- ---- arrow blocks
+
+  among-is : (f : ℕ) → f < 1024 → arrowAmong blocks ons (size g) f ≡ arrowed f
+  unfolding arrowAmong arrowBlock cellsOf
+  among-is f h = any-same (λ i. eqb (getD ons i 0) 1 && eqb (getD blocks i 0) f) (λ i. square cells i && eqb (label i) f && onArrow arrows i) (upto (size g)) (λ i m. at i (upto-mem (size g) m))
+    where
+      by : (on s : Bool) (x : ℕ) → (on && eqb (cond s x 1024) f) ≡ (s && eqb x f && on)
+      by true true x = go (eqb x f)
+        where
+          go : (b : Bool) → b ≡ (b && true)
+          go true = refl
+          go false = refl
+      by true false x = ne-eqb 1024 f (λ e. omega (arith, e))
+      by false true x = go (eqb x f)
+        where
+          go : (b : Bool) → false ≡ (b && false)
+          go true = refl
+          go false = refl
+      by false false x = refl
+
+      at : (i : ℕ) → i < size g → (eqb (getD ons i 0) 1 && eqb (getD blocks i 0) f) ≡ (square cells i && eqb (label i) f && onArrow arrows i)
+      at i l = rw (on-at i l, block-at i l) (by (onArrow arrows i) (square cells i) (label i))
+
+  arrowed-out : (m : ℕ) → size g ≤ m → arrowed m ≡ false
+  unfolding arrowBlock cellsOf
+  arrowed-out m h = so-false (arrowed m) (λ s.
+      let r = any-mem _ (upto (size g)) s in
+      let q = and-true (square cells (r .0) && eqb (label (r .0)) m) _ (r .2) in
+      let q′ = and-true (square cells (r .0)) _ (q .0) in
+      omega (arith, label-below (r .0) (upto-mem (size g) (r .1)) (q′ .0), eqb-true (label (r .0)) m (q′ .1)))
+
+  arrow-mask : (A : List ℕ) → Marks A (arrowAmong blocks ons (size g)) → A ≡ maskOf g arrowed
+  arrow-mask A k = marks-mask g arrowed small arrowed-out (marks-same (arrowAmong blocks ons (size g)) arrowed among-is k)
+
+  -- ---- kinds, with the marks of arrow blocks in A
+  module _ (A : List ℕ) (k : Marks A (arrowAmong blocks ons (size g))) where
+    mark-at : (f : ℕ) → f < 1024 → eqb (getD A f 0) 1 ≡ arrowed f
+    mark-at f h = ap (λ (x : ℕ). eqb x 1) (k .at f h) ∙ mark-test (arrowAmong blocks ons (size g) f) ∙ among-is f h
+
+    -- the cell is a square of an arrow block
+    abbrev inArrow : ℕ → Bool
+    inArrow j = square cells j && arrowed (label j)
+
+    arrow-at : (j : ℕ) → j < size g → arrowAt blocks A j ≡ cond (inArrow j) (label j) 1024
+    unfolding arrowAt
+    arrow-at j l = by (square cells j) refl
+      where
+        by : (s : Bool) → square cells j ≡ s → cond (ltb (getD blocks j 0) 1024 && eqb (getD A (getD blocks j 0) 0) 1) (getD blocks j 0) 1024 ≡ cond (s && arrowed (label j)) (label j) 1024
+        by true e =
+            let b : getD blocks j 0 ≡ label j = block-at j l ∙ rw e in
+            let low : label j < 1024 = omega (arith, label-below j l e) in
+            rw (b, lt-ltb (label j) 1024 low, mark-at (label j) low)
+        by false e =
+            let b : getD blocks j 0 ≡ 1024 = block-at j l ∙ rw e in
+            rw b
+
+    in-arrow-low : (j : ℕ) → j < size g → ltb (arrowAt blocks A j) 1024 ≡ inArrow j
+    in-arrow-low j l = rw (arrow-at j l) (by (inArrow j) refl)
+      where
+        by : (b : Bool) → inArrow j ≡ b → ltb (cond b (label j) 1024) 1024 ≡ b
+        by true e = lt-ltb (label j) 1024 (omega (arith, label-below j l (and-true (square cells j) (arrowed (label j)) e .0)))
+        by false e = refl
+
+    arrows-at : (l : List ℕ) → ((x : ℕ) → List·Memᴰ x l → x < size g) → arrowsAt blocks A l ≡ map label (filter inArrow l)
+    unfolding arrowsAt filter
+    arrows-at [] h = refl
+    arrows-at (x ∷ l) h = rw (in-arrow-low x (h x (List·Memᴰ·head refl))) (by (inArrow x) refl (arrows-at l (λ y m. h y (List·Memᴰ·tail m))))
+      where
+        by : (b : Bool) → inArrow x ≡ b → filter (λ f. ltb f 1024) (map (arrowAt blocks A) l) ≡ map label (filter inArrow l)
+            → cond b (arrowAt blocks A x ∷ filter (λ f. ltb f 1024) (map (arrowAt blocks A) l)) (filter (λ f. ltb f 1024) (map (arrowAt blocks A) l)) ≡ map label (cond b (x ∷ filter inArrow l) (filter inArrow l))
+        by true e q = rw (arrow-at x (h x (List·Memᴰ·head refl)), e, q)
+        by false e q = q
+
+-- a kind's number tells whether it is floating
+code-floating : (k : Kind) → eqb (kindCode k) 4 ≡ isFloating k
+unfolding kindCode isFloating
+code-floating vacant = refl
+code-floating barrier = refl
+code-floating floating = refl
+code-floating (inBlock f) = refl
+code-floating (beside f) = refl
+
+-- only a floating cell's owner goes by its floating group
+owner-floating : (k : Kind) (m : ℕ) → So (isFloating k) → m ≡ ownerBy m k
+unfolding isFloating ownerBy
+owner-floating vacant m h = absurd (false≢true h)
+owner-floating barrier m h = absurd (false≢true h)
+owner-floating floating m h = refl
+owner-floating (inBlock f) m h = absurd (false≢true h)
+owner-floating (beside f) m h = absurd (false≢true h)
+
+owner-other : (k : Kind) (m : ℕ) → isFloating k ≡ false → ownerBy 1024 k ≡ ownerBy m k
+unfolding isFloating ownerBy
+owner-other vacant m h = refl
+owner-other barrier m h = refl
+owner-other floating m h = absurd (false≢true (sym h))
+owner-other (inBlock f) m h = refl
+owner-other (beside f) m h = refl
+
+owner-unnamed : (k : Kind) → So (isFloating k) → ownerBy 1024 k ≡ 1024
+unfolding isFloating ownerBy
+owner-unnamed vacant h = absurd (false≢true h)
+owner-unnamed barrier h = absurd (false≢true h)
+owner-unnamed floating h = refl
+owner-unnamed (inBlock f) h = absurd (false≢true h)
+owner-unnamed (beside f) h = absurd (false≢true h)
+
+-- ---- the arrays before the walks
+module _ (blocks A : List ℕ) (g : Grid) (values : List ℕ) (n : ℕ) (small : n ≤ 1024) where
+  code-past : (i : ℕ) → n ≤ i → getD (codesIn blocks A g values n) i 0 ≡ 0
+  unfolding codesIn
+  code-past i l = by (decLt i 1024)
+    where
+      by : Dec (i < 1024) → getD (codesIn blocks A g values n) i 0 ≡ 0
+      by (yes h) = filled-past 0 (λ j. kindCode (kindIn blocks A g values j)) n i l h
+      by (no h) = List·getD-eq-default (codesIn blocks A g values n) 0 {n = i} (omega (arith, filled-length 0 (λ j. kindCode (kindIn blocks A g values j)) n small))
+
+  unnamed : (i : ℕ) → So (floats (codesIn blocks A g values n) i) → getD (ownersIn blocks A g values n) i 0 ≡ 1024
+  unfolding floats codesIn ownersIn
+  unnamed i h = by (decLt i n)
+    where
+      by : Dec (i < n) → getD (ownersIn blocks A g values n) i 0 ≡ 1024
+      by (yes l) =
+          let e : getD (codesIn blocks A g values n) i 0 ≡ kindCode (kindIn blocks A g values i) = filled-at 0 (λ j. kindCode (kindIn blocks A g values j)) n i l in
+          filled-at 1024 (λ j. ownerBy 1024 (kindIn blocks A g values j)) n i l
+          ∙ owner-unnamed (kindIn blocks A g values i) (sym (ap (λ (x : ℕ). eqb x 4) e ∙ code-floating (kindIn blocks A g values i)) ∙ h)
+      by (no l) = absurd (false≢true (sym (ap (λ (x : ℕ). eqb x 4) (code-past i (omega arith))) ∙ h))
+
+  -- no floating cell has a group
+  pub none-named : (K L : List ℕ) → K ≡ codesIn blocks A g values n → L ≡ ownersIn blocks A g values n → Unnamed K L
+  none-named K L e q = rw (e, q) unnamed
+
+-- ---- the view, from the arrays of the kinds and owners of its cells. values is the array of the cells
+module _ (g : Grid) (small : size g ≤ 1024) (arrows : List (List ℕ)) (values blocks ons A : List ℕ)
+    (given : Given g arrows (take (size g) values) blocks ons) (marks : Marks A (arrowAmong blocks ons (size g))) where
+  abbrev cells : List ℕ
+  cells = take (size g) values
+
+  -- the kind of a cell
+  abbrev kind : ℕ → Kind
+  kind = kindAt g arrows cells (labels g (square cells))
+
+  -- the kinds of all cells
+  abbrev kinds : List Kind
+  kinds = kindsOf g arrows cells (labels g (square cells))
+
+  kind-square : (i : ℕ) → i < size g → So (square cells i) → cond (ltb (arrowAt blocks A i) 1024) (inBlock (arrowAt blocks A i)) floating ≡ cond (arrowBlock g arrows cells (labels g (square cells)) (getD (labels g (square cells)) i 0)) (inBlock (getD (labels g (square cells)) i 0)) floating
+  kind-square i l q =
+      let e : (square cells i && F) ≡ F = rw q in
+      rw (in-arrow-low g small arrows cells blocks ons given A marks i l, arrow-at g small arrows cells blocks ons given A marks i l, e) (by F)
+    where
+      m : ℕ
+      m = getD (labels g (square cells)) i 0
+
+      F : Bool
+      F = arrowBlock g arrows cells (labels g (square cells)) m
+
+      by : (b : Bool) → cond b (inBlock (cond b m 1024)) floating ≡ cond b (inBlock m) floating
+      by true = refl
+      by false = refl
+
+  kind-pick : (e s : Bool) (a b c d : Kind) → (So s → a ≡ b) → c ≡ d → cond e vacant (cond s a c) ≡ cond e vacant (cond s b d)
+  kind-pick true s a b c d f q = refl
+  kind-pick false true a b c d f q = f refl
+  kind-pick false false a b c d f q = q
+
+  kind-is : (i : ℕ) → i < size g → kindIn blocks A g values i ≡ kind i
+  unfolding kindIn kindAt blocksBeside empty square
+  kind-is i l =
+      rw (← (getD-take (size g) values i 0 l)) (kind-pick (empty cells i) (square cells i) _ _ _ _ (kind-square i l)
+      (ap (λ (t : List ℕ). kindBeside (once t)) (arrows-at g small arrows cells blocks ons given A marks (neighbours g i) (λ x m. on-grid g l (side g i m)))))
+
+  -- the list of kinds
+  kind-get : (i : ℕ) → i < size g → getD kinds i vacant ≡ kind i
+  unfolding kindsOf cellsOf upto
+  kind-get i l = getD-map-range kind 0 (size g) i vacant l ∙ ap kind (zero-add i)
+
+  kind-past : (i : ℕ) → size g ≤ i → getD kinds i vacant ≡ vacant
+  unfolding kindsOf cellsOf upto
+  kind-past i l = List·getD-eq-default kinds vacant {n = i} (omega (arith, length-map-range kind 0 (size g)))
+
+  abbrev K : List ℕ
+  K = codesIn blocks A g values (size g)
+
+  code-at : (i : ℕ) → i < size g → getD K i 0 ≡ kindCode (kind i)
+  unfolding codesIn
+  code-at i l = filled-at 0 (λ j. kindCode (kindIn blocks A g values j)) (size g) i l ∙ ap kindCode (kind-is i l)
+
+  owner-at : (i : ℕ) → i < size g → getD (ownersIn blocks A g values (size g)) i 0 ≡ ownerBy 1024 (kind i)
+  unfolding ownersIn
+  owner-at i l = filled-at 1024 (λ j. ownerBy 1024 (kindIn blocks A g values j)) (size g) i l ∙ ap (ownerBy 1024) (kind-is i l)
+
+  owner-past : (i : ℕ) → size g ≤ i → i < 1024 → getD (ownersIn blocks A g values (size g)) i 0 ≡ 1024
+  unfolding ownersIn
+  owner-past i l h = filled-past 1024 (λ j. ownerBy 1024 (kindIn blocks A g values j)) (size g) i l h
+
+  -- the floating cells
+  float-in : (i : ℕ) → i < size g → floats K i ≡ isFloating (kind i)
+  unfolding floats
+  float-in i l = ap (λ (x : ℕ). eqb x 4) (code-at i l) ∙ code-floating (kind i)
+
+  float-out : (i : ℕ) → size g ≤ i → floats K i ≡ false
+  unfolding floats
+  float-out i l = ap (λ (x : ℕ). eqb x 4) (code-past blocks A g values (size g) small i l)
+
+  float-is : (i : ℕ) → floats K i ≡ has isFloating kinds i
+  unfolding has isFloating
+  float-is i = by (decLt i (size g))
+    where
+      by : Dec (i < size g) → floats K i ≡ isFloating (getD kinds i vacant)
+      by (yes l) = float-in i l ∙ ap isFloating (sym (kind-get i l))
+      by (no l) = float-out i (omega arith) ∙ sym (ap isFloating (kind-past i (omega arith)))
+
+  float-on : (i : ℕ) → So (floats K i) → i < size g
+  float-on i h = by (decLt i (size g))
+    where
+      by : Dec (i < size g) → i < size g
+      by (yes l) = l
+      by (no l) = absurd (false≢true (sym (float-out i (omega arith)) ∙ h))
+
+  -- the array of kinds
+  kinds-are : K ≡ kindArray (view g arrows cells)
+  unfolding kindArray view viewWith codesIn cellsOf
+  kinds-are = filled-same 0 (λ i. kindCode (kindIn blocks A g values i)) (λ i. kindCode (getD kinds i vacant)) (size g) small (λ i l. ap kindCode (kind-is i l ∙ sym (kind-get i l)))
+
+  -- the array of owners, after the walks
+  owners-are : (L : List ℕ) → Sofar g (floats K) (ownersIn blocks A g values (size g)) (size g) L → L ≡ ownerArray (view g arrows cells)
+  unfolding ownerArray view viewWith cellsOf
+  owners-are L S = filled-is 1024 (λ i. ownerBy (getD (labels g (has isFloating kinds)) i 0) (getD kinds i vacant)) (size g) L small (S .long ∙ long) front back
+    where
+      long : length (ownersIn blocks A g values (size g)) ≡ 1024
+      long = owners-length blocks A g values (size g) small
+
+      by : (i : ℕ) → i < size g → (floats K i ≡ true) ⊎ (floats K i ≡ false) → getD L i 0 ≡ ownerBy (getD (labels g (has isFloating kinds)) i 0) (kind i)
+      by i l (inl h) = sofar-labels float-on S (has isFloating kinds) float-is i h ∙ owner-floating (kind i) _ (sym (float-in i l) ∙ h)
+      by i l (inr h) = S .others i h ∙ owner-at i l ∙ owner-other (kind i) _ (sym (float-in i l) ∙ h)
+
+      front : (i : ℕ) → i < size g → getD L i 0 ≡ ownerBy (getD (labels g (has isFloating kinds)) i 0) (getD kinds i vacant)
+      front i l = by i l (split (floats K i)) ∙ ap (ownerBy (getD (labels g (has isFloating kinds)) i 0)) (sym (kind-get i l))
+
+      back : (i : ℕ) → size g ≤ i → i < 1024 → getD L i 0 ≡ 1024
+      back i l h = S .others i (float-out i l) ∙ owner-past i l h
+
+-- what the three passes leave
+pub detailed : (h w : ℕ) → h * w ≤ 1024 → (values blocks ons A K L₀ L : List ℕ) → Marks A (arrowAmong blocks ons (h * w))
+    → K ≡ codesIn blocks A (sized h w) values (h * w) → L₀ ≡ ownersIn blocks A (sized h w) values (h * w) → Sofar (sized h w) (floats K) L₀ (h * w) L
+    → (arrows : List (List ℕ)) → Given (sized h w) arrows (take (h * w) values) blocks ons → Detailed (sized h w) arrows (take (h * w) values) A K L
+unfolding size
+detailed h w small values blocks ons A K L₀ L m k o S arrows given = record {
+  arrow-blocks = arrow-mask (sized h w) small arrows (take (h * w) values) blocks ons given A m;
+  held = record {
+    kind = k ∙ kinds-are (sized h w) small arrows values blocks ons A given m;
+    owner = owners-are (sized h w) small arrows values blocks ons A given m L (rw (k, o) at S);
+  };
+}

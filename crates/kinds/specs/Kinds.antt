@@ -1,0 +1,169 @@
+-- Kinds of cells, the reach of an arrow block and its fence.
+-- Assumes nothing.
+use Prim.Native.Nat.{ℕ, _+_, _*_}
+use mathlib.Core.Bool.{Bool, true, false, cond, _&&_, _||_, not}
+use mathlib.Core.List.{List, [], _∷_, map}
+use lib.Dec.{eqb}
+use lib.ListN.{getD}
+use Rattle.grid.specs.Lists.{any, filter, once, flatMap, arrayOf}
+use Rattle.grid.specs.Grid.{Grid, cellsOf, neighbours, touches}
+use Rattle.board.specs.Board.{Literal, empty, square, undecided}
+use Rattle.groups.specs.Groups.{labels, noGroup, maskOf}
+use Rattle.groups.specs.Arrows.{onArrow}
+
+-- empty; undecided beside two arrow blocks or more; floating; in the arrow block f; undecided beside the arrow block f only
+pub data Kind : Type 0 where
+  vacant barrier floating : Kind
+  inBlock beside : ℕ → Kind
+
+-- the kind is floating
+unfoldable pub isFloating : Kind → Bool
+isFloating vacant = false
+isFloating barrier = false
+isFloating floating = true
+isFloating (inBlock f) = false
+isFloating (beside f) = false
+
+-- the kind is in the arrow block f
+unfoldable pub isIn : ℕ → Kind → Bool
+isIn f vacant = false
+isIn f barrier = false
+isIn f floating = false
+isIn f (inBlock e) = eqb e f
+isIn f (beside e) = false
+
+-- the kind is beside the arrow block f
+unfoldable pub isBeside : ℕ → Kind → Bool
+isBeside f vacant = false
+isBeside f barrier = false
+isBeside f floating = false
+isBeside f (inBlock e) = false
+isBeside f (beside e) = eqb e f
+
+-- an undecided cell, by the arrow blocks that it touches
+unfoldable pub kindBeside : List ℕ → Kind
+kindBeside [] = floating
+kindBeside (f ∷ []) = beside f
+kindBeside (f ∷ e ∷ es) = barrier
+
+-- blocks: the name of each square's block
+module _ (g : Grid) (arrows : List (List ℕ)) (cells blocks : List ℕ) where
+  -- the block named f has an arrow cell
+  unfoldable pub arrowBlock : ℕ → Bool
+  arrowBlock f = any (λ i. square cells i && eqb (getD blocks i 0) f && onArrow arrows i) (cellsOf g)
+
+  -- the arrow blocks that cell i touches, each once
+  unfoldable pub blocksBeside : ℕ → List ℕ
+  blocksBeside i = once (map (λ j. getD blocks j 0) (filter (λ j. square cells j && arrowBlock (getD blocks j 0)) (neighbours g i)))
+
+  -- the kind of cell i
+  unfoldable pub kindAt : ℕ → Kind
+  kindAt i =
+      cond (empty cells i) vacant
+      (cond (square cells i) (cond (arrowBlock (getD blocks i 0)) (inBlock (getD blocks i 0)) floating)
+      (kindBeside (blocksBeside i)))
+
+  -- the kinds of all cells
+  unfoldable pub kindsOf : List Kind
+  kindsOf = map kindAt (cellsOf g)
+
+-- a test on the kind of a cell
+unfoldable pub has : (Kind → Bool) → List Kind → ℕ → Bool
+has p kinds i = p (getD kinds i vacant)
+
+-- the board with its groups and kinds
+pub record View : Type 0 where
+  pub grid : Grid
+  pub arrows : List (List ℕ)
+  pub cells : List ℕ
+  pub blocks : List ℕ
+  pub kinds : List Kind
+  pub floats : List ℕ
+
+-- a view from its blocks and kinds
+unfoldable pub viewWith : Grid → List (List ℕ) → List ℕ → List ℕ → List Kind → View
+viewWith g arrows cells blocks kinds =
+    record { grid = g; arrows = arrows; cells = cells; blocks = blocks; kinds = kinds; floats = labels g (has isFloating kinds) }
+
+-- the view of a board
+unfoldable pub view : Grid → List (List ℕ) → List ℕ → View
+view g arrows cells =
+    let blocks = labels g (square cells) in
+    viewWith g arrows cells blocks (kindsOf g arrows cells blocks)
+
+module _ (v : View) where
+  -- the cells of the arrow block f
+  unfoldable pub block : ℕ → List ℕ
+  block f = filter (has (isIn f) (v .kinds)) (cellsOf (v .grid))
+
+  -- the floating group m touches a neighbour of f
+  unfoldable pub floatNear : ℕ → ℕ → Bool
+  floatNear f m =
+      any (λ i. has (isBeside f) (v .kinds) i
+      && any (λ j. has isFloating (v .kinds) j && eqb (getD (v .floats) j 0) m) (neighbours (v .grid) i))
+      (cellsOf (v .grid))
+
+  -- cell i is in the reach of the arrow block f
+  unfoldable pub inReach : ℕ → ℕ → Bool
+  inReach f i =
+      has (isIn f) (v .kinds) i
+      || has (isBeside f) (v .kinds) i
+      || (has isFloating (v .kinds) i && floatNear f (getD (v .floats) i 0))
+
+  -- the reach of the arrow block f
+  unfoldable pub reach : ℕ → List ℕ
+  reach f = filter (inReach f) (cellsOf (v .grid))
+
+  -- some cell of the arrow block e is beside an undecided cell that touches the reach r
+  unfoldable pub rival : List ℕ → ℕ → Bool
+  rival r e =
+      any (λ j. has (isIn e) (v .kinds) j
+      && any (λ u. undecided (v .cells) u && touches (v .grid) r u) (neighbours (v .grid) j))
+      (cellsOf (v .grid))
+
+  -- what the fence of f, whose reach is r, says of a cell of this kind at i
+  unfoldable pub fenceAt : ℕ → List ℕ → ℕ → Kind → List Literal
+  fenceAt f r i vacant = cond (touches (v .grid) r i) ((i, 0) ∷ []) []
+  fenceAt f r i barrier = []
+  fenceAt f r i floating = []
+  fenceAt f r i (inBlock e) = cond (not (eqb e f) && rival r e) ((i, 1) ∷ []) []
+  fenceAt f r i (beside e) = []
+
+  -- the fence of the arrow block f, rising
+  unfoldable pub fence : ℕ → List Literal
+  fence f =
+      let r = reach f in
+      flatMap (λ i. fenceAt f r i (getD (v .kinds) i vacant)) (cellsOf (v .grid))
+
+-- a literal as one number: value × 32,768 + index
+unfoldable pub word : Literal → ℕ
+word l = l .1 * 32768 + l .0
+
+-- the number of a kind
+unfoldable pub kindCode : Kind → ℕ
+kindCode vacant = 0
+kindCode (inBlock f) = 1
+kindCode (beside f) = 2
+kindCode barrier = 3
+kindCode floating = 4
+
+-- the group that a cell of this kind belongs to: its arrow block, or the floating group m
+unfoldable pub ownerBy : ℕ → Kind → ℕ
+ownerBy m vacant = noGroup
+ownerBy m (inBlock f) = f
+ownerBy m (beside f) = f
+ownerBy m barrier = noGroup
+ownerBy m floating = m
+
+module _ (v : View) where
+  -- the kind of each cell by its number, in an array
+  unfoldable pub kindArray : List ℕ
+  kindArray = arrayOf 0 (map (λ i. kindCode (getD (v .kinds) i vacant)) (cellsOf (v .grid)))
+
+  -- the group of each cell, in an array
+  unfoldable pub ownerArray : List ℕ
+  ownerArray = arrayOf noGroup (map (λ i. ownerBy (getD (v .floats) i 0) (getD (v .kinds) i vacant)) (cellsOf (v .grid)))
+
+  -- the reach of the arrow block f as a mark for each cell
+  unfoldable pub reachMask : ℕ → List ℕ
+  reachMask f = maskOf (v .grid) (inReach v f)
