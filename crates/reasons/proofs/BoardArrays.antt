@@ -1,0 +1,152 @@
+-- The arrays of a well-formed board, as the parts of find ask for them.
+-- Assumes nothing.
+use Prim.Native.Nat.{ℕ, zero, suc, _+_, _-_, _*_, _≤_, _<_}
+use native.Mathlib.Omega.{arith}
+use native.Mathlib.Decide.{decLt}
+use native.Mathlib.Numerals.{add-one}
+use mathlib.Core.Path.{_≡_, refl, sym, ap, _∙_, subst}
+use mathlib.Core.Bool.{Bool, true, false, _&&_}
+use mathlib.Core.List.{List, [], _∷_, _++_, List·Memᴰ}
+use lib.Dec.{leb, ltb}
+use lib.ListN.{length, getD, take, length-append, List·getD-eq-default}
+use lib.Seq.{getD-take, length-take-le}
+use borrow.Author.Tests.{ltb-true, leb-true, lt-ltb, le-ltb}
+use Rattle.grid.specs.Lists.{last, flatMap, arrayOf}
+use Rattle.grid.specs.Grid.{size}
+use Rattle.grid.specs.Side.{sized}
+use Rattle.grid.proofs.ListLaws.{and-true, at-mem, flatMap-mem}
+use Rattle.grid.proofs.ArrayLaws.{array-length, array-take, array-in, array-out}
+use Rattle.record.specs.Record.{Puzzle}
+use Rattle.record.specs.Valid.{Valid}
+use Rattle.record.specs.Problem.{arrowCells, endsFrom, problemOf, puzzleOf, gridOf, arrowsFrom}
+use Rattle.record.specs.declared.Problem.{Problem}
+use Rattle.record.proofs.FreshLaws.{arrows-size, one-length, arrows-length}
+use Rattle.record.proofs.ProblemLaws.{length-ends, problem-puzzle}
+use Rattle.board.specs.Form.{rises, ended, behind, wellFormed}
+use Rattle.board.specs.declared.Board.{Board}
+use Rattle.board.proofs.BoardForm.{whole-is}
+use Rattle.board.proofs.ProblemForm.{Formed, valid-formed, formed-valid, formed-again, size-most, rises-last}
+use Rattle.reasons.specs.declared.Finding.{Finding}
+use Rattle.reasons.specs.declared.Finding.the-variants.{Refused}
+use Rattle.reasons.specs.Reasons.{findReason}
+use Rattle.reasons.specs.Arrays.{CellArray, linesOf, ArrowArrays}
+use Rattle.reasons.specs.Pairs.{FoundAs}
+use Rattle.reasons.specs.Find.{cellsOn, reasonOn, enough, findRefusal, findingBy, bufferBy, findOf, bufferAfter}
+
+-- numbers that rise
+rises-step : (at : ℕ) (es : List ℕ) → rises at es ≡ true → (a : ℕ) → suc a < length es → getD es a 0 ≤ getD es (suc a) 0
+unfolding rises
+rises-step at [] h a k = absurd (omega arith)
+rises-step at (e ∷ []) h a k = absurd (omega arith)
+rises-step at (e ∷ f ∷ es) h zero k =
+    let p = and-true (ltb at e) (ltb e f && rises f es) h in
+    let q = and-true (ltb e f) (rises f es) (p .1) in
+    omega (arith, ltb-true e f (q .0))
+rises-step at (e ∷ f ∷ es) h (suc a) k = rises-step e (f ∷ es) (and-true (ltb at e) (rises e (f ∷ es)) h .1) a (omega arith)
+
+rises-low : (at : ℕ) (es : List ℕ) → rises at es ≡ true → (a : ℕ) → a < length es → getD es a 0 ≤ last at es
+unfolding rises last
+rises-low at [] h a k = absurd (omega arith)
+rises-low at (e ∷ es) h zero k = rises-last e es (and-true (ltb at e) (rises e es) h .1)
+rises-low at (e ∷ es) h (suc a) k = rises-low e es (and-true (ltb at e) (rises e es) h .1) a (omega arith)
+
+-- the last arrow ends where the cells end
+ends-last : (at : ℕ) (lines : List (List ℕ)) → last at (endsFrom at lines) ≡ at + length (arrowCells lines)
+unfolding last endsFrom arrowCells flatMap
+ends-last at [] = omega arith
+ends-last at (a ∷ lines) = ends-last (at + length a) lines ∙ omega (arith, length-append a (flatMap (λ x. x) lines))
+
+module _ (p : Puzzle) (v : Valid p) where
+  cells-low : (i : ℕ) → List·Memᴰ i (arrowCells (p .arrows)) → i < size (p .grid)
+  unfolding arrowCells
+  cells-low i m = let r = flatMap-mem (λ (a : List ℕ). a) (p .arrows) m in arrows-size (v .arrows) (r .0) (r .1) i (r .2)
+
+  most : size (p .grid) ≤ 1024
+  most = size-most (p .grid) (v .high .0) (v .high .1)
+
+  few-cells : length (arrowCells (p .arrows)) ≤ size (p .grid)
+  unfolding arrowCells
+  few-cells = arrows-length p v
+
+  ends-are : take (length (p .arrows)) (arrayOf 0 (endsFrom 0 (p .arrows))) ≡ endsFrom 0 (p .arrows)
+  ends-are = rw (← length-ends 0 (p .arrows)) (array-take 0 (endsFrom 0 (p .arrows)))
+
+  lines-are : linesOf (arrayOf 0 (arrowCells (p .arrows))) (arrayOf 0 (endsFrom 0 (p .arrows))) (length (p .arrows)) ≡ p .arrows
+  unfolding puzzleOf problemOf
+  lines-are = ap (λ (q : Puzzle). q .arrows) (problem-puzzle p v)
+
+  total-is : last 0 (endsFrom 0 (p .arrows)) ≡ length (arrowCells (p .arrows))
+  total-is = ends-last 0 (p .arrows) ∙ omega arith
+
+  -- every place of the array holds a cell, or 0 behind them
+  place-low : (k : ℕ) → getD (arrayOf 0 (arrowCells (p .arrows))) k 0 < 1024
+  place-low k = go (decLt k (length (arrowCells (p .arrows)))) (decLt k 1024)
+    where
+      l : List ℕ
+      l = arrowCells (p .arrows)
+
+      go : Dec (k < length (arrowCells (p .arrows))) → Dec (k < 1024) → getD (arrayOf 0 (arrowCells (p .arrows))) k 0 < 1024
+      go (yes h) _ = rw (array-in 0 (arrowCells (p .arrows)) 0 k h) (omega (arith, cells-low (getD (arrowCells (p .arrows)) k 0) (at-mem (arrowCells (p .arrows)) k h), most))
+      go (no n) (yes h) = rw (array-out 0 (arrowCells (p .arrows)) 0 k (omega arith) h) (omega arith)
+      go (no n) (no m) =
+          rw (List·getD-eq-default (arrayOf 0 (arrowCells (p .arrows))) 0 {n = k} (omega (arith, array-length 0 (arrowCells (p .arrows)) (omega (arith, few-cells, most))))) (omega arith)
+
+  -- the ends rise, and are no more than the arrays hold
+  ends-formed : (leb (length (p .arrows)) 1024 && rises 0 (endsFrom 0 (p .arrows))) ≡ true
+  unfolding ended problemOf
+  ends-formed = rw ends-are at (and-true (leb (length (p .arrows)) 1024 && rises 0 (take (length (p .arrows)) (arrayOf 0 (endsFrom 0 (p .arrows))))) (behind 0 (length (p .arrows)) (arrayOf 0 (endsFrom 0 (p .arrows)))) (valid-formed p v .ends) .0)
+
+  -- the arrays of a valid puzzle hold its arrows
+  pub arrow-arrays : ArrowArrays (size (p .grid)) (problemOf p .arrows) (problemOf p .ends) (problemOf p .count) (last 0 (take (problemOf p .count) (problemOf p .ends)))
+  unfolding problemOf
+  arrow-arrays =
+      let f = and-true (leb (length (p .arrows)) 1024) (rises 0 (endsFrom 0 (p .arrows))) ends-formed in
+      let n : length (endsFrom 0 (p .arrows)) ≡ length (p .arrows) = length-ends 0 (p .arrows) in
+      let end : (a : ℕ) → a < length (p .arrows) → getD (arrayOf 0 (endsFrom 0 (p .arrows))) a 0 ≡ getD (endsFrom 0 (p .arrows)) a 0 =
+      λ a h. array-in 0 (endsFrom 0 (p .arrows)) 0 a (omega arith) in
+      record {
+        places = record { long = array-length 0 (arrowCells (p .arrows)) (omega (arith, few-cells, most)); cells = place-low };
+        many = leb-true (length (p .arrows)) 1024 (f .0);
+        within = rw (ends-are, total-is) (omega (arith, few-cells, most));
+        ends-long = array-length 0 (endsFrom 0 (p .arrows)) (omega (arith, leb-true (length (p .arrows)) 1024 (f .0)));
+        ends-low = λ a h. rw (end a h) (omega (arith, rises-low 0 (endsFrom 0 (p .arrows)) (f .1) a (omega arith), total-is, few-cells, most));
+        ends-rise = λ a h. rw (end a (omega arith), end (a + 1) h, add-one a) (rises-step 0 (endsFrom 0 (p .arrows)) (f .1) a (omega arith));
+        cells-are = rw (lines-are, ends-are, total-is) (array-take 0 (arrowCells (p .arrows)));
+        inside = rw lines-are (λ a m i k. arrows-size (v .arrows) a m i k);
+        few = rw lines-are (λ a m. omega (arith, one-length (p .arrows) a m, arrows-length p v));
+      }
+
+-- a well-formed board has a grid of at most 32 by 32
+pub board-sizes : (b : Board) → wellFormed b ≡ true → (b .problem .height ≤ 32) × (b .problem .width ≤ 32)
+unfolding gridOf
+board-sizes b h = whole-is b h .problem .sizes .high
+
+-- and its arrays hold its arrows
+pub board-arrays : (b : Board) → wellFormed b ≡ true
+    → ArrowArrays (b .problem .height * b .problem .width) (b .problem .arrows) (b .problem .ends) (b .problem .count) (last 0 (take (b .problem .count) (b .problem .ends)))
+unfolding puzzleOf gridOf size
+board-arrays b h =
+    let f = whole-is b h .problem in
+    subst
+    (λ (q : Problem). ArrowArrays (b .problem .height * b .problem .width) (q .arrows) (q .ends) (q .count) (last 0 (take (q .count) (q .ends))))
+    (formed-again (b .problem) f) (arrow-arrays (puzzleOf (b .problem)) (formed-valid (b .problem) f))
+
+-- what find answers: 6, 11, or what was found
+pub find-ill : (b : Board) (buffer : List ℕ) → wellFormed b ≡ false → (Refused 6 ≡ findOf b buffer) × (buffer ≡ bufferAfter b buffer)
+unfolding findOf bufferAfter findRefusal findingBy bufferBy
+find-ill b buffer h = (rw h refl, rw h refl)
+
+pub find-short : (b : Board) (buffer : List ℕ) → wellFormed b ≡ true → length buffer < 3 * (b .problem .height * b .problem .width) + 1
+    → (Refused 11 ≡ findOf b buffer) × (buffer ≡ bufferAfter b buffer)
+unfolding findOf bufferAfter findRefusal findingBy bufferBy enough gridOf size
+find-short b buffer h l =
+    let t = lt-ltb (length buffer) (3 * (b .problem .height * b .problem .width) + 1) l in
+    (rw (h, t) refl, rw (h, t) refl)
+
+pub find-found : (b : Board) (buffer : List ℕ) {after : List ℕ} {r : Finding} → wellFormed b ≡ true → 3 * (b .problem .height * b .problem .width) + 1 ≤ length buffer
+    → FoundAs (findReason (sized (b .problem .height) (b .problem .width)) (linesOf (b .problem .arrows) (b .problem .ends) (b .problem .count)) (take (b .problem .height * b .problem .width) (b .cells))) buffer after r
+    → (r ≡ findOf b buffer) × (after ≡ bufferAfter b buffer)
+unfolding findOf bufferAfter findRefusal enough gridOf size reasonOn cellsOn puzzleOf
+find-found b buffer h l x =
+    let t = le-ltb (length buffer) (3 * (b .problem .height * b .problem .width) + 1) l in
+    (x .answer ∙ rw (h, t) refl, x .buffer ∙ rw (h, t) refl)

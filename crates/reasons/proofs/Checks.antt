@@ -1,0 +1,159 @@
+-- What the searches for reasons 1 and 2 found, as an answer and a lent buffer.
+-- Assumes nothing.
+use Prim.Native.Nat.{ℕ, suc, _*_, _≤_, _<_}
+use native.Mathlib.Omega.{arith}
+use mathlib.Core.Bool.{true, false}
+use mathlib.Core.Path.{_≡_, refl, sym, subst, _∙_}
+use mathlib.Core.List.{List, [], _∷_, _++_, List·Memᴰ}
+use mathlib.Core.Option.{none, some}
+use lib.ListN.{length, getD, take}
+use lib.Seq.{take-suc}
+use Rattle.grid.specs.Lists.{last}
+use Rattle.grid.specs.Grid.{Grid, size}
+use Rattle.grid.specs.Side.{sized}
+use Rattle.grid.proofs.SideLaws.{area}
+use Rattle.grid.proofs.ListLaws.{flatMap-mem}
+use Rattle.record.specs.Problem.{arrowCells}
+use Rattle.groups.specs.Groups.{marksOf, maskOf, labelArray, counts}
+use Rattle.groups.specs.Arrows.{onArrow, Line}
+use Rattle.groups.proofs.MarkLaws.{arrow-marks}
+use Rattle.groups.proofs.LabelLaws.{labels-potential, labels-blocks}
+use Rattle.kinds.specs.Inside.{Held, Given}
+use Rattle.kinds.specs.Kinds.{view}
+use Rattle.board.specs.Board.{Literal}
+use Rattle.reasons.specs.declared.Name.{Name}
+use Rattle.reasons.specs.declared.Name.the-variants.{At, Nobody}
+use Rattle.reasons.specs.declared.Ends.{Ends}
+use Rattle.reasons.specs.declared.Ends.the-variants.{Between, Nowhere}
+use Rattle.reasons.specs.declared.Finding.{Finding}
+use Rattle.reasons.specs.declared.Finding.the-variants.{Nothing, Reason, Refused}
+use Rattle.reasons.specs.Reasons.{Found, each, path, reason1, reason2, reason34, findReason}
+use Rattle.reasons.specs.Buffer.{Wrote}
+use Rattle.reasons.specs.Arrays.{foundAt, foundWay, SameBlock, Crossing, ArrowArrays, linesOf, PotentialArrays, Ready}
+use Rattle.reasons.specs.Search.{PathEnds, listFrom}
+use Rattle.reasons.specs.Pairs.{FoundAs, Fit, Whole, viewOn}
+use Rattle.reasons.proofs.Findings.{found-none, wrote-found, nothing-found, not-refused, found-first, found-next}
+
+-- the cells of a grid
+pub sized-size : (h w : ℕ) → h * w ≡ size (sized h w)
+unfolding size
+sized-size h w = refl
+
+-- a group that was named gives its reason, and nobody gives none
+pub named-found : {f : Found} (r : ℕ → List Literal) {name : Name} {i k : ℕ} {a b : List ℕ} → f ≡ foundAt r name → name ≡ At i → Wrote (r i) a b k → FoundAs f a b (Reason k)
+unfolding foundAt
+named-found r e n w = rw (e, n) (wrote-found w)
+
+pub nobody-found : {f : Found} (r : ℕ → List Literal) {name : Name} (a : List ℕ) → f ≡ foundAt r name → name ≡ Nobody → FoundAs f a a Nothing
+unfolding foundAt
+nobody-found r a e n = rw (e, n) (found-none a)
+
+module _ (h w : ℕ) (arrows : List (List ℕ)) (cells : List ℕ) {ends : Ends} (c : Crossing (sized h w) arrows cells ends) where
+  -- the ends of a path are squares of one block
+  pub crossing-ends : {a b : ℕ} → ends ≡ Between a b → h ≤ 32 → w ≤ 32 → PathEnds h w cells a b
+  unfolding SameBlock
+  crossing-ends e tall wide = record { tall = tall; wide = wide; joined = subst (SameBlock (sized h w) cells) e (c .joined) }
+
+  -- the path is the reason
+  pub crossing-found : {a b k : ℕ} {before after : List ℕ} → ends ≡ Between a b → Wrote (each 1 (path (size (sized h w)) (listFrom h w cells b) a b)) before after k
+      → FoundAs (reason2 (sized h w) arrows cells) before after (Reason k)
+  unfolding foundWay
+  crossing-found e x = rw (c .reason, e) (wrote-found x)
+
+  -- without ends there is none
+  pub crossing-none : (before : List ℕ) → ends ≡ Nowhere → FoundAs (reason2 (sized h w) arrows cells) before before Nothing
+  unfolding foundWay
+  crossing-none before e = rw (c .reason, e) (found-none before)
+
+-- the last of the first numbers
+last-snoc : (d : ℕ) (l : List ℕ) (x : ℕ) → last d (l ++ (x ∷ [])) ≡ x
+unfolding last
+last-snoc d [] x = refl
+last-snoc d (y ∷ l) x = last-snoc y l x
+
+pub last-taken : (l : List ℕ) (k : ℕ) → k < length l → last 0 (take (suc k) l) ≡ getD l k 0
+last-taken l k h = rw (take-suc l k 0 h) (last-snoc 0 (take k l) (getD l k 0))
+
+pub last-none : (l : List ℕ) → last 0 (take 0 l) ≡ 0
+unfolding last
+last-none l = refl
+
+-- ---- the arrays of a board
+
+module _ (h w : ℕ) (tall : h ≤ 32) (wide : w ≤ 32) {arrows ends : List ℕ} {number total : ℕ} (d : ArrowArrays (h * w) arrows ends number total) where
+  -- the marks of the cells in the array are those of the arrow cells
+  pub marks-are : marksOf (take total arrows) ≡ maskOf (sized h w) (onArrow (linesOf arrows ends number))
+  unfolding arrowCells
+  marks-are = arrow-marks (sized h w) (linesOf arrows ends number) (take total arrows) (rw (← sized-size h w) (area h w tall wide)) (d .cells-are) inside
+    where
+      inside : (i : ℕ) → List·Memᴰ i (take total arrows) → i < size (sized h w)
+      inside i m =
+          let r = flatMap-mem (λ (a : List ℕ). a) (linesOf arrows ends number) (rw (d .cells-are) at m) in
+          rw (← sized-size h w) (d .inside (r .0) (r .1) i (r .2))
+
+  -- the cells in the array are a line of arrows
+  pub line-is : Line arrows total
+  line-is = record { long = d .places .long; within = d .within; cells = λ k h. d .places .cells k }
+
+  -- the potential groups and the blocks that were labelled
+  pub potentials-held : (cells : List ℕ) {labels onarrow : List ℕ} → labels ≡ labelArray (sized h w) (counts true (take (h * w) cells)) → onarrow ≡ marksOf (take total arrows)
+      → PotentialArrays (sized h w) (linesOf arrows ends number) (take (h * w) cells) labels onarrow
+  potentials-held cells l m = record {
+    groups-are = l ∙ labels-potential (sized h w) (take (h * w) cells) (rw (← sized-size h w) (area h w tall wide));
+    arrows-are = m ∙ marks-are;
+  }
+
+  pub blocks-held : (cells : List ℕ) {labels onarrow : List ℕ} → labels ≡ labelArray (sized h w) (counts false (take (h * w) cells)) → onarrow ≡ marksOf (take total arrows)
+      → Given (sized h w) (linesOf arrows ends number) (take (h * w) cells) labels onarrow
+  blocks-held cells l m = record {
+    named = l ∙ labels-blocks (sized h w) (take (h * w) cells) (rw (← sized-size h w) (area h w tall wide));
+    marked = m ∙ marks-are;
+  }
+
+-- a board that is ready, with its kinds
+pub whole-of : {h w : ℕ} {cells arrows ends blocks onarrow kinds owners : List ℕ} {number : ℕ} → Ready h w cells arrows ends number blocks onarrow
+    → Held (viewOn h w (linesOf arrows ends number) cells) kinds owners → Whole h w cells arrows ends kinds owners number
+whole-of r k = record {
+  held = k;
+  places = r .drawn .places;
+  many = r .drawn .many;
+  ends-long = omega (arith, r .drawn .many, r .drawn .ends-long);
+  ends-low = r .drawn .ends-low;
+  ends-rise = r .drawn .ends-rise;
+  inside = r .drawn .inside;
+  few = r .drawn .few;
+}
+
+-- ---- one search after another
+
+-- an answer that is nothing leaves the buffer, and none is a refusal
+pub same-after : (f : Found) {a b : List ℕ} {r : Finding} → FoundAs f a b r → r ≡ Nothing → b ≡ a
+same-after f {a} {b} x e = nothing-found f (subst (FoundAs f a b) e x) .1
+
+pub never-refused : (f : Found) {a b : List ℕ} {r : Finding} {k : ℕ} → FoundAs f a b r → r ≡ Refused k → ⊥
+never-refused f {a} {b} x e = not-refused f (subst (FoundAs f a b) e x)
+
+-- the buffer is as long as it was
+pub fit-after : {h w : ℕ} {a b : List ℕ} → Fit h w a → b ≡ a → Fit h w b
+fit-after f e = record { tall = f .tall; wide = f .wide; room = rw e (f .room) }
+
+module _ (g : Grid) (lines : List (List ℕ)) (cells : List ℕ) {a b : List ℕ} {r : Finding} (x : FoundAs (reason1 g lines cells) a b r) where
+  -- reason 1 applies
+  pub first-found : {k : ℕ} → r ≡ Reason k → FoundAs (findReason g lines cells) a b (Reason k)
+  unfolding findReason
+  first-found e = found-first (reason1 g lines cells) _ (subst (FoundAs (reason1 g lines cells) a b) e x)
+
+  module _ (e : r ≡ Nothing) {c : List ℕ} {q : Finding} (y : FoundAs (reason2 g lines cells) b c q) where
+    -- reason 2 applies
+    pub second-found : {k : ℕ} → q ≡ Reason k → FoundAs (findReason g lines cells) a c (Reason k)
+    unfolding findReason
+    second-found d =
+        found-next (reason1 g lines cells) _ (subst (FoundAs (reason1 g lines cells) a b) e x)
+        (found-first (reason2 g lines cells) _ (subst (FoundAs (reason2 g lines cells) b c) d y))
+
+    -- neither applies
+    pub rest-found : q ≡ Nothing → {t : List ℕ} {r′ : Finding} → FoundAs (reason34 (view g lines cells)) c t r′ → FoundAs (findReason g lines cells) a t r′
+    unfolding findReason
+    rest-found d z =
+        found-next (reason1 g lines cells) _ (subst (FoundAs (reason1 g lines cells) a b) e x)
+        (found-next (reason2 g lines cells) _ (subst (FoundAs (reason2 g lines cells) b c) d y) z)

@@ -1,0 +1,100 @@
+-- A reason is never empty.
+-- Assumes nothing.
+use Prim.Native.Nat.{ℕ, zero, suc, _<_}
+use native.Mathlib.Omega.{arith}
+use mathlib.Core.Path.{_≡_}
+use mathlib.Core.Bool.{Bool, true, false, cond}
+use mathlib.Core.List.{List, [], _∷_}
+use mathlib.Core.Option.{none, some}
+use lib.Dec.{eqb}
+use lib.ListN.{length, length-append}
+use Rattle.grid.specs.Lists.{filter}
+use Rattle.grid.specs.Grid.{Grid}
+use Rattle.board.specs.Board.{Literal, square, filled}
+use Rattle.groups.specs.Groups.{labels, group, names}
+use Rattle.groups.specs.Arrows.{Pair, onArrow}
+use Rattle.kinds.specs.Kinds.{View, view}
+use Rattle.reasons.specs.Reasons.{Found, orElse, given, firstOf, parent, path, reason1At, reason1, reason2At, reason2, reasonGrow, reason3At, reasonShrink, reason4At, reason34, findReason}
+use Rattle.reasons.proofs.Pass.{each-length}
+
+-- a reason with a literal, or none
+Literate : Found → Type 0
+Literate f = (r : List Literal) → f ≡ some r → 0 < length r
+
+some-literate : (s : List Literal) → 0 < length s → Literate (some s)
+unfolding Literate
+some-literate s h r e = let q : s ≡ r = cc in rw (← q) h
+
+none-literate : Literate none
+unfolding Literate
+none-literate r e = let z : _≡_ {A = ℕ} 0 1 = cc in absurd (omega arith)
+
+orElse-literate : (a b : Found) → Literate a → Literate b → Literate (orElse a b)
+unfolding orElse
+orElse-literate none b h k = k
+orElse-literate (some s) b h k = h
+
+firstOf-literate : {A : Type 0} (f : A → Found) (l : List A) → ((x : A) → Literate (f x)) → Literate (firstOf f l)
+unfolding firstOf
+firstOf-literate f [] h = none-literate
+firstOf-literate f (x ∷ xs) h = orElse-literate (f x) (firstOf f xs) (h x) (firstOf-literate f xs h)
+
+given-literate : (t : Bool) (s : List Literal) → 0 < length s → Literate (given t s)
+unfolding given
+given-literate true s h = some-literate s h
+given-literate false s h = none-literate
+
+-- a path has its first cell
+path-some : (k : ℕ) (cs : List Literal) (a b : ℕ) → 0 < length (path k cs a b)
+unfolding path
+path-some zero cs a b = omega arith
+path-some (suc k) cs a b = go (eqb a b)
+  where
+    go : (t : Bool) → 0 < length (cond t (a ∷ []) (a ∷ path k cs (parent cs a) b))
+    go true = omega arith
+    go false = omega arith
+
+module _ (g : Grid) (arrows : List (List ℕ)) (cells : List ℕ) where
+  -- reason 1 has a square of its group
+  literate1 : Literate (reason1 g arrows cells)
+  unfolding reason1 reason1At
+  literate1 = firstOf-literate _ (names g (filled cells) (labels g (filled cells))) λ f. at (group g (filled cells) (labels g (filled cells)) f)
+    where
+      at : (c : List ℕ) → Literate (reason1At g arrows cells c)
+      at c = given-literate _ _ (simp (length-append, each-length) (omega arith))
+
+  -- reason 2 has a
+  literate2 : Literate (reason2 g arrows cells)
+  unfolding reason2 reason2At
+  literate2 = firstOf-literate _ (names g (square cells) (labels g (square cells))) λ f. at (filter (onArrow arrows) (group g (square cells) (labels g (square cells)) f))
+    where
+      at : (c : List ℕ) → Literate (reason2At g arrows cells c)
+      at [] = none-literate
+      at (a ∷ []) = none-literate
+      at (a ∷ b ∷ c) = some-literate _ (rw each-length (path-some _ _ a b))
+
+module _ (v : View) (p : Pair) where
+  -- reasons 3 and 4 have the arrow cell of cur or of last
+  grow-some : 0 < length (reasonGrow v p)
+  unfolding reasonGrow
+  grow-some = simp (length-append, each-length) (omega arith)
+
+  shrink-some : 0 < length (reasonShrink v p)
+  unfolding reasonShrink
+  shrink-some = simp (length-append, each-length) (omega arith)
+
+  literate3 : Literate (reason3At v p)
+  unfolding reason3At
+  literate3 = given-literate _ (reasonGrow v p) grow-some
+
+  literate4 : Literate (reason4At v p)
+  unfolding reason4At
+  literate4 = orElse-literate _ _ (given-literate _ (reasonGrow v p) grow-some) (given-literate _ (reasonShrink v p) shrink-some)
+
+-- a reason has a literal
+pub reason-some : (g : Grid) (arrows : List (List ℕ)) (cells : List ℕ) (r : List Literal) → findReason g arrows cells ≡ some r → 0 < length r
+unfolding findReason reason34 Literate
+reason-some g arrows cells =
+    let v : View = view g arrows cells in
+    orElse-literate _ _ (literate1 g arrows cells) (orElse-literate _ _ (literate2 g arrows cells)
+    (orElse-literate _ _ (firstOf-literate (reason3At v) _ (literate3 v)) (firstOf-literate (reason4At v) _ (literate4 v))))

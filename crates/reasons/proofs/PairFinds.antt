@@ -1,0 +1,112 @@
+-- What is found for the squares at two places of an arrow.
+-- Assumes nothing.
+use Prim.Native.Nat.{ℕ, _+_, _-_, _*_, _≤_, _<_}
+use native.Mathlib.Omega.{arith}
+use mathlib.Core.Path.{_≡_, refl, subst, _∙_}
+use mathlib.Core.Bool.{true, false}
+use mathlib.Core.List.{List, _++_, List·Memᴰ}
+use lib.ListN.{length, getD}
+use lib.Seq.{slice}
+use Rattle.grid.specs.Lists.{any, filter, upto}
+use Rattle.grid.specs.Side.{sized}
+use Rattle.grid.proofs.ListLaws.{filter-mem, upto-mem}
+use Rattle.grid.proofs.SideLaws.{area}
+use Rattle.board.specs.Board.{empty, square}
+use Rattle.groups.specs.Arrows.{Pair}
+use Rattle.groups.specs.Rules.{fits}
+use Rattle.kinds.specs.Kinds.{View, view, viewWith, block, reach}
+use Rattle.reasons.specs.Arrays.{CellArray}
+use Rattle.reasons.specs.Buffer.{Wrote}
+use Rattle.reasons.specs.Pairs.{reason4aAt, reason4bAt, pairAt, FoundAs, viewOn, Scene, blockCellFence}
+use Rattle.reasons.specs.Reasons.{each, mostApart, gap, reason3At}
+use Rattle.reasons.specs.Shift.{blockIn, Gathered, BlockPlaces, Places}
+use Rattle.reasons.specs.declared.Finding.the-variants.{Nothing, Reason}
+use Rattle.reasons.proofs.Findings.{found-none, wrote-found}
+use Rattle.reasons.proofs.PairChecks.{shift-none, shift-some, growth-none, growth-some, gap-none, gap-some, gap-places, most-taken, empty-agree, block-in}
+use Rattle.reasons.proofs.PairNames.{scene-owner}
+use Rattle.reasons.proofs.PairPlaces.{slice-mem}
+use Rattle.kinds.specs.Inside.{Held}
+use Rattle.reasons.proofs.Shifts.{inIt, in-few, gathered-places, block-places}
+
+-- the cells of a block that were gathered lie on the grid
+pub gathered-inside : (h w : ℕ) (kinds owners : List ℕ) (f : ℕ) {r c r′ c′ : List ℕ} {k : ℕ} → h ≤ 32 → w ≤ 32
+    → Gathered w (blockIn kinds owners (h * w) f) r c r′ c′ k → Places h w r′ c′ k
+unfolding blockIn
+gathered-inside h w kinds owners f p q s =
+    block-places h w p q (omega (arith, s .many, in-few w kinds owners f (h * w), area h w p q))
+    (λ i m. upto-mem (h * w) (filter-mem (inIt w kinds owners f) (upto (h * w)) m .0)) (gathered-places s)
+
+-- .. and are those of the board
+pub gathered-block : (h w : ℕ) (lines : List (List ℕ)) (cells : List ℕ) {kinds owners : List ℕ} → Held (viewOn h w lines cells) kinds owners
+    → (f : ℕ) {r c r′ c′ : List ℕ} {k : ℕ} → Gathered w (blockIn kinds owners (h * w) f) r c r′ c′ k → BlockPlaces w (block (viewOn h w lines cells) f) r′ c′ k
+gathered-block h w lines cells held f {r′ = r′} {c′ = c′} {k = k} s = subst (λ (b : List ℕ). BlockPlaces w b r′ c′ k) (block-in h w lines cells held f) (gathered-places s)
+
+pub view-grid : (h w : ℕ) (lines : List (List ℕ)) (cells : List ℕ) → viewOn h w lines cells .grid ≡ sized h w
+unfolding view viewWith
+view-grid h w lines cells = refl
+
+-- two squares of an arrow, and the names of their blocks in the array
+module _ {h w : ℕ} {lines : List (List ℕ)} {cells arrows kinds owners : List ℕ} {last cur : ℕ} (s : Scene h w lines cells arrows kinds owners last (cur + 1)) (order : last < cur)
+    (first : square cells (getD arrows last 0) ≡ true) (second : square cells (getD arrows cur 0) ≡ true)
+    (f e : ℕ) (ef : f ≡ getD owners (getD arrows last 0) 0) (ee : e ≡ getD owners (getD arrows cur 0) 0) where
+  abbrev board : View
+  board = viewOn h w lines cells
+
+  abbrev both : Pair
+  both = pairAt arrows last cur
+
+  last-name : f ≡ getD (viewOn h w lines cells .blocks) (both .last) 0
+  unfolding pairAt
+  last-name = ef ∙ scene-owner s last (omega arith) (omega arith) first
+
+  cur-name : e ≡ getD (viewOn h w lines cells .blocks) (both .cur) 0
+  unfolding pairAt
+  cur-name = ee ∙ scene-owner s cur (omega arith) (omega arith) second
+
+  module _ {b : List ℕ} where
+    -- reason 3
+    pub no-shift : any (fits (board .grid) (block board f) (reach board e) f) (reach board e) ≡ true → FoundAs (reason3At board both) b b Nothing
+    no-shift t = rw (shift-none board both f e last-name cur-name t) (found-none b)
+
+    pub shift-found : any (fits (board .grid) (block board f) (reach board e) f) (reach board e) ≡ false → {a : List ℕ} {k : ℕ} → Wrote (blockCellFence board f (getD arrows cur 0) e) b a k → FoundAs (reason3At board both) b a (Reason k)
+    unfolding pairAt
+    shift-found t w = rw (shift-some board both f e last-name cur-name t) (wrote-found w)
+
+    -- reason 4 (a)
+    pub no-growth : length (block board f) + 1 ≤ length (reach board e) → FoundAs (reason4aAt board both) b b Nothing
+    no-growth t = rw (growth-none board both f e last-name cur-name t) (found-none b)
+
+    pub growth-found : length (reach board e) < length (block board f) + 1 → {a : List ℕ} {k : ℕ} → Wrote (blockCellFence board f (getD arrows cur 0) e) b a k → FoundAs (reason4aAt board both) b a (Reason k)
+    unfolding pairAt
+    growth-found t w = rw (growth-some board both f e last-name cur-name t) (wrote-found w)
+
+  -- the places between
+  module _ (places : CellArray arrows) (short : cur + 1 ≤ 1024) where
+    abbrev between : List ℕ
+    between = slice (last + 2) (cur - 1) arrows
+
+    between-inside : (x : ℕ) → List·Memᴰ x between → x < h * w
+    between-inside x m =
+        let k = slice-mem arrows (last + 2) (cur - 1) (omega (arith, places .long)) m in
+        rw (k .3) at (s .inside (k .0) (omega (arith, k .1)) (omega (arith, k .2)))
+
+    gap-is : gap board both ≡ between
+    gap-is = gap-places board arrows last cur order (omega (arith, places .long))
+
+    count-is : mostApart (board .cells) false (gap board both) ≡ mostApart cells false between
+    unfolding view viewWith
+    count-is = rw gap-is (most-taken cells (h * w) false between between-inside)
+
+    empties-are : filter (empty (board .cells)) (gap board both) ≡ filter (empty cells) between
+    unfolding view viewWith
+    empties-are = rw gap-is (empty-agree cells (h * w) between between-inside)
+
+    module _ {b : List ℕ} where
+      -- reason 4 (b)
+      pub no-gap : length (block board e) ≤ length (reach board f) + 1 + mostApart cells false between → FoundAs (reason4bAt board both) b b Nothing
+      no-gap t = rw (gap-none board both f e last-name cur-name (rw count-is t)) (found-none b)
+
+      pub gap-found : length (reach board f) + 1 + mostApart cells false between < length (block board e)
+          → {a : List ℕ} {k : ℕ} → Wrote (blockCellFence board e (getD arrows last 0) f ++ each 0 (filter (empty cells) between)) b a k → FoundAs (reason4bAt board both) b a (Reason k)
+      unfolding pairAt
+      gap-found t w = rw (gap-some board both f e last-name cur-name (rw count-is t), empties-are) (wrote-found w)

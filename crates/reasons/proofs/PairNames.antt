@@ -1,0 +1,91 @@
+-- The squares of an arrow are in arrow blocks, and the arrays have their names.
+-- Assumes nothing.
+use Prim.Native.Nat.{ℕ, _+_, _*_, _≤_, _<_}
+use native.Mathlib.Omega.{arith}
+use mathlib.Core.Path.{_≡_, refl, ap, _∙_}
+use mathlib.Core.Bool.{true, false}
+use mathlib.Core.List.{List}
+use lib.ListN.{getD, take}
+use lib.Seq.{getD-take}
+use borrow.Author.Tests.{eqb-true, eq-eqb}
+use Rattle.grid.specs.Lists.{upto}
+use Rattle.grid.specs.Grid.{Grid, size, cellsOf}
+use Rattle.grid.specs.Side.{sized}
+use Rattle.grid.proofs.ListLaws.{true-and, mem-any, getD-map-range}
+use Rattle.grid.proofs.GridLaws.{in-cells}
+use Rattle.board.specs.Board.{empty, square}
+use Rattle.groups.specs.Groups.{labels}
+use Rattle.groups.specs.Arrows.{onArrow}
+use Rattle.groups.proofs.GroupLaws.{linked-size, label-own}
+use Rattle.kinds.specs.Kinds.{view, viewWith, vacant, inBlock, arrowBlock, kindAt, kindsOf, ownerBy, ownerArray}
+use Rattle.reasons.specs.Pairs.{NextSquare, viewOn, Scene}
+use Rattle.reasons.proofs.Views.{array-at}
+
+-- a cell of the grid, in an array and among the grid's cells
+pub square-taken : (cells : List ℕ) (n i : ℕ) → i < n → square (take n cells) i ≡ square cells i
+unfolding square
+square-taken cells n i h = rw (getD-take n cells i 0 h) refl
+
+pub next-taken : {cells arrows : List ℕ} {from to r : ℕ} (n : ℕ) → NextSquare cells arrows from to r → ((k : ℕ) → from ≤ k → k < to → getD arrows k 0 < n)
+    → NextSquare (take n cells) arrows from to r
+next-taken {cells} {arrows} {from} {to} {r} n x inside = record {
+  low = x .low;
+  high = x .high;
+  none = λ k p q. square-taken cells n (getD arrows k 0) (inside k p (omega (arith, x .high))) ∙ x .none k p q;
+  some = λ p. square-taken cells n (getD arrows r 0) (inside r (x .low) p) ∙ x .some p;
+}
+
+-- a square of an arrow
+module _ (g : Grid) (lines : List (List ℕ)) (cells : List ℕ) (i : ℕ) (on : i < size g) (sq : square cells i ≡ true) (arrow : onArrow lines i ≡ true) where
+  abbrev blocks : List ℕ
+  blocks = labels g (square cells)
+
+  not-empty : empty cells i ≡ false
+  unfolding empty square
+  not-empty = rw (eqb-true (getD cells i 0) 1 sq) refl
+
+  in-arrow-block : arrowBlock g lines cells blocks (getD blocks i 0) ≡ true
+  unfolding arrowBlock
+  in-arrow-block = mem-any _ (cellsOf g) (in-cells g i on) (true-and (true-and sq (eq-eqb (getD blocks i 0) (getD blocks i 0) refl)) arrow)
+
+  kind-is : getD (kindsOf g lines cells blocks) i vacant ≡ inBlock (getD blocks i 0)
+  unfolding kindsOf kindAt cellsOf upto
+  kind-is =
+      let z : 0 + i ≡ i = omega arith in
+      getD-map-range (kindAt g lines cells blocks) 0 (size g) i vacant on
+      ∙ ap (kindAt g lines cells blocks) z
+      ∙ rw (not-empty, sq, in-arrow-block) refl
+
+  -- the name of its block stands in the array
+  pub owner-is : getD (ownerArray (view g lines cells)) i 0 ≡ getD (view g lines cells .blocks) i 0
+  unfolding ownerArray view viewWith ownerBy
+  owner-is = array-at g _ (λ j. ownerBy (getD (view g lines cells .floats) j 0) (getD (kindsOf g lines cells blocks) j vacant)) 0 i on ∙ rw kind-is refl
+
+  -- .. and is a cell of the grid
+  pub name-inside : getD (view g lines cells .blocks) i 0 < size g
+  unfolding view viewWith
+  name-inside = linked-size g (square cells) on (label-own g (square cells) i on sq)
+
+-- the same by a scene
+module _ {h w : ℕ} {lines : List (List ℕ)} {cells arrows kinds owners : List ℕ} {from to : ℕ} (s : Scene h w lines cells arrows kinds owners from to) where
+  -- a part of it
+  pub scene-part : {a b : ℕ} → from ≤ a → b ≤ to → Scene h w lines cells arrows kinds owners a b
+  scene-part p q = record {
+    held = s .held;
+    few = omega (arith, s .few);
+    inside = λ k l u. s .inside k (omega arith) (omega arith);
+    on-arrow = λ k l u. s .on-arrow k (omega arith) (omega arith);
+  }
+
+  module _ (k : ℕ) (p : from ≤ k) (q : k < to) (sq : square cells (getD arrows k 0) ≡ true) where
+    pub scene-owner : getD owners (getD arrows k 0) 0 ≡ getD (viewOn h w lines cells .blocks) (getD arrows k 0) 0
+    unfolding size
+    scene-owner =
+        rw (s .held .owner)
+        (owner-is (sized h w) lines (take (h * w) cells) (getD arrows k 0) (s .inside k p q) (square-taken cells (h * w) (getD arrows k 0) (s .inside k p q) ∙ sq) (s .on-arrow k p q))
+
+    pub scene-name : getD owners (getD arrows k 0) 0 < h * w
+    unfolding size
+    scene-name =
+        rw scene-owner
+        (name-inside (sized h w) lines (take (h * w) cells) (getD arrows k 0) (s .inside k p q) (square-taken cells (h * w) (getD arrows k 0) (s .inside k p q) ∙ sq) (s .on-arrow k p q))

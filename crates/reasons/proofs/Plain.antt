@@ -1,0 +1,91 @@
+-- The arrows by position, and the block rules as Rules states them and by positions.
+-- Assumes nothing.
+use Prim.Native.Nat.{ℕ, _<_}
+use mathlib.Core.Path.{_≡_, refl, sym, _∙_, subst}
+use mathlib.Core.Bool.{So}
+use mathlib.Core.List.{List, _∷_, _++_, List·Memᴰ}
+use mathlib.Core.Option.{none}
+use native.Mathlib.Omega.{arith}
+use lib.ListN.{length, getD, take}
+use Rattle.grid.proofs.GridLaws.{adj-sym}
+use Rattle.grid.specs.Lists.{member, last}
+use Rattle.grid.proofs.ListLaws.{mem-any, mem-member, at-mem, so-false}
+use Rattle.grid.specs.Grid.{Grid, size, Adjacent}
+use Rattle.grid.specs.Link.{linked-start, linked-trans, linked-sym}
+use Rattle.board.specs.Board.{square}
+use Rattle.board.proofs.BoardLaws.{sq-below}
+use Rattle.groups.specs.Arrows.{onArrow, Pair}
+use Rattle.groups.proofs.ArrowLaws.{NextAt, at-last, at-cur, pos-below, position, posLast, posCur, Parted, mid, tip, whole, mid-clear}
+use Rattle.groups.specs.Rules.{Next, BlockRules, Grown, SameBlock}
+use Rattle.kinds.specs.Kinds.{has}
+use Rattle.reasons.proofs.Refute.{Rules}
+
+-- one of the arrows
+abbrev pub Which : List (List ℕ) → Type 0
+Which arrows = (l : List ℕ) × List·Memᴰ l arrows
+
+-- how many cells it has
+abbrev pub lineLen : (arrows : List (List ℕ)) → Which arrows → ℕ
+lineLen arrows t = length (t .0)
+
+-- its cell at position k
+abbrev pub lineAt : (arrows : List (List ℕ)) → Which arrows → ℕ → ℕ
+lineAt arrows t k = getD (t .0) k 0
+
+-- its cells are arrow cells
+pub on-line : (arrows : List (List ℕ)) (t : Which arrows) (k : ℕ) → k < lineLen arrows t → So (onArrow arrows (lineAt arrows t k))
+unfolding onArrow
+on-line arrows t k l = mem-any (member (lineAt arrows t k)) arrows (t .1) (mem-member (lineAt arrows t k) (t .0) (at-mem (t .0) k l))
+
+-- the block rules of a full board, by positions
+abbrev pub RulesAt : Grid → List (List ℕ) → List ℕ → Type 0
+RulesAt g arrows full = Rules (Adjacent g) (λ c. So (onArrow arrows c)) g (Which arrows) (lineLen arrows) (lineAt arrows) (λ c. So (square full c))
+
+module _ (g : Grid) (arrows : List (List ℕ)) (full : List ℕ) (long : length full ≡ size g) where
+  -- the squares of the full board
+  abbrev S : ℕ → Type 0
+  S c = So (square full c)
+
+  low : (c : ℕ) → S c → c < size g
+  low c s = omega (arith, sq-below full c s, long)
+
+  -- from the rules as stated to positions
+  pub plain-rules : BlockRules g arrows full → RulesAt g arrows full
+  plain-rules r = record {
+    has = λ c s. let o = r .one c (low c s) s in (o .cell, o .arrow, o .within);
+    one = λ d e ad ae l. let o = r .one d (low d (linked-start l)) (linked-start l) in
+        o .unique d (linked-trans l (linked-sym (adj-sym g) l)) ad ∙ sym (o .unique e l ae);
+    grow = λ t i j jl pr. r .grown (lineAt arrows t i) (lineAt arrows t j) (next t i j jl pr);
+  }
+    where
+      next : (t : Which arrows) (i j : ℕ) → j < lineLen arrows t → NextAt S (lineAt arrows t) i j → Next g arrows full (lineAt arrows t i) (lineAt arrows t j)
+      next t i j jl pr = record {
+        before = take i (t .0);
+        between = mid S (t .0) i j jl pr;
+        behind = tip S (t .0) i j jl pr;
+        arrow = subst (λ z. List·Memᴰ z arrows) (whole S (t .0) i j jl pr) (t .1);
+        first = pr .1;
+        second = pr .2;
+        none = λ k m. so-false (square full k) (mid-clear S (t .0) i j jl pr k m);
+      }
+
+  -- and back
+  pub rules-plain : RulesAt g arrows full → BlockRules g arrows full
+  rules-plain r = record {
+    one = λ i l s. let w = r .has i s in record {
+      cell = w .0;
+      within = w .2;
+      arrow = w .1;
+      unique = λ j k aj. r .one j (w .0) aj (w .1) (linked-trans (linked-sym (adj-sym g) k) (w .2));
+    };
+    grown = grown;
+  }
+    where
+      grown : (i j : ℕ) → Next g arrows full i j → Grown g (SameBlock g full i) (SameBlock g full j)
+      grown i j n =
+          let p : Pair = record { last = i; between = n .between; cur = j } in
+          let arrow : List ℕ = n .before ++ (i ∷ (n .between ++ (j ∷ n .behind))) in
+          let q : Parted full arrow p = record { before = n .before; behind = n .behind; whole = refl; first = n .first; second = n .second; none = n .none } in
+          subst (λ z. Grown g (SameBlock g full z) (SameBlock g full j)) (at-last full arrow p q)
+          (subst (λ z. Grown g (SameBlock g full (getD arrow (posLast full arrow p q) 0)) (SameBlock g full z)) (at-cur full arrow p q)
+          (r .grow (arrow, n .arrow) (posLast full arrow p q) (posCur full arrow p q) (pos-below full arrow p q) (position full arrow p q)))

@@ -1,0 +1,159 @@
+-- A reason has at most 3 × H × W + 1 literals.
+-- Assumes nothing.
+use Prim.Native.Nat.{ℕ, zero, suc, _+_, _*_, _≤_}
+use native.Mathlib.Omega.{arith}
+use mathlib.Core.Path.{_≡_, refl}
+use mathlib.Core.Bool.{Bool, true, false, cond, _&&_, not}
+use mathlib.Core.List.{List, [], _∷_, _++_, List·Memᴰ, List·Memᴰ·head, List·Memᴰ·tail}
+use mathlib.Core.Option.{none, some}
+use lib.Dec.{eqb}
+use lib.ListN.{length, getD, length-append}
+use Rattle.grid.proofs.ListLaws.{filter-length, flatMap-length, length-tail, length-init, flatMap-mem}
+use Rattle.grid.proofs.GridLaws.{cells-length}
+use Rattle.grid.specs.Lists.{filter, any, flatMap, tail, init, last}
+use Rattle.grid.specs.Grid.{Grid, size, cellsOf, touches}
+use Rattle.record.specs.Record.{Puzzle, readRecord, ok}
+use Rattle.record.proofs.RecordLaws.{record-valid}
+use Rattle.record.proofs.FreshLaws.{one-length, arrows-length}
+use Rattle.board.specs.Board.{Literal, square, empty, filled}
+use Rattle.groups.proofs.ArrowLaws.{pairs-parted, pos-below}
+use Rattle.groups.specs.Groups.{labels, group, names}
+use Rattle.groups.specs.Arrows.{onArrow, Pair, pairs}
+use Rattle.kinds.specs.Kinds.{View, Kind, view, viewWith, block, reach, fence, fenceAt, vacant, barrier, floating, inBlock, beside, rival, has, isIn}
+use Rattle.reasons.proofs.Pass.{each-length}
+use Rattle.reasons.specs.Reasons.{Found, orElse, given, firstOf, each, reason1At, reason1, reason2At, reason2, path, parent, breadthFirst, blockName, reasonGrow, reason3At, gap, reasonShrink, reason4At, reason34, findReason}
+
+-- a reason of this length at most
+Short : ℕ → Found → Type 0
+Short n r = (l : List Literal) → r ≡ some l → length l ≤ n
+
+some-short : (n : ℕ) (r : List Literal) → length r ≤ n → Short n (some r)
+unfolding Short
+some-short n r h l e = let q : r ≡ l = cc in rw (← q) h
+
+none-short : (n : ℕ) → Short n none
+unfolding Short
+none-short n l e = let z : _≡_ {A = ℕ} 0 1 = cc in absurd (omega arith)
+
+orElse-short : (n : ℕ) (a b : Found) → Short n a → Short n b → Short n (orElse a b)
+unfolding orElse
+orElse-short n none b h k = k
+orElse-short n (some r) b h k = h
+
+firstOf-short : {A : Type 0} (n : ℕ) (f : A → Found) (l : List A) → ((x : A) → List·Memᴰ x l → Short n (f x)) → Short n (firstOf f l)
+unfolding firstOf
+firstOf-short n f [] h = none-short n
+firstOf-short n f (x ∷ xs) h = orElse-short n (f x) (firstOf f xs) (h x (List·Memᴰ·head refl)) (firstOf-short n f xs (λ y m. h y (List·Memᴰ·tail m)))
+
+given-short : (n : ℕ) (t : Bool) (r : List Literal) → length r ≤ n → Short n (given t r)
+unfolding given
+given-short n true r h = some-short n r h
+given-short n false r h = none-short n
+
+path-length : (k : ℕ) (cs : List Literal) (a b : ℕ) → length (path k cs a b) ≤ suc k
+unfolding path
+path-length zero cs a b = omega arith
+path-length (suc k) cs a b = go (eqb a b) (path k cs (parent cs a) b) (path-length k cs (parent cs a) b)
+  where
+    go : (t : Bool) (r : List ℕ) → length r ≤ suc k → length (cond t (a ∷ []) (a ∷ r)) ≤ suc (suc k)
+    go true r h = omega arith
+    go false r h = omega arith
+
+-- the bound
+abbrev bound : Grid → ℕ
+bound g = 3 * size g + 1
+
+module _ (g : Grid) (arrows : List (List ℕ)) (cells : List ℕ) where
+  length1 : (c : List ℕ) → length (each 0 (filter (λ i. empty cells i && touches g c i) (cellsOf g)) ++ each 1 (last 0 (filter (square cells) c) ∷ [])) ≤ bound g
+  length1 c = rw (length-append, each-length, each-length) (omega (arith, filter-length (λ i. empty cells i && touches g c i) (cellsOf g), cells-length g))
+
+  short1 : Short (bound g) (reason1 g arrows cells)
+  unfolding reason1 reason1At
+  short1 = firstOf-short (bound g) _ (names g (filled cells) (labels g (filled cells))) λ f m. at (group g (filled cells) (labels g (filled cells)) f)
+    where
+      at : (c : List ℕ) → Short (bound g) (reason1At g arrows cells c)
+      at c = given-short (bound g) (any (square cells) c && not (any (onArrow arrows) c)) _ (length1 c)
+
+  short2 : Short (bound g) (reason2 g arrows cells)
+  unfolding reason2 reason2At
+  short2 = firstOf-short (bound g) _ (names g (square cells) (labels g (square cells))) λ f m. at (filter (onArrow arrows) (group g (square cells) (labels g (square cells)) f))
+    where
+      at : (c : List ℕ) → Short (bound g) (reason2At g arrows cells c)
+      at [] = none-short (bound g)
+      at (a ∷ []) = none-short (bound g)
+      at (a ∷ b ∷ c) =
+          let way : List ℕ = path (size g) (breadthFirst g cells (size g) [] ((b, b) ∷ [])) a b in
+          some-short (bound g) (each 1 way) (rw each-length (omega (arith, path-length (size g) (breadthFirst g cells (size g) [] ((b, b) ∷ [])) a b)))
+
+module _ (v : View) where
+  pub block-length : (f : ℕ) → length (block v f) ≤ size (v .grid)
+  unfolding block
+  block-length f = omega (arith, filter-length (has (isIn f) (v .kinds)) (cellsOf (v .grid)), cells-length (v .grid))
+
+  pub fence-length : (f : ℕ) → length (fence v f) ≤ size (v .grid)
+  unfolding fence fenceAt
+  fence-length f = omega (arith, flatMap-length (λ i. fenceAt v f (reach v f) i (getD (v .kinds) i vacant)) (λ i. one i (getD (v .kinds) i vacant)) (cellsOf (v .grid)), cells-length (v .grid))
+    where
+      pick : (t : Bool) (l : Literal) → length (cond t (l ∷ []) []) ≤ 1
+      pick true l = omega arith
+      pick false l = omega arith
+
+      one : (i : ℕ) (k : Kind) → length (fenceAt v f (reach v f) i k) ≤ 1
+      one i vacant = pick (touches (v .grid) (reach v f) i) (i, 0)
+      one i barrier = omega arith
+      one i floating = omega arith
+      one i (inBlock e) = pick (not (eqb e f) && rival v (reach v f) e) (i, 1)
+      one i (beside e) = omega arith
+
+-- a pair whose gap is no longer than the grid is large
+module _ (v : View) (p : Pair) (h : length (p .between) ≤ size (v .grid)) where
+  grow-length : length (reasonGrow v p) ≤ bound (v .grid)
+  unfolding reasonGrow
+  grow-length = rw (length-append, length-append, each-length, each-length) (omega (arith, block-length v (blockName v p (p .last)), fence-length v (blockName v p (p .cur))))
+
+  short3 : Short (bound (v .grid)) (reason3At v p)
+  unfolding reason3At
+  short3 = given-short (bound (v .grid)) _ (reasonGrow v p) grow-length
+
+  shrink-length : length (reasonShrink v p) ≤ bound (v .grid)
+  unfolding reasonShrink gap
+  shrink-length =
+      simp (length-append, each-length) (omega (
+        arith,
+        block-length v (blockName v p (p .cur)),
+        fence-length v (blockName v p (p .last)),
+        filter-length (empty (v .cells)) (tail (init (p .between))),
+        length-tail (init (p .between)),
+        length-init (p .between),
+      ))
+
+  short4 : Short (bound (v .grid)) (reason4At v p)
+  unfolding reason4At
+  short4 = orElse-short (bound (v .grid)) _ _ (given-short (bound (v .grid)) _ (reasonGrow v p) grow-length) (given-short (bound (v .grid)) _ (reasonShrink v p) shrink-length)
+
+-- a pair's cells lie on an arrow
+pairs-length : (cells a : List ℕ) (p : Pair) → List·Memᴰ p (pairs cells a) → length (p .between) ≤ length a
+pairs-length cells a p m = omega (arith, pos-below cells a p (pairs-parted cells a p m))
+
+-- a reason is no longer than the bound, if no arrow is longer than the grid
+pub reason-length : (g : Grid) (arrows : List (List ℕ)) (cells : List ℕ) → ((a : List ℕ) → List·Memᴰ a arrows → length a ≤ size g)
+    → (r : List Literal) → findReason g arrows cells ≡ some r → length r ≤ 3 * size g + 1
+unfolding findReason reason34 Short view viewWith
+reason-length g arrows cells h =
+    orElse-short (bound g) _ _ (short1 g arrows cells) (orElse-short (bound g) _ _ (short2 g arrows cells)
+    (orElse-short (bound g) _ _ (firstOf-short (bound g) (reason3At v) ps (λ p m. short3 v p (fit p m))) (firstOf-short (bound g) (reason4At v) ps (λ p m. short4 v p (fit p m)))))
+  where
+    v : View
+    v = view g arrows cells
+
+    ps : List Pair
+    ps = flatMap (pairs cells) arrows
+
+    fit : (p : Pair) → List·Memᴰ p ps → length (p .between) ≤ size g
+    fit p m = let r = flatMap-mem (pairs cells) arrows m in omega (arith, pairs-length cells (r .0) p (r .2), h (r .0) (r .1))
+
+-- a reason found on a record that is read fits the buffer
+pub found-length : (s : List ℕ) (p : Puzzle) → readRecord s ≡ ok p → (cells : List ℕ) (r : List Literal)
+    → findReason (p .grid) (p .arrows) cells ≡ some r → length r ≤ 3 * size (p .grid) + 1
+found-length s p e cells r f =
+    reason-length (p .grid) (p .arrows) cells (λ a m. omega (arith, one-length (p .arrows) a m, arrows-length p (record-valid s e))) r f

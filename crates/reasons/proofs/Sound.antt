@@ -1,0 +1,183 @@
+-- Every reason is sound, and on a full board none is given exactly when the block rules hold.
+-- Assumes nothing.
+use Prim.Native.Nat.{ℕ, _+_, _<_}
+use mathlib.Core.Logic.{_⊎_, inl, inr, _↔_, _≢_}
+use mathlib.Core.Path.{_≡_, refl, sym, _∙_}
+use mathlib.Core.Bool.{false, So, _&&_, not}
+use mathlib.Core.List.{List, [], _∷_, List·Memᴰ, List·Memᴰ·not-nil, List·Memᴰ·eq-of-singleton}
+use mathlib.Core.Option.{none, some}
+use native.Mathlib.Omega.{arith}
+use lib.ListN.{length, getD}
+use borrow.Author.Tests.{lt-ltb}
+use Rattle.grid.specs.Lists.{filter, any, flatMap, last, init, tail}
+use Rattle.grid.proofs.ListLaws.{mem-filter, dec-so, true-and, so-not, any-mem, mem-any, mem-flatMap}
+use Rattle.grid.specs.Grid.{size, Adjacent}
+use Rattle.grid.specs.Link.{Linked, linked-end, linked-map, here, linked-start}
+use Rattle.grid.proofs.Count.{count}
+use Rattle.board.specs.Board.{Literal, empty, square, undecided, filled, Agrees}
+use Rattle.board.proofs.BoardLaws.{sq-not-em}
+use Rattle.groups.proofs.GroupLaws.{mem-group, own-names, group-linked, linked-group}
+use Rattle.groups.proofs.Shift.{Contains}
+use Rattle.groups.specs.Groups.{labels, group, names}
+use Rattle.groups.specs.Arrows.{onArrow, pairs, Pair}
+use Rattle.groups.specs.Rules.{Shift, BlockRules}
+use Rattle.groups.proofs.ArrowLaws.{NextAt, position-pair}
+use Rattle.kinds.proofs.Bridge.{Setting, decisions, dec-reach, boardOf, sq<, blockLabel}
+use Rattle.kinds.specs.Kinds.{View, view, viewWith, block, reach}
+use Rattle.kinds.specs.Meaning.{PartialBoard, Block, Reach}
+use Rattle.kinds.proofs.Fence.{length-reach, length-block}
+use Rattle.reasons.proofs.Sound34.{four-none, tooMany, three-none, tooFew, Spot, reason34-sound, A}
+use Rattle.reasons.proofs.Plain.{on-line, lineAt, lineLen, Which, rules-plain, plain-rules, RulesAt}
+use Rattle.reasons.proofs.First.{or-else-some, given-none, first-none, or-else-none}
+use Rattle.reasons.proofs.Sound1.{so-filled, reason1-sound, filled<, filled-so}
+use Rattle.reasons.proofs.Stands.{find-stands}
+use Rattle.reasons.proofs.Sound2.{reason2-sound, blockOf}
+use Rattle.reasons.specs.Reasons.{Found, orElse, firstOf, reason1At, reason1, mostApart, reason3At, reason4At, reason34, reason2At, reason2, findReason}
+use Rattle.reasons.proofs.Quiet.{Quiet, quiet-rules}
+use Rattle.reasons.proofs.Gap.{most-full}
+
+module _ (set : Setting) where
+  open Setting set using (grid, arrows, cells, valid)
+
+  -- the board, as Confine takes it
+  abbrev B : PartialBoard
+  B = boardOf set
+
+  -- the name of the block of a square
+  abbrev label : ℕ → ℕ
+  label i = getD (labels grid (square cells)) i 0
+
+  -- the view of the board
+  abbrev v : View
+  v = view grid arrows cells
+
+  -- the name of the block of a square
+  abbrev nameOf : ℕ → ℕ
+  nameOf = blockLabel set
+
+  -- every reason is sound, with the rules by positions
+  pub find-sound : (r : List Literal) → findReason grid arrows cells ≡ some r → (full : List ℕ) → length full ≡ size grid → Agrees full r → ¬ RulesAt grid arrows full
+  unfolding findReason
+  find-sound r e full long ag rules = go (or-else-some (reason1 grid arrows cells) _ r e)
+    where
+      two : (reason2 grid arrows cells ≡ some r) ⊎ ((reason2 grid arrows cells ≡ none) × (reason34 v ≡ some r)) → ⊥
+      two (inl k) = reason2-sound set r k full ag rules
+      two (inr k) = reason34-sound set full long rules r (k .1) ag
+
+      go : (reason1 grid arrows cells ≡ some r) ⊎ ((reason1 grid arrows cells ≡ none) × (orElse (reason2 grid arrows cells) (reason34 v) ≡ some r)) → ⊥
+      go (inl k) = reason1-sound set full long rules r k ag
+      go (inr k) = two (or-else-some (reason2 grid arrows cells) (reason34 v) r (k .1))
+
+  -- no reason applies
+  abbrev Q : Type 0
+  Q = Quiet B grid (A set) (decisions set) (dec-reach set)
+
+  -- where no reason is given none applies
+  module _ (full : (c : ℕ) → ¬ So (undecided cells c)) where
+    quiet-1 : reason1 grid arrows cells ≡ none → (s : ℕ) → So (square cells s) → ¬ ((c : ℕ) → Linked (Adjacent grid) (λ k. ¬ So (empty cells k)) s c → ¬ So (onArrow arrows c))
+    unfolding reason1 reason1At
+    quiet-1 e s sq none-there =
+        let fs : So (filled cells s) = filled-so set s (sq-not-em cells s sq) in
+        let s< = filled< set s fs in
+        let c : List ℕ = group grid (filled cells) l (getD l s 0) in
+        let k = first-none (λ f. reason1At grid arrows cells (group grid (filled cells) l f)) (names grid (filled cells) l) e (own-names grid (filled cells) s s< fs) in
+        given-none (any (square cells) c && not (any (onArrow arrows) c)) _ k
+        (true-and (mem-any (square cells) c (mem-group grid (filled cells) l (getD l s 0) s s< fs refl) sq)
+        (so-not (any (onArrow arrows) c) (λ a.
+        let w = any-mem (onArrow arrows) c a in
+        none-there (w .0) (linked-map (λ x q. so-filled set x (linked-end q)) (group-linked grid (filled cells) s (w .0) s< fs (w .1))) (w .2))))
+      where
+        l : List ℕ
+        l = labels grid (filled cells)
+
+    two-none : (a b : ℕ) (l : List ℕ) → List·Memᴰ a l → List·Memᴰ b l → a ≢ b → reason2At grid arrows cells l ≡ none → ⊥
+    unfolding reason2At
+    two-none a b [] ma mb ne e = List·Memᴰ·not-nil ma
+    two-none a b (x ∷ []) ma mb ne e = ne (List·Memᴰ·eq-of-singleton ma ∙ sym (List·Memᴰ·eq-of-singleton mb))
+    two-none a b (x ∷ y ∷ l) ma mb ne e = let z : _≡_ {A = ℕ} 0 1 = cc in omega arith
+
+    quiet-2 : reason2 grid arrows cells ≡ none → (a b : ℕ) → So (onArrow arrows a) → So (onArrow arrows b) → a ≢ b → ¬ Block B a b
+    unfolding reason2
+    quiet-2 e a b aa ab ne l =
+        let a< = sq< set a (linked-start l) in
+        let c : List ℕ = blockOf set (label a) in
+        let k = first-none (λ f. reason2At grid arrows cells (filter (onArrow arrows) (blockOf set f))) (names grid (square cells) (labels grid (square cells))) e (own-names grid (square cells) a a< (linked-start l)) in
+        two-none a b (filter (onArrow arrows) c)
+        (mem-filter (onArrow arrows) c (linked-group grid (square cells) a a a< (here (linked-start l))) aa)
+        (mem-filter (onArrow arrows) c (linked-group grid (square cells) a b a< l) ab) ne k
+
+    -- a pair of positions, and what the two tests say of it
+    module _ (e : reason34 v ≡ none) (t : Which arrows) (i j : ℕ) (jl : j < lineLen arrows t) (pr : NextAt (λ c. So (square cells c)) (lineAt arrows t) i j) where
+      both : (b : List ℕ) × (reason3At v (record { last = lineAt arrows t i; between = b; cur = lineAt arrows t j }) ≡ none) × (reason4At v (record { last = lineAt arrows t i; between = b; cur = lineAt arrows t j }) ≡ none)
+      unfolding reason34 view viewWith
+      both =
+          let w = or-else-none (firstOf (reason3At v) ps) (firstOf (reason4At v) ps) e in
+          let q = position-pair cells (t .0) i j jl pr in
+          let m = mem-flatMap (pairs cells) arrows (t .1) (q .1) in
+          (q .0, first-none (reason3At v) ps (w .0) m, first-none (reason4At v) ps (w .1) m)
+        where
+          ps : List Pair
+          ps = flatMap (pairs cells) arrows
+
+      spot : Spot set
+      spot = record { t = t; i = i; j = j; jl = jl; pr = pr; between = both .0 }
+
+      -- the earlier cell of the pair
+      abbrev a₁ : ℕ
+      a₁ = lineAt arrows t i
+
+      -- the later cell of the pair
+      abbrev c₁ : ℕ
+      c₁ = lineAt arrows t j
+
+      size-reach : (k : ℕ) → k < lineLen arrows t → So (square cells (lineAt arrows t k)) → length (reach v (nameOf (lineAt arrows t k))) ≡ count (dec-reach set (lineAt arrows t k)) (size grid)
+      size-reach k l s = length-reach set
+          (lineAt arrows t k) (on-line arrows t k l) s (dec-reach set (lineAt arrows t k))
+
+      size-block : (k : ℕ) → k < lineLen arrows t → So (square cells (lineAt arrows t k)) → length (block v (nameOf (lineAt arrows t k))) ≡ count (decisions set .blk (lineAt arrows t k)) (size grid)
+      size-block k l s = length-block set
+          (lineAt arrows t k) (on-line arrows t k l) s
+
+      tests : (¬ So (tooFew set spot)) × (¬ So (tooMany set spot))
+      unfolding spot
+      tests = four-none set spot (both .2)
+
+      quiet-3 : (s : Shift) × Contains grid s (Block B a₁) (Reach B c₁)
+      unfolding spot
+      quiet-3 = three-none set spot (both .1)
+
+      quiet-4a : ¬ (count (dec-reach set c₁) (size grid) < count (decisions set .blk a₁) (size grid) + 1)
+      unfolding spot
+      quiet-4a h = tests .0 (lt-ltb (length (reach v (nameOf c₁))) (length (block v (nameOf a₁)) + 1) (omega (arith, size-reach j jl (pr .2), size-block i (omega (arith, pr .0)) (pr .1))))
+
+      quiet-4b : ¬ (count (dec-reach set a₁) (size grid) + 1 < count (decisions set .blk c₁) (size grid))
+      unfolding spot
+      quiet-4b h = tests .1 (lt-ltb (length (reach v (nameOf a₁)) + 1 + mostApart cells false (tail (init (both .0)))) (length (block v (nameOf c₁)))
+          (omega (arith, size-reach i (omega (arith, pr .0)) (pr .1), size-block j jl (pr .2), most-full cells (tail (init (both .0))) full)))
+
+    quiet : findReason grid arrows cells ≡ none → Q
+    unfolding findReason
+    quiet e =
+        let w = or-else-none (reason1 grid arrows cells) (orElse (reason2 grid arrows cells) (reason34 v)) e in
+        let u = or-else-none (reason2 grid arrows cells) (reason34 v) (w .1) in
+        record { q1 = quiet-1 (w .0); q2 = quiet-2 (u .0); q3 = λ t i j jl pr. quiet-3 (u .1) t i j jl pr; q4a = λ t i j jl pr. quiet-4a (u .1) t i j jl pr; q4b = λ t i j jl pr. quiet-4b (u .1) t i j jl pr }
+
+    -- on a full board none is given exactly when the block rules hold
+    pub find-full : (findReason grid arrows cells ≡ none) ↔ RulesAt grid arrows cells
+    find-full = (λ e. by-quiet (quiet e), λ r. given-up r (findReason grid arrows cells) refl)
+      where
+        by-quiet : Q → RulesAt grid arrows cells
+        by-quiet = quiet-rules B grid (A set) (decisions set) (dec-reach set)
+            (λ c. dec-so (onArrow arrows c)) (sq< set) full
+
+        given-up : RulesAt grid arrows cells → (o : Found) → findReason grid arrows cells ≡ o → findReason grid arrows cells ≡ none
+        given-up r none e = e
+        given-up r (some l) e = absurd (find-sound l e cells (valid .long) (λ i w m. find-stands set l e i w m .2) r)
+
+  -- every reason is sound
+  pub sound : (r : List Literal) → findReason grid arrows cells ≡ some r → (full : List ℕ) → length full ≡ size grid → Agrees full r → ¬ BlockRules grid arrows full
+  sound r e full long ag rules = find-sound r e full long ag (plain-rules grid arrows full long rules)
+
+  -- on a full board none is given exactly when the block rules hold
+  pub complete : ((c : ℕ) → ¬ So (undecided cells c)) → (findReason grid arrows cells ≡ none) ↔ BlockRules grid arrows cells
+  complete full = let w = find-full full in (λ e. rules-plain grid arrows cells (valid .long) (w .0 e), λ r. w .1 (plain-rules grid arrows cells (valid .long) r))

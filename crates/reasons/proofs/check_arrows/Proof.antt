@@ -1,0 +1,29 @@
+-- `reasons::check_arrows` meets its contract: the kinds are those of the board, and the search goes on from there.
+-- Assumes nothing.
+use Rattle.reasons.specs.Arrays.{linesOf}
+use Rattle.reasons.proofs.Checks.{whole-of}
+use borrow.Author.Needs.{needs}
+use Rattle.reasons.proofs.check_arrows.Statement.{statement}
+use Rattle.reasons.proofs.check_arrows.Tie as tie
+
+compute-board-info-detailed-requires : tie.Need-compute-board-info-detailed-requires
+compute-board-info-detailed-requires c κs = search needs
+
+search-pairs-requires : tie.Need-search-pairs-requires
+search-pairs-requires c κs =
+    let s = c .before .before .before .before .before .before .before .before in (
+      s .pre .0,
+      whole-of (s .pre .1)
+          (c .before .before .before .compute-board-info-detailed .ensures (linesOf (s .args .arrows .now) (s .args .ends .now) (s .args .number)) (s .pre .1 .held) .held),
+    )
+
+same-length : tie.Need-same-length
+same-length c = search needs
+
+returns : tie.Need-returns
+returns c = search needs
+
+pub check-arrows-spec : {M : Type 1} → statement M
+check-arrows-spec =
+    tie.close
+    (tie.spec compute-board-info-detailed-requires search-pairs-requires same-length returns)

@@ -1,0 +1,74 @@
+-- `reasons::check_blocks` meets its contract: the ends that were found, and the path between them.
+-- Assumes nothing.
+use Prim.Native.Nat.{ℕ, _*_}
+use native.Mathlib.Omega.{arith}
+use mathlib.Core.Path.{_≡_, refl}
+use lib.ListN.{take}
+use borrow.Author.Needs.{needs}
+use Rattle.grid.specs.Side.{sized}
+use Rattle.grid.proofs.SideLaws.{area}
+use Rattle.reasons.proofs.Checks.{crossing-ends, crossing-found, crossing-none, sized-size}
+use Rattle.reasons.proofs.check_blocks.Statement.{statement}
+use Rattle.reasons.proofs.check_blocks.Tie as tie
+
+mul-find-crossing : tie.Need-mul-find-crossing
+mul-find-crossing c = search needs
+
+find-crossing-requires : tie.Need-find-crossing-requires
+find-crossing-requires c κs =
+    let s = c .before .before .before in
+    (omega (arith, area (s .args .h) (s .args .w) (s .pre .0 .tall) (s .pre .0 .wide)), refl, refl)
+
+enum-known-ends : tie.Need-enum-known-ends
+enum-known-ends c = search needs
+
+reason-for-path-requires : tie.Need-reason-for-path-requires
+reason-for-path-requires c κs =
+    let s = c .before .before .before .before .before .before .before .before .before .before in
+    let f = c .before .before .before .before .before .before .find-crossing in
+    let h = s .args .h in
+    let w = s .args .w in
+    let cells = take (h * w) (s .args .cells .now) in
+    let k = s .pre .1 in (
+      crossing-ends h w (k .arrows) cells (f .ensures .0 (sized h w) (k .arrows) cells (k .held) (sized-size h w)) (c .before .before .before .before .ends .given .1) (s .pre .0 .tall) (s .pre .0 .wide),
+      f .ensures .1 .1,
+      f .ensures .1 .0,
+      omega (arith, s .pre .0 .room),
+    )
+
+enum-told : tie.Need-enum-told
+enum-told c = search needs
+
+same-length : tie.Need-same-length
+same-length c = search needs
+
+returns : tie.Need-returns
+returns c = λ arrows held.
+    let s = c .before .before .before .before .before .before .before .before .before .before .before .before .before in
+    let f = c .before .before .before .before .before .before .before .before .before .find-crossing in
+    let h = s .args .h in
+    let w = s .args .w in
+    let cells = take (h * w) (s .args .cells .now) in
+    crossing-found h w arrows cells (f .ensures .0 (sized h w) arrows cells held (sized-size h w)) (c .before .before .before .before .before .before .before .ends .given .1) (c .before .before .reason-for-path .ensures .0)
+
+returns-2 : tie.Need-returns-2
+returns-2 c = λ arrows held.
+    let s = c .before .before .before .before .before .before in
+    let f = c .before .before .find-crossing in
+    let h = s .args .h in
+    let w = s .args .w in
+    let cells = take (h * w) (s .args .cells .now) in
+    crossing-none h w arrows cells (f .ensures .0 (sized h w) arrows cells held (sized-size h w)) (s .args .buffer .now) (c .enum-told .given .1)
+
+pub check-blocks-spec : {M : Type 1} → statement M
+check-blocks-spec =
+    tie.close
+    (tie.spec
+    mul-find-crossing
+    find-crossing-requires
+    enum-known-ends
+    reason-for-path-requires
+    enum-told
+    same-length
+    returns
+    returns-2)

@@ -1,0 +1,71 @@
+-- `reasons::find` meets its contract: the board and the buffer are tested, and then the first reason is looked for.
+-- Assumes nothing.
+use Prim.Native.Nat.{_*_, _≤_}
+use native.Mathlib.Omega.{arith}
+use mathlib.Core.Path.{_≡_, sym, _∙_}
+use mathlib.Core.Bool.{true}
+use borrow.Author.Tests.{not-true, not-false}
+use Rattle.grid.proofs.SideLaws.{area}
+use Rattle.board.specs.Form.{wellFormed}
+use Rattle.reasons.proofs.BoardArrays.{board-sizes, board-arrays, find-ill, find-short, find-found}
+use borrow.Author.Needs.{needs}
+use Rattle.reasons.proofs.find.Statement.{statement}
+use Rattle.reasons.proofs.find.Tie as tie
+
+well-formed-requires : tie.Need-well-formed-requires
+well-formed-requires c κs = search needs
+
+-- the board was found to be well formed
+formed : (c : tie.Else1) → wellFormed (c .before .before .before .args .t1) ≡ true
+formed c = sym (c .before .well-formed .ensures) ∙ not-false _ (c .if1 .left)
+
+cells-few : (c : tie.Else1) → c .before .before .before .args .t1 .problem .height * c .before .before .before .args .t1 .problem .width ≤ 1024
+cells-few c = let z = board-sizes (c .before .before .before .args .t1) (formed c) in area (c .before .before .before .args .t1 .problem .height) (c .before .before .before .args .t1 .problem .width) (z .0) (z .1)
+
+returns : tie.Need-returns
+returns c =
+    let s = c .before .before .before in
+    find-ill (s .args .t1) (s .args .buffer .now) (sym (c .before .well-formed .ensures) ∙ not-true _ (c .if1 .taken))
+
+mul-if2 : tie.Need-mul-if2
+mul-if2 c = omega (arith, cells-few c)
+
+mul-if2-2 : tie.Need-mul-if2-2
+mul-if2-2 c = omega (arith, cells-few c)
+
+add-if2 : tie.Need-add-if2
+add-if2 c = omega (arith, cells-few c)
+
+returns-2 : tie.Need-returns-2
+returns-2 c =
+    let s = c .before .before .before .before in
+    find-short (s .args .t1) (s .args .buffer .now) (formed (c .before)) (c .if2 .taken)
+
+find-inconsistency-requires : tie.Need-find-inconsistency-requires
+find-inconsistency-requires c κs =
+    let s = c .before .before .before .before .before .before .before .before .before in
+    let h = formed (c .before .before .before .before .before .before) in
+    let z = board-sizes (s .args .t1) h in
+    (record { tall = z .0; wide = z .1; room = c .before .before .before .before .before .if2 .left }, board-arrays (s .args .t1) h)
+
+same-length : tie.Need-same-length
+same-length c = search needs
+
+returns-3 : tie.Need-returns-3
+returns-3 c =
+    let s = c .before .before .before .before .before .before .before .before .before .before .before .before in
+    find-found (s .args .t1) (s .args .buffer .now) (formed (c .before .before .before .before .before .before .before .before .before)) (c .before .before .before .before .before .before .before .before .if2 .left) (c .before .before .find-inconsistency .ensures)
+
+pub find-spec : {M : Type 1} → statement M
+find-spec =
+    tie.close
+    (tie.spec
+    well-formed-requires
+    returns
+    mul-if2
+    mul-if2-2
+    add-if2
+    returns-2
+    find-inconsistency-requires
+    same-length
+    returns-3)

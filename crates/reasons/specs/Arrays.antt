@@ -1,0 +1,122 @@
+-- What the parts of find ask of the arrays that they are lent.
+-- Assumes nothing.
+use Prim.Native.Nat.{ℕ, _+_, _*_, _≤_, _<_, max}
+use mathlib.Core.Path.{_≡_}
+use mathlib.Core.Bool.{Bool, cond, _&&_, not}
+use mathlib.Core.List.{List, [], _∷_, List·Memᴰ}
+use mathlib.Core.Option.{none, some}
+use lib.Dec.{eqb}
+use lib.ListN.{length, getD, set, take}
+use Rattle.grid.specs.Lists.{filter, upto}
+use Rattle.grid.specs.Grid.{Grid, size}
+use Rattle.grid.specs.Side.{sized}
+use Rattle.record.specs.Problem.{arrowCells, arrowsFrom}
+use Rattle.board.specs.Board.{Literal, filled, square}
+use Rattle.groups.specs.Groups.{Joined, labels, group, labelArray, maskOf}
+use Rattle.groups.specs.Arrows.{onArrow}
+use Rattle.kinds.specs.Kinds.{View, kindArray, ownerArray}
+use Rattle.reasons.specs.Reasons.{Found, each, boundary, breadthFirst, path, reason2}
+use Rattle.reasons.specs.declared.Name.{Name}
+use Rattle.reasons.specs.declared.Name.the-variants.{At, Nobody}
+use Rattle.reasons.specs.declared.Ends.{Ends}
+use Rattle.kinds.specs.Inside.{Held, Given}
+use Rattle.reasons.specs.declared.Ends.the-variants.{Between, Nowhere}
+
+-- an array of cells
+pub record CellArray (a : List ℕ) : Type 0 where
+  pub long : length a ≡ 1024
+  pub cells : (k : ℕ) → getD a k 0 < 1024
+
+-- all arrows as they stand in arrays
+abbrev pub linesOf : List ℕ → List ℕ → ℕ → List (List ℕ)
+linesOf arrows ends count = arrowsFrom arrows 0 (take count ends)
+
+-- the potential groups of the cells, and the arrow cells
+pub record PotentialArrays (g : Grid) (arrows : List (List ℕ)) (cells groups onarrow : List ℕ) : Type 0 where
+  pub groups-are : groups ≡ labelArray g (filled cells)
+  pub arrows-are : onarrow ≡ maskOf g (onArrow arrows)
+
+-- the rank of a cell in the search for reason 1: an arrow cell, another square, any other
+unfoldable pub rankAt : List ℕ → List ℕ → ℕ → ℕ
+rankAt cells onarrow i = cond (eqb (getD onarrow i 0) 1) 2 (cond (eqb (getD cells i 0) 1) 1 0)
+
+-- the highest rank among some cells
+unfoldable pub topRank : (ℕ → ℕ) → List ℕ → ℕ
+topRank r [] = 0
+topRank r (i ∷ is) = max (r i) (topRank r is)
+
+-- each of the groups named below n is marked with the highest rank among its cells below i
+pub record Ranked (cells groups onarrow : List ℕ) (n i : ℕ) (marks : List ℕ) : Type 0 where
+  pub long : length marks ≡ 1024
+  pub ranks : (f : ℕ) → f < n → getD marks f 0 ≡ topRank (rankAt cells onarrow) (filter (λ j. eqb (getD groups j 0) f) (upto i))
+
+-- the first cell of a list that passes the test
+unfoldable pub firstName : (ℕ → Bool) → List ℕ → Name
+firstName t [] = Nobody
+firstName t (x ∷ xs) = cond (t x) (At x) (firstName t xs)
+
+-- the reason r f of the group named f
+unfoldable pub foundAt : (ℕ → List Literal) → Name → Found
+foundAt r Nobody = none
+foundAt r (At f) = some (r f)
+
+-- the literals of reason 1 for the potential group named f
+abbrev pub boundaryOf : Grid → List ℕ → ℕ → List Literal
+boundaryOf g cells f = boundary g cells (group g (filled cells) (labels g (filled cells)) f)
+
+-- ---- reason 2
+
+-- cell i was kept as the first or the second arrow cell of its block
+pub record Kept (blocks onarrow : List ℕ) (i : ℕ) (first second first′ second′ : List ℕ) : Type 0 where
+  pub firsts : first′ ≡ cond (eqb (getD onarrow i 0) 1 && eqb (getD first (getD blocks i 0) 0) 1024) (set first (getD blocks i 0) i) first
+  pub seconds : second′
+      ≡ cond (eqb (getD onarrow i 0) 1 && (not (eqb (getD first (getD blocks i 0) 0) 1024) && eqb (getD second (getD blocks i 0) 0) 1024)) (set second (getD blocks i 0) i) second
+
+-- the arrow cells below i of the block named f
+abbrev pub arrowsOf : List ℕ → List ℕ → ℕ → ℕ → List ℕ
+arrowsOf blocks onarrow i f = filter (λ j. eqb (getD onarrow j 0) 1 && eqb (getD blocks j 0) f) (upto i)
+
+-- the first and the second arrow cell below i of each block named below n, 1024 where there is none
+pub record Firsts (blocks onarrow : List ℕ) (n i : ℕ) (first second : List ℕ) : Type 0 where
+  pub first-long : length first ≡ 1024
+  pub second-long : length second ≡ 1024
+  pub first-are : (f : ℕ) → f < n → getD first f 0 ≡ getD (arrowsOf blocks onarrow i f) 0 1024
+  pub second-are : (f : ℕ) → f < n → getD second f 0 ≡ getD (arrowsOf blocks onarrow i f) 1 1024
+
+-- the reason with the path from a to b
+unfoldable pub foundWay : Grid → List ℕ → Ends → Found
+foundWay g cells Nowhere = none
+foundWay g cells (Between a b) = some (each 1 (path (size g) (breadthFirst g cells (size g) [] ((b, b) ∷ [])) a b))
+
+-- a and b, if there are any, are squares of one block
+unfoldable pub SameBlock : Grid → List ℕ → Ends → Type 0
+SameBlock g cells Nowhere = Unit {0}
+SameBlock g cells (Between a b) = Joined g (square cells) b a
+
+-- the ends of the path of reason 2
+pub record Crossing (g : Grid) (arrows : List (List ℕ)) (cells : List ℕ) (ends : Ends) : Type 0 where
+  pub reason : reason2 g arrows cells ≡ foundWay g cells ends
+  pub joined : SameBlock g cells ends
+
+-- the blocks are those of some arrows
+pub record Blocked (h w : ℕ) (cells blocks onarrow : List ℕ) : Type 0 where
+  pub arrows : List (List ℕ)
+  pub held : Given (sized h w) arrows (take (h * w) cells) blocks onarrow
+
+-- the arrays hold the arrows of a board of n cells: their cells one after another, `total` of them, and where each of `number` arrows ends
+pub record ArrowArrays (n : ℕ) (arrows ends : List ℕ) (number total : ℕ) : Type 0 where
+  pub places : CellArray arrows
+  pub many : number ≤ 1024
+  pub within : total ≤ 1024
+  pub ends-long : length ends ≡ 1024
+  pub ends-low : (a : ℕ) → a < number → getD ends a 0 ≤ 1024
+  pub ends-rise : (a : ℕ) → a + 1 < number → getD ends a 0 ≤ getD ends (a + 1) 0
+  pub cells-are : take total arrows ≡ arrowCells (linesOf arrows ends number)
+  pub inside : (a : List ℕ) → List·Memᴰ a (linesOf arrows ends number) → (i : ℕ) → List·Memᴰ i a → i < n
+  pub few : (a : List ℕ) → List·Memᴰ a (linesOf arrows ends number) → length a ≤ n
+
+-- the arrays hold a board with its arrows, its blocks and its arrow cells
+pub record Ready (h w : ℕ) (cells arrows ends : List ℕ) (number : ℕ) (blocks onarrow : List ℕ) : Type 0 where
+  pub total : ℕ
+  pub drawn : ArrowArrays (h * w) arrows ends number total
+  pub held : Given (sized h w) (linesOf arrows ends number) (take (h * w) cells) blocks onarrow

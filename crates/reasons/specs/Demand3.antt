@@ -1,0 +1,43 @@
+-- Demand 3: what holds after any two lists of calls on boards of one accepted record.
+-- A list may hold finds with buffers of any length, and calls that are refused. The boards are those that the definitions leave
+-- which the contracts of open, decide, undo and find cite; the plain machine stands on the other side and sees only the calls.
+-- Assumes nothing.
+use Prim.Native.Nat.{ℕ, _≤_}
+use mathlib.Core.Logic.{_↔_}
+use mathlib.Core.Path.{_≡_}
+use mathlib.Core.List.{List, map, List·Memᴰ}
+use mathlib.Core.Option.{none, some}
+use lib.ListN.{length}
+use Rattle.grid.specs.Lists.{Distinct}
+use Rattle.record.specs.Record.{Puzzle, ok}
+use Rattle.board.specs.Board.{Literal, Call, SameCells, SameDecisions, Full, Agrees}
+use Rattle.board.specs.Kept.{openOf}
+use Rattle.board.specs.Calls.{leftAll, standing}
+use Rattle.board.specs.declared.Board.{Board}
+use Rattle.groups.specs.Rules.{BlockRules}
+use Rattle.reasons.specs.Reasons.{findOn}
+use Rattle.reasons.specs.Find.{cellsOn, enough, answerOn}
+
+-- the board that the calls cs leave, the first of them on the board that the record s opens
+abbrev pub boardAfter : List ℕ → List Call → Board
+boardAfter s cs = leftAll (openOf s .board) cs
+
+-- the record s with the puzzle p, and two lists of calls
+pub record Demand3 (s : List ℕ) (p : Puzzle) (cs ds : List Call) : Type 0 where
+  -- no cell stands twice in the machine's pairs, so the same pairs are the same decisions, their order aside
+  pub indexes : Distinct (map (λ (d : Literal). d .0) (standing p cs))
+  -- equal cells exactly when the same decisions stand, in whatever order
+  pub cells : SameCells (p .grid) (boardAfter s cs .cells) (boardAfter s ds .cells) ↔ SameDecisions (standing p cs) (standing p ds)
+  -- if so, find lent a long enough buffer gives the same answer on both
+  pub answer : SameDecisions (standing p cs) (standing p ds) → (a b : List ℕ) → enough (p .grid) ≤ length a → enough (p .grid) ≤ length b
+      → answerOn (boardAfter s cs) a ≡ answerOn (boardAfter s ds) b
+  -- and it is the one of Reasons
+  pub reasons : (a : List ℕ) → enough (p .grid) ≤ length a → answerOn (boardAfter s cs) a ≡ ok (findOn p (standing p cs))
+  -- each literal of a reason is a standing decision
+  pub stands : (a : List ℕ) (r : List Literal) → answerOn (boardAfter s cs) a ≡ ok (some r) → (l : Literal) → List·Memᴰ l r → List·Memᴰ l (standing p cs)
+  -- no fully decided board that agrees with all of them meets the block rules
+  pub refutes : (a : List ℕ) (r : List Literal) → answerOn (boardAfter s cs) a ≡ ok (some r) → (full : List ℕ) → Full (p .grid) full → Agrees full r
+      → BlockRules (p .grid) (p .arrows) full → ⊥
+  -- if every cell is decided, find gives none exactly when the block rules are met
+  pub finds : Full (p .grid) (cellsOn (boardAfter s cs)) → (a : List ℕ) → enough (p .grid) ≤ length a
+      → (answerOn (boardAfter s cs) a ≡ ok none) ↔ BlockRules (p .grid) (p .arrows) (cellsOn (boardAfter s cs))

@@ -1,0 +1,68 @@
+-- What find answers on a board, and what it leaves in the lent buffer.
+-- Assumes nothing.
+use Prim.Native.Nat.{ℕ, zero, suc, _+_, _*_, _/_, _%_}
+use mathlib.Core.Bool.{cond}
+use mathlib.Core.List.{List, _++_, map}
+use mathlib.Core.Option.{none, some}
+use lib.Dec.{ltb}
+use lib.ListN.{length, take, drop}
+use Rattle.grid.specs.Grid.{Grid, size}
+use Rattle.record.specs.Record.{Outcome, ok, refused}
+use Rattle.record.specs.Problem.{gridOf, puzzleOf}
+use Rattle.board.specs.Board.{Literal}
+use Rattle.board.specs.Form.{wellFormed}
+use Rattle.board.specs.declared.Board.{Board}
+use Rattle.kinds.specs.Kinds.{word}
+use Rattle.reasons.specs.Reasons.{Found, findReason}
+use Rattle.reasons.specs.declared.Finding.{Finding}
+use Rattle.reasons.specs.declared.Finding.the-variants.{Nothing, Reason, Refused}
+
+-- the states of a board's cells
+unfoldable pub cellsOn : Board → List ℕ
+cellsOn b = take (size (gridOf (b .problem))) (b .cells)
+
+-- the first reason that applies on a board
+unfoldable pub reasonOn : Board → Found
+reasonOn b = findReason (gridOf (b .problem)) (puzzleOf (b .problem) .arrows) (cellsOn b)
+
+-- a buffer is long enough from 3 × H × W + 1 literals on
+unfoldable pub enough : Grid → ℕ
+enough g = 3 * size g + 1
+
+-- find's refusal on a board with a buffer of k literals: 6, then 11; 0 for none
+unfoldable pub findRefusal : Board → ℕ → ℕ
+findRefusal b k = cond (wellFormed b) (cond (ltb k (enough (gridOf (b .problem)))) 11 0) 6
+
+-- the answer by its refusal and what was found
+unfoldable pub findingBy : ℕ → Found → Finding
+findingBy zero none = Nothing
+findingBy zero (some r) = Reason (length r)
+findingBy (suc k) f = Refused (suc k)
+
+-- the buffer by the refusal and what was found: a literal is one number, and stands at its place; behind them nothing changes
+unfoldable pub bufferBy : ℕ → Found → List ℕ → List ℕ
+bufferBy zero none buffer = buffer
+bufferBy zero (some r) buffer = map word r ++ drop (length r) buffer
+bufferBy (suc k) f buffer = buffer
+
+-- what find answers
+unfoldable pub findOf : Board → List ℕ → Finding
+findOf b buffer = findingBy (findRefusal b (length buffer)) (reasonOn b)
+
+-- what find leaves in the buffer
+unfoldable pub bufferAfter : Board → List ℕ → List ℕ
+bufferAfter b buffer = bufferBy (findRefusal b (length buffer)) (reasonOn b) buffer
+
+-- a number of the buffer as a literal
+unfoldable pub literalOf : ℕ → Literal
+literalOf w = (w % 32768, w / 32768)
+
+-- what a caller of find learns from the answer and the buffer: a refusal, none, or the literals in the first places
+unfoldable pub told : Finding → List ℕ → Outcome Found
+told Nothing buffer = ok none
+told (Reason k) buffer = ok (some (map literalOf (take k buffer)))
+told (Refused k) buffer = refused k
+
+-- find on a board with a lent buffer, as its caller sees it
+unfoldable pub answerOn : Board → List ℕ → Outcome Found
+answerOn b buffer = told (findOf b buffer) (bufferAfter b buffer)

@@ -1,0 +1,674 @@
+// Reasons 1 to 4 of a board, each written as literals into a lent buffer.
+mod pairs;
+mod shift;
+
+use board::Board;
+ghost use mathlib.Core.Path.{_≡_};
+ghost use Prim.Native.Nat.{ℕ, _+_, _*_, _<_, _≤_, max};
+ghost use lib.ListN.{length, getD, set, take, drop, replicate};
+ghost use mathlib.Core.List.{List, _++_};
+ghost use lib.Seq.{slice};
+ghost use mathlib.Core.Bool.{Bool, true, false, cond, _&&_, not};
+ghost use lib.Dec.{eqb};
+ghost use Rattle.grid.specs.Lists.{any, filter, last, upto};
+ghost use Rattle.grid.specs.Grid.{Grid, size, neighbours};
+ghost use Rattle.grid.specs.Side.{InGrid, sized};
+ghost use Rattle.board.specs.Board.{empty, filled};
+ghost use Rattle.groups.specs.Groups.{labelArray};
+ghost use Rattle.kinds.specs.Kinds.{View, block, word};
+ghost use Rattle.reasons.specs.Reasons.{each, reason1, reason2, path, mostApart, reason34, findReason};
+ghost use Rattle.reasons.specs.Buffer.{Wrote};
+ghost use Rattle.reasons.specs.Arrays.{CellArray, PotentialArrays, rankAt, Ranked, firstName, foundAt, boundaryOf, Kept, Firsts, Crossing, Blocked, ArrowArrays, Ready, linesOf};
+ghost use Rattle.reasons.specs.Pairs.{Fit, FoundAs, viewOn};
+ghost use Rattle.reasons.specs.Find.{findOf, bufferAfter};
+ghost use Rattle.kinds.specs.Inside.{Held, Given};
+ghost use Rattle.reasons.specs.Search.{Offered, Room, ListedBeside, Listing, listFrom, PathEnds};
+
+// The answer of `find`: no reason applies, the number of literals that stand in the buffer, or a refusal by document 01's number.
+pub enum Finding {
+    Nothing,
+    Reason(usize),
+    Refused(u8),
+}
+
+// The name of a group, which is its first cell.
+pub enum Name {
+    At(usize),
+    Nobody,
+}
+
+// The first two arrow cells of a block that has two or more.
+pub enum Ends {
+    Between(usize, usize),
+    Nowhere,
+}
+
+// A number of an array, as an index.
+fn wide(x: u16) -> usize
+    ensures { λ r. ⌜ r ≡ x ⌝ }
+{
+    x as usize
+}
+
+// A literal as it stands in a buffer.
+fn literal(index: usize, value: u16) -> u16
+    requires { ⌜ (index < 1024) × (value ≤ 1) ⌝ }
+    ensures { λ r. ⌜ r ≡ word (index, value) ⌝ }
+{
+    value * 32768 + index as u16
+}
+
+// Writes a literal behind `count` others if `yes` says so; the new count.
+fn push(buffer: &mut [u16], count: usize, index: usize, value: u16, yes: bool) -> usize
+    requires { ⌜ (count < length (now buffer)) × (index < 1024) × (value ≤ 1) ⌝ }
+    ensures { λ r. ⌜ (r ≡ cond yes (count + 1) count) × (now (buffer .exit) ≡ cond yes (set (now (buffer .entry)) count (word (index, value))) (now (buffer .entry))) ⌝ }
+{
+    if yes {
+        buffer[count] = literal(index, value);
+        return count + 1;
+    }
+    count
+}
+
+// The most undecided cells, no two consecutive, at the places from `from` up to `to` of an arrow: an undecided cell is
+// counted wherever the one before it was not.
+fn gap_count(cells: &[u8; 1024], arrows: &[u16; 1024], from: usize, to: usize) -> usize
+    requires { ⌜ (to ≤ 1024) × CellArray (now arrows) ⌝ }
+    ensures { λ r. ⌜ r ≡ mostApart (now (cells .entry)) false (slice from to (now (arrows .entry))) ⌝ }
+{
+    let mut count = 0;
+    let mut k = from;
+    while k < to {
+        if cells[wide(arrows[k])] == 2 {
+            count += 1;
+            k += 2;
+        } else {
+            k += 1;
+        }
+    }
+    count
+}
+
+// The empty cells at the places from `from` up to `to` of an arrow, in arrow order.
+fn reason_for_gap(
+    cells: &[u8; 1024],
+    arrows: &[u16; 1024],
+    from: usize,
+    to: usize,
+    buffer: &mut [u16],
+) -> usize
+    requires { ⌜ (to ≤ 1024) × CellArray (now arrows) × (to ≤ from + length (now buffer)) ⌝ }
+    ensures { λ r. ⌜ Wrote (each 0 (filter (empty (now (cells .entry))) (slice from to (now (arrows .entry))))) (now (buffer .entry)) (now (buffer .exit)) r ⌝ }
+{
+    let mut count = 0;
+    let mut k = from;
+    while k < to {
+        let i = wide(arrows[k]);
+        count = push(buffer, count, i, 0, cells[i] == 0);
+        k += 1;
+    }
+    count
+}
+
+// Is cell i in the arrow block named f?
+fn in_block(kinds: &[u8; 1024], owners: &[u16; 1024], i: usize, f: u16) -> bool
+    requires { ⌜ i < 1024 ⌝ }
+    ensures { λ r. ⌜ r ≡ (eqb (getD (now (kinds .entry)) i 0) 1 && eqb (getD (now (owners .entry)) i 0) f) ⌝ }
+{
+    if kinds[i] != 1 {
+        return false;
+    }
+    owners[i] == f
+}
+
+// The cells of the arrow block named f, rising, as squares.
+fn reason_for_arrow_block(
+    kinds: &[u8; 1024],
+    owners: &[u16; 1024],
+    n: usize,
+    f: u16,
+    buffer: &mut [u16],
+) -> usize
+    requires { ⌜ (n ≤ 1024) × (n ≤ length (now buffer)) ⌝ }
+    ensures { λ r. ⌜ ((v : View) → Held v (now (kinds .entry)) (now (owners .entry)) → n ≡ size (v .grid) → Wrote (each 1 (block v f)) (now (buffer .entry)) (now (buffer .exit)) r) ⌝ }
+{
+    let mut count = 0;
+    let mut i = 0;
+    while i < n {
+        count = push(buffer, count, i, 1, in_block(kinds, owners, i, f));
+        i += 1;
+    }
+    count
+}
+
+// Sets the first n places to 1024, which is no cell.
+fn reset(places: &mut [u16; 1024], n: usize)
+    requires { ⌜ (n ≤ 1024) × (length (now places) ≡ 1024) ⌝ }
+    ensures { λ _. ⌜ now (places .exit) ≡ replicate n 1024 ++ drop n (now (places .entry)) ⌝ }
+{
+    let mut i = 0;
+    while i < n {
+        places[i] = 1024;
+        i += 1;
+    }
+}
+
+// Lists cell j with its parent p, if it is a square that is not listed yet; the new count.
+fn list_cell(
+    cells: &[u8; 1024],
+    from: &mut [u16; 1024],
+    order: &mut [u16; 1024],
+    count: usize,
+    j: usize,
+    p: u16,
+) -> usize
+    requires { ⌜ (j < 1024) × Room (now order) (now from) count ⌝ }
+    ensures { λ r. ⌜ Offered (now (cells .entry)) (now (from .entry)) (now (order .entry)) count j p (now (from .exit)) (now (order .exit)) r ⌝ }
+{
+    if cells[j] != 1 {
+        return count;
+    }
+    if from[j] != 1024 {
+        return count;
+    }
+    from[j] = p;
+    order[count] = j as u16;
+    count + 1
+}
+
+// Lists the square neighbours of the cell at place t of the breadth-first list; the new count.
+fn list_neighbours(
+    cells: &[u8; 1024],
+    h: usize,
+    w: usize,
+    t: usize,
+    from: &mut [u16; 1024],
+    order: &mut [u16; 1024],
+    count: usize,
+) -> usize
+    requires { ⌜ (t < count) × InGrid h w (getD (now order) t 0) × Room (now order) (now from) count ⌝ }
+    ensures { λ r. ⌜ ListedBeside h w (take (h * w) (now (cells .entry))) t (now (order .entry)) (now (from .entry)) count (now (order .exit)) (now (from .exit)) r ⌝ }
+{
+    let p = order[t];
+    let around = grid::neighbours(h, w, wide(p));
+    let sides = around.cells;
+    let number = around.count;
+    let mut listed = count;
+    let mut k = 0;
+    while k < number {
+        listed = list_cell(cells, from, order, listed, wide(sides[k]), p);
+        k += 1;
+    }
+    listed
+}
+
+// The breadth-first list of the squares joined to b: `order` has its cells and `from` the parent of each. How many are listed.
+fn breadth_first(
+    cells: &[u8; 1024],
+    h: usize,
+    w: usize,
+    b: usize,
+    from: &mut [u16; 1024],
+    order: &mut [u16; 1024],
+) -> usize
+    requires { ⌜ InGrid h w b × (getD (now cells) b 0 ≡ 1) × (length (now order) ≡ 1024) × (length (now from) ≡ 1024) ⌝ }
+    ensures { λ r. ⌜ Listing (h * w) (now (order .exit)) (now (from .exit)) r (listFrom h w (take (h * w) (now (cells .entry))) b) ⌝ }
+{
+    reset(from, h * w);
+    from[b] = b as u16;
+    order[0] = b as u16;
+    let mut count = 1;
+    let mut t = 0;
+    while t < count {
+        count = list_neighbours(cells, h, w, t, from, order, count);
+        t += 1;
+    }
+    count
+}
+
+// The squares of a shortest way from a to b, which are squares of one block, by the parents of the breadth-first list from b.
+fn reason_for_path(
+    cells: &[u8; 1024],
+    h: usize,
+    w: usize,
+    a: usize,
+    b: usize,
+    from: &mut [u16; 1024],
+    order: &mut [u16; 1024],
+    buffer: &mut [u16],
+) -> usize
+    requires { ⌜ PathEnds h w (take (h * w) (now cells)) a b × (length (now order) ≡ 1024) × (length (now from) ≡ 1024) × (h * w ≤ length (now buffer)) ⌝ }
+    ensures { λ r. ⌜ Wrote (each 1 (path (size (sized h w)) (listFrom h w (take (h * w) (now (cells .entry))) b) a b)) (now (buffer .entry)) (now (buffer .exit)) r ⌝ }
+    ensures { λ _. ⌜ (length (now (order .exit)) ≡ 1024) × (length (now (from .exit)) ≡ 1024) ⌝ }
+{
+    breadth_first(cells, h, w, b, from, order);
+    let mut cell = a;
+    let mut count = 0;
+    while cell != b {
+        buffer[count] = literal(cell, 1);
+        cell = wide(from[cell]);
+        count += 1;
+    }
+    buffer[count] = literal(cell, 1);
+    count + 1
+}
+
+// The rank of a cell in the search for reason 1: 2 for an arrow cell, 1 for another square, else 0.
+fn rank(cells: &[u8; 1024], onarrow: &[u8; 1024], i: usize) -> u8
+    requires { ⌜ i < 1024 ⌝ }
+    ensures { λ r. ⌜ r ≡ rankAt (now (cells .entry)) (now (onarrow .entry)) i ⌝ }
+{
+    if onarrow[i] == 1 {
+        return 2;
+    }
+    if cells[i] == 1 {
+        return 1;
+    }
+    0
+}
+
+// Raises the mark of the group named f, if it is one, to a rank.
+fn raise(marks: &mut [u8; 1024], f: usize, rank: u8)
+    requires { ⌜ length (now marks) ≡ 1024 ⌝ }
+    ensures { λ _. ⌜ now (marks .exit) ≡ set (now (marks .entry)) f (max (getD (now (marks .entry)) f 0) rank) ⌝ }
+{
+    if 1024 <= f {
+        return;
+    }
+    if marks[f] < rank {
+        marks[f] = rank;
+    }
+}
+
+// Clears the first n marks.
+fn clear(marks: &mut [u8; 1024], n: usize)
+    requires { ⌜ (n ≤ 1024) × (length (now marks) ≡ 1024) ⌝ }
+    ensures { λ _. ⌜ now (marks .exit) ≡ replicate n 0 ++ drop n (now (marks .entry)) ⌝ }
+{
+    let mut i = 0;
+    while i < n {
+        marks[i] = 0;
+        i += 1;
+    }
+}
+
+// Marks each group, at its name, with the highest rank among its cells.
+fn rank_groups(
+    cells: &[u8; 1024],
+    groups: &[u16; 1024],
+    onarrow: &[u8; 1024],
+    n: usize,
+    marks: &mut [u8; 1024],
+)
+    requires { ⌜ (n ≤ 1024) × (length (now marks) ≡ 1024) ⌝ }
+    ensures { λ _. ⌜ Ranked (now (cells .entry)) (now (groups .entry)) (now (onarrow .entry)) n n (now (marks .exit)) ⌝ }
+{
+    clear(marks, n);
+    let mut i = 0;
+    while i < n {
+        raise(marks, wide(groups[i]), rank(cells, onarrow, i));
+        i += 1;
+    }
+}
+
+// The first name of a group that is marked 1.
+fn first_marked(groups: &[u16; 1024], marks: &[u8; 1024], n: usize) -> Name
+    requires { ⌜ n ≤ 1024 ⌝ }
+    ensures { λ r. ⌜ r ≡ firstName (λ f. eqb (getD (now (groups .entry)) f 0) f && eqb (getD (now (marks .entry)) f 0) 1) (upto n) ⌝ }
+{
+    let mut f = 0;
+    while f < n {
+        if wide(groups[f]) == f {
+            if marks[f] == 1 {
+                return Name::At(f);
+            }
+        }
+        f += 1;
+    }
+    Name::Nobody
+}
+
+// The lowest numbered potential group with a square and no arrow cell.
+fn find_stranded(
+    cells: &[u8; 1024],
+    groups: &[u16; 1024],
+    onarrow: &[u8; 1024],
+    n: usize,
+    marks: &mut [u8; 1024],
+) -> Name
+    requires { ⌜ (n ≤ 1024) × (length (now marks) ≡ 1024) ⌝ }
+    ensures { λ r. ⌜ ((g : Grid) (arrows : List (List ℕ)) → PotentialArrays g arrows (take n (now (cells .entry))) (now (groups .entry)) (now (onarrow .entry)) → n ≡ size g → reason1 g arrows (take n (now (cells .entry))) ≡ foundAt (boundaryOf g (take n (now (cells .entry)))) r) ⌝ }
+    ensures { λ r. ⌜ ((f : ℕ) → r ≡ Name.At f → f < n) ⌝ }
+{
+    rank_groups(cells, groups, onarrow, n, marks);
+    first_marked(groups, &*marks, n)
+}
+
+// Does cell i touch the group named f?
+fn touches_group(groups: &[u16; 1024], h: usize, w: usize, i: usize, f: u16) -> bool
+    requires { ⌜ InGrid h w i ⌝ }
+    ensures { λ r. ⌜ r ≡ any (λ j. eqb (getD (now (groups .entry)) j 0) f) (neighbours (sized h w) i) ⌝ }
+{
+    let around = grid::neighbours(h, w, i);
+    let sides = around.cells;
+    let number = around.count;
+    let mut k = 0;
+    while k < number {
+        if groups[wide(sides[k])] == f {
+            return true;
+        }
+        k += 1;
+    }
+    false
+}
+
+// Is cell i empty, and does it touch the group named f?
+fn on_boundary(
+    cells: &[u8; 1024],
+    groups: &[u16; 1024],
+    h: usize,
+    w: usize,
+    i: usize,
+    f: u16,
+) -> bool
+    requires { ⌜ InGrid h w i ⌝ }
+    ensures { λ r. ⌜ r ≡ (eqb (getD (now (cells .entry)) i 0) 0 && any (λ j. eqb (getD (now (groups .entry)) j 0) f) (neighbours (sized h w) i)) ⌝ }
+{
+    if cells[i] != 0 {
+        return false;
+    }
+    touches_group(groups, h, w, i, f)
+}
+
+// Is cell i a square of the group named f?
+fn is_square_of(cells: &[u8; 1024], groups: &[u16; 1024], i: usize, f: u16) -> bool
+    requires { ⌜ i < 1024 ⌝ }
+    ensures { λ r. ⌜ r ≡ (eqb (getD (now (groups .entry)) i 0) f && eqb (getD (now (cells .entry)) i 0) 1) ⌝ }
+{
+    if groups[i] != f {
+        return false;
+    }
+    cells[i] == 1
+}
+
+// The last square of the group named f, 0 if there is none.
+fn last_square(cells: &[u8; 1024], groups: &[u16; 1024], n: usize, f: u16) -> usize
+    requires { ⌜ n ≤ 1024 ⌝ }
+    ensures { λ r. ⌜ r ≡ last 0 (filter (λ i. eqb (getD (now (groups .entry)) i 0) f && eqb (getD (now (cells .entry)) i 0) 1) (upto n)) ⌝ }
+{
+    let mut i = n;
+    while 0 < i {
+        i -= 1;
+        if is_square_of(cells, groups, i, f) {
+            return i;
+        }
+    }
+    0
+}
+
+// The literals of reason 1: the empty cells that touch the potential group named f, and then its last square.
+fn reason_for_potential_unit_boundary(
+    cells: &[u8; 1024],
+    groups: &[u16; 1024],
+    h: usize,
+    w: usize,
+    f: u16,
+    buffer: &mut [u16],
+) -> usize
+    requires { ⌜ (h ≤ 32) × (w ≤ 32) × (h * w < length (now buffer)) ⌝ }
+    ensures { λ r. ⌜ (now (groups .entry) ≡ labelArray (sized h w) (filled (take (h * w) (now (cells .entry)))) → f < 1024 → Wrote (boundaryOf (sized h w) (take (h * w) (now (cells .entry))) f) (now (buffer .entry)) (now (buffer .exit)) r) ⌝ }
+{
+    let n = h * w;
+    let mut count = 0;
+    let mut i = 0;
+    while i < n {
+        count = push(buffer, count, i, 0, on_boundary(cells, groups, h, w, i, f));
+        i += 1;
+    }
+    buffer[count] = literal(last_square(cells, groups, n, f), 1);
+    count + 1
+}
+
+// Keeps cell i as the first or the second arrow cell of its block, if it is an arrow cell and a square.
+fn keep_arrow_cell(
+    blocks: &[u16; 1024],
+    onarrow: &[u8; 1024],
+    i: usize,
+    first: &mut [u16; 1024],
+    second: &mut [u16; 1024],
+)
+    requires { ⌜ (i < 1024) × (length (now first) ≡ 1024) × (length (now second) ≡ 1024) ⌝ }
+    ensures { λ _. ⌜ Kept (now (blocks .entry)) (now (onarrow .entry)) i (now (first .entry)) (now (second .entry)) (now (first .exit)) (now (second .exit)) ⌝ }
+{
+    if onarrow[i] != 1 {
+        return;
+    }
+    let f = wide(blocks[i]);
+    if 1024 <= f {
+        return;
+    }
+    if first[f] == 1024 {
+        first[f] = i as u16;
+        return;
+    }
+    if second[f] == 1024 {
+        second[f] = i as u16;
+    }
+}
+
+// The first and the second arrow cell of each block, at its name.
+fn keep_arrow_cells(
+    blocks: &[u16; 1024],
+    onarrow: &[u8; 1024],
+    n: usize,
+    first: &mut [u16; 1024],
+    second: &mut [u16; 1024],
+)
+    requires { ⌜ (n ≤ 1024) × (length (now first) ≡ 1024) × (length (now second) ≡ 1024) ⌝ }
+    ensures { λ _. ⌜ Firsts (now (blocks .entry)) (now (onarrow .entry)) n n (now (first .exit)) (now (second .exit)) ⌝ }
+{
+    reset(first, n);
+    reset(second, n);
+    let mut i = 0;
+    while i < n {
+        keep_arrow_cell(blocks, onarrow, i, first, second);
+        i += 1;
+    }
+}
+
+// The first name of a block that has a second arrow cell.
+fn first_crossed(blocks: &[u16; 1024], second: &[u16; 1024], n: usize) -> Name
+    requires { ⌜ n ≤ 1024 ⌝ }
+    ensures { λ r. ⌜ r ≡ firstName (λ f. eqb (getD (now (blocks .entry)) f 0) f && not (eqb (getD (now (second .entry)) f 0) 1024)) (upto n) ⌝ }
+{
+    let mut f = 0;
+    while f < n {
+        if wide(blocks[f]) == f {
+            if second[f] != 1024 {
+                return Name::At(f);
+            }
+        }
+        f += 1;
+    }
+    Name::Nobody
+}
+
+// The first two arrow cells of the lowest numbered block that has two or more.
+fn find_crossing(
+    blocks: &[u16; 1024],
+    onarrow: &[u8; 1024],
+    n: usize,
+    first: &mut [u16; 1024],
+    second: &mut [u16; 1024],
+) -> Ends
+    requires { ⌜ (n ≤ 1024) × (length (now first) ≡ 1024) × (length (now second) ≡ 1024) ⌝ }
+    ensures { λ r. ⌜ ((g : Grid) (arrows : List (List ℕ)) (cells : List ℕ) → Given g arrows cells (now (blocks .entry)) (now (onarrow .entry)) → n ≡ size g → Crossing g arrows cells r) ⌝ }
+    ensures { λ _. ⌜ (length (now (first .exit)) ≡ 1024) × (length (now (second .exit)) ≡ 1024) ⌝ }
+{
+    keep_arrow_cells(blocks, onarrow, n, first, second);
+    let name = first_crossed(blocks, &*second, n);
+    match name {
+        Name::At(f) => Ends::Between(wide(first[f]), wide(second[f])),
+        Name::Nobody => Ends::Nowhere,
+    }
+}
+
+// Reason 1, if it applies.
+fn check_potential_groups(
+    cells: &[u8; 1024],
+    groups: &[u16; 1024],
+    onarrow: &[u8; 1024],
+    h: usize,
+    w: usize,
+    buffer: &mut [u16],
+) -> Finding
+    requires { ⌜ Fit h w (now buffer) ⌝ }
+    ensures { λ r. ⌜ ((arrows : List (List ℕ)) → PotentialArrays (sized h w) arrows (take (h * w) (now (cells .entry))) (now (groups .entry)) (now (onarrow .entry)) → FoundAs (reason1 (sized h w) arrows (take (h * w) (now (cells .entry)))) (now (buffer .entry)) (now (buffer .exit)) r) ⌝ }
+{
+    let mut marks = [0u8; 1024];
+    let name = find_stranded(cells, groups, onarrow, h * w, &mut marks);
+    match name {
+        Name::At(f) => {
+            let count = reason_for_potential_unit_boundary(cells, groups, h, w, f as u16, buffer);
+            Finding::Reason(count)
+        }
+        Name::Nobody => Finding::Nothing,
+    }
+}
+
+// Reason 2, if it applies.
+fn check_blocks(
+    cells: &[u8; 1024],
+    blocks: &[u16; 1024],
+    onarrow: &[u8; 1024],
+    h: usize,
+    w: usize,
+    buffer: &mut [u16],
+) -> Finding
+    requires { ⌜ Fit h w (now buffer) × Blocked h w (now cells) (now blocks) (now onarrow) ⌝ }
+    ensures { λ r. ⌜ ((arrows : List (List ℕ)) → Given (sized h w) arrows (take (h * w) (now (cells .entry))) (now (blocks .entry)) (now (onarrow .entry)) → FoundAs (reason2 (sized h w) arrows (take (h * w) (now (cells .entry)))) (now (buffer .entry)) (now (buffer .exit)) r) ⌝ }
+{
+    let mut first = [0u16; 1024];
+    let mut second = [0u16; 1024];
+    let ends = find_crossing(blocks, onarrow, h * w, &mut first, &mut second);
+    match ends {
+        Ends::Between(a, b) => {
+            let count = reason_for_path(cells, h, w, a, b, &mut first, &mut second, buffer);
+            Finding::Reason(count)
+        }
+        Ends::Nowhere => Finding::Nothing,
+    }
+}
+
+// How many cells the arrows have together: the end of the last one.
+fn arrow_total(ends: &[u16; 1024], number: usize) -> usize
+    requires { ⌜ (number ≤ 1024) × (length (now ends) ≡ 1024) ⌝ }
+    ensures { λ r. ⌜ r ≡ last 0 (take number (now (ends .entry))) ⌝ }
+{
+    if number == 0 {
+        return 0;
+    }
+    wide(ends[number - 1])
+}
+
+// Reasons 3 and 4, if one applies.
+fn check_arrows(
+    cells: &[u8; 1024],
+    arrows: &[u16; 1024],
+    ends: &[u16; 1024],
+    number: usize,
+    blocks: &[u16; 1024],
+    onarrow: &[u8; 1024],
+    h: usize,
+    w: usize,
+    buffer: &mut [u16],
+) -> Finding
+    requires { ⌜ Fit h w (now buffer) × Ready h w (now cells) (now arrows) (now ends) number (now blocks) (now onarrow) ⌝ }
+    ensures { λ r. ⌜ FoundAs (reason34 (viewOn h w (linesOf (now (arrows .entry)) (now (ends .entry)) number) (now (cells .entry)))) (now (buffer .entry)) (now (buffer .exit)) r ⌝ }
+{
+    let mut arrowed = [0u8; 1024];
+    let mut kinds = [0u8; 1024];
+    let mut owners = [0u16; 1024];
+    kinds::compute_board_info_detailed(
+        cells,
+        blocks,
+        onarrow,
+        h,
+        w,
+        &mut arrowed,
+        &mut kinds,
+        &mut owners,
+    );
+    pairs::search_pairs(cells, arrows, ends, number, &kinds, &owners, h, w, buffer)
+}
+
+// The first reason that applies, on the arrays of a board.
+fn find_inconsistency<'a>(
+    cells: &'a [u8; 1024],
+    arrows: &'a [u16; 1024],
+    ends: &'a [u16; 1024],
+    number: usize,
+    h: usize,
+    w: usize,
+    buffer: &mut [u16],
+) -> Finding
+    requires { ⌜ Fit h w (now buffer) × ArrowArrays (h * w) (now arrows) (now ends) number (last 0 (take number (now ends))) ⌝ }
+    ensures { λ r. ⌜ FoundAs (findReason (sized h w) (linesOf (now (arrows .entry)) (now (ends .entry)) number) (take (h * w) (now (cells .entry)))) (now (buffer .entry)) (now (buffer .exit)) r ⌝ }
+{
+    let mut onarrow = [0u8; 1024];
+    let mut labels = [0u16; 1024];
+    groups::mark_arrow_cells(arrows, arrow_total(ends, number), &mut onarrow);
+    groups::compute_connected_components(cells, true, h, w, &mut labels);
+    let first = check_potential_groups(cells, &labels, &onarrow, h, w, buffer);
+    match first {
+        Finding::Nothing => {}
+        Finding::Reason(count) => {
+            return Finding::Reason(count);
+        }
+        Finding::Refused(k) => {
+            return Finding::Refused(k);
+        }
+    }
+    groups::compute_connected_components(cells, false, h, w, &mut labels);
+    let second = check_blocks(cells, &labels, &onarrow, h, w, buffer);
+    match second {
+        Finding::Nothing => check_arrows(
+            cells,
+            arrows,
+            ends,
+            number,
+            &labels,
+            &onarrow,
+            h,
+            w,
+            buffer,
+        ),
+        Finding::Reason(count) => Finding::Reason(count),
+        Finding::Refused(k) => Finding::Refused(k),
+    }
+}
+
+// Why the board can't be finished: the first reason that applies, its literals written to the buffer's first places. Refused: 6 a
+// board that no list of calls could leave, 11 a buffer shorter than 3 × H × W + 1 literals.
+pub fn find(board: Board, buffer: &mut [u16]) -> Finding
+    ensures { λ r. ⌜ (r ≡ findOf board (now (buffer .entry))) × (now (buffer .exit) ≡ bufferAfter board (now (buffer .entry))) ⌝ }
+{
+    if !board.well_formed() {
+        return Finding::Refused(6);
+    }
+    let h = board.problem.height;
+    let w = board.problem.width;
+    let number = board.problem.count;
+    if buffer.len() < 3 * (h * w) + 1 {
+        return Finding::Refused(11);
+    }
+    find_inconsistency(
+        &board.cells,
+        &board.problem.arrows,
+        &board.problem.ends,
+        number,
+        h,
+        w,
+        buffer,
+    )
+}

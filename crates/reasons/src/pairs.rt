@@ -1,0 +1,367 @@
+// Reasons 3 and 4: the search along the arrows.
+ghost use mathlib.Core.Path.{_≡_};
+ghost use mathlib.Core.List.{List};
+ghost use Prim.Native.Nat.{ℕ, _+_, _*_, _<_, _≤_};
+ghost use lib.ListN.{length, take};
+ghost use lib.Seq.{slice};
+ghost use Rattle.grid.specs.Lists.{flatMap};
+ghost use Rattle.groups.specs.Arrows.{pairs};
+ghost use Rattle.kinds.specs.Kinds.{reachMask};
+ghost use Rattle.reasons.specs.Arrays.{CellArray, linesOf};
+ghost use Rattle.reasons.specs.Buffer.{Wrote};
+ghost use Rattle.reasons.specs.Pairs.{reasonAt, pairAt, FoundAs, NextSquare, reason4aAt, reason4bAt, viewOn, Scene, Fit, Seen, Line, Squares, Whole, blockCellFence};
+ghost use Rattle.reasons.specs.Reasons.{firstOf, reason3At, reason34};
+ghost use Rattle.kinds.specs.Inside.{Held};
+ghost use Rattle.reasons.specs.Shift.{blockIn};
+use super::Finding;
+use super::shift;
+
+// The first place from `from` on that holds a square, or `to` if there is none.
+fn next_square(cells: &[u8; 1024], arrows: &[u16; 1024], from: usize, to: usize) -> usize
+    requires { ⌜ (from ≤ to) × (to ≤ 1024) × CellArray (now arrows) ⌝ }
+    ensures { λ r. ⌜ NextSquare (now (cells .entry)) (now (arrows .entry)) from to r ⌝ }
+{
+    let mut k = from;
+    while k < to {
+        if cells[super::wide(arrows[k])] == 1 {
+            return k;
+        }
+        k += 1;
+    }
+    k
+}
+
+// How many cells the arrow block named f has.
+fn count_block(kinds: &[u8; 1024], owners: &[u16; 1024], n: usize, f: u16) -> usize
+    requires { ⌜ n ≤ 1024 ⌝ }
+    ensures { λ r. ⌜ r ≡ length (blockIn (now (kinds .entry)) (now (owners .entry)) n f) ⌝ }
+{
+    let mut count = 0;
+    let mut i = 0;
+    while i < n {
+        if super::in_block(kinds, owners, i, f) {
+            count += 1;
+        }
+        i += 1;
+    }
+    count
+}
+
+// The cells of the arrow block named b, the arrow cell i and the fence of the arrow block named f, whose reach is marked.
+fn reason_for_blocks(
+    cells: &[u8; 1024],
+    kinds: &[u8; 1024],
+    owners: &[u16; 1024],
+    marks: &[u8; 1024],
+    h: usize,
+    w: usize,
+    b: u16,
+    i: usize,
+    f: u16,
+    buffer: &mut [u16],
+) -> usize
+    requires { ⌜ Fit h w (now buffer) × Seen h w (now cells) (now kinds) (now owners) (now marks) f × (i < h * w) ⌝ }
+    ensures { λ r. ⌜ ((lines : List (List ℕ)) → Held (viewOn h w lines (now (cells .entry))) (now (kinds .entry)) (now (owners .entry)) → now (marks .entry) ≡ reachMask (viewOn h w lines (now (cells .entry))) f → Wrote (blockCellFence (viewOn h w lines (now (cells .entry))) b i f) (now (buffer .entry)) (now (buffer .exit)) r) ⌝ }
+{
+    let count = super::reason_for_arrow_block(kinds, owners, h * w, b, buffer);
+    let total = super::push(buffer, count, i, 1, true);
+    let more = kinds::reason_for_adjacent_floating_boundary(
+        cells,
+        kinds,
+        owners,
+        marks,
+        h,
+        w,
+        f,
+        &mut buffer[total..],
+    );
+    total + more
+}
+
+// Reason 3 for the squares at two places of an arrow.
+fn check_shift(
+    cells: &[u8; 1024],
+    arrows: &[u16; 1024],
+    kinds: &[u8; 1024],
+    owners: &[u16; 1024],
+    h: usize,
+    w: usize,
+    last: usize,
+    cur: usize,
+    buffer: &mut [u16],
+) -> Finding
+    requires { ⌜ Fit h w (now buffer) × Squares h w (now cells) (now arrows) (now kinds) (now owners) last cur ⌝ }
+    ensures { λ r. ⌜ ((lines : List (List ℕ)) → Scene h w lines (now (cells .entry)) (now (arrows .entry)) (now (kinds .entry)) (now (owners .entry)) last (cur + 1) → FoundAs (reason3At (viewOn h w lines (now (cells .entry))) (pairAt (now (arrows .entry)) last cur)) (now (buffer .entry)) (now (buffer .exit)) r) ⌝ }
+{
+    let last_block = owners[super::wide(arrows[last])];
+    let cell = super::wide(arrows[cur]);
+    let block = owners[cell];
+    let mut near = [0u8; 1024];
+    let mut marks = [0u8; 1024];
+    let mut rows = [0u16; 1024];
+    let mut columns = [0u16; 1024];
+    kinds::compute_reach(kinds, owners, h, w, block, &mut near, &mut marks);
+    let count = shift::gather_block(kinds, owners, h * w, w, last_block, &mut rows, &mut columns);
+    if shift::fits(
+        h,
+        w,
+        &rows,
+        &columns,
+        count,
+        &marks,
+        super::wide(last_block),
+    ) {
+        return Finding::Nothing;
+    }
+    let literals = reason_for_blocks(
+        cells,
+        kinds,
+        owners,
+        &marks,
+        h,
+        w,
+        last_block,
+        cell,
+        block,
+        buffer,
+    );
+    Finding::Reason(literals)
+}
+
+// Reason 4 (a) for the squares at two places of an arrow.
+fn check_growth(
+    cells: &[u8; 1024],
+    arrows: &[u16; 1024],
+    kinds: &[u8; 1024],
+    owners: &[u16; 1024],
+    h: usize,
+    w: usize,
+    last: usize,
+    cur: usize,
+    buffer: &mut [u16],
+) -> Finding
+    requires { ⌜ Fit h w (now buffer) × Squares h w (now cells) (now arrows) (now kinds) (now owners) last cur ⌝ }
+    ensures { λ r. ⌜ ((lines : List (List ℕ)) → Scene h w lines (now (cells .entry)) (now (arrows .entry)) (now (kinds .entry)) (now (owners .entry)) last (cur + 1) → FoundAs (reason4aAt (viewOn h w lines (now (cells .entry))) (pairAt (now (arrows .entry)) last cur)) (now (buffer .entry)) (now (buffer .exit)) r) ⌝ }
+{
+    let last_block = owners[super::wide(arrows[last])];
+    let cell = super::wide(arrows[cur]);
+    let block = owners[cell];
+    let mut near = [0u8; 1024];
+    let mut marks = [0u8; 1024];
+    let reach = kinds::compute_reach(kinds, owners, h, w, block, &mut near, &mut marks);
+    if count_block(kinds, owners, h * w, last_block) + 1 <= reach {
+        return Finding::Nothing;
+    }
+    let literals = reason_for_blocks(
+        cells,
+        kinds,
+        owners,
+        &marks,
+        h,
+        w,
+        last_block,
+        cell,
+        block,
+        buffer,
+    );
+    Finding::Reason(literals)
+}
+
+// Reason 4 (b) for the squares at two places of an arrow.
+fn check_gap(
+    cells: &[u8; 1024],
+    arrows: &[u16; 1024],
+    kinds: &[u8; 1024],
+    owners: &[u16; 1024],
+    h: usize,
+    w: usize,
+    last: usize,
+    cur: usize,
+    buffer: &mut [u16],
+) -> Finding
+    requires { ⌜ Fit h w (now buffer) × Squares h w (now cells) (now arrows) (now kinds) (now owners) last cur ⌝ }
+    ensures { λ r. ⌜ ((lines : List (List ℕ)) → Scene h w lines (now (cells .entry)) (now (arrows .entry)) (now (kinds .entry)) (now (owners .entry)) last (cur + 1) → FoundAs (reason4bAt (viewOn h w lines (now (cells .entry))) (pairAt (now (arrows .entry)) last cur)) (now (buffer .entry)) (now (buffer .exit)) r) ⌝ }
+{
+    let cell = super::wide(arrows[last]);
+    let last_block = owners[cell];
+    let block = owners[super::wide(arrows[cur])];
+    let mut near = [0u8; 1024];
+    let mut marks = [0u8; 1024];
+    let reach = kinds::compute_reach(kinds, owners, h, w, last_block, &mut near, &mut marks);
+    let gap = super::gap_count(cells, arrows, last + 2, cur - 1);
+    if count_block(kinds, owners, h * w, block) <= reach + 1 + gap {
+        return Finding::Nothing;
+    }
+    let literals = reason_for_blocks(
+        cells,
+        kinds,
+        owners,
+        &marks,
+        h,
+        w,
+        block,
+        cell,
+        last_block,
+        buffer,
+    );
+    let more = super::reason_for_gap(cells, arrows, last + 2, cur - 1, &mut buffer[literals..]);
+    Finding::Reason(literals + more)
+}
+
+// Reason 4, or reason 3, for the squares at two places of an arrow.
+fn check_pair(
+    fourth: bool,
+    cells: &[u8; 1024],
+    arrows: &[u16; 1024],
+    kinds: &[u8; 1024],
+    owners: &[u16; 1024],
+    h: usize,
+    w: usize,
+    last: usize,
+    cur: usize,
+    buffer: &mut [u16],
+) -> Finding
+    requires { ⌜ Fit h w (now buffer) × Squares h w (now cells) (now arrows) (now kinds) (now owners) last cur ⌝ }
+    ensures { λ r. ⌜ ((lines : List (List ℕ)) → Scene h w lines (now (cells .entry)) (now (arrows .entry)) (now (kinds .entry)) (now (owners .entry)) last (cur + 1) → FoundAs (reasonAt fourth (viewOn h w lines (now (cells .entry))) (pairAt (now (arrows .entry)) last cur)) (now (buffer .entry)) (now (buffer .exit)) r) ⌝ }
+{
+    if !fourth {
+        return check_shift(cells, arrows, kinds, owners, h, w, last, cur, buffer);
+    }
+    let finding = check_growth(cells, arrows, kinds, owners, h, w, last, cur, buffer);
+    match finding {
+        Finding::Nothing => check_gap(cells, arrows, kinds, owners, h, w, last, cur, buffer),
+        Finding::Reason(literals) => Finding::Reason(literals),
+        Finding::Refused(number) => Finding::Refused(number),
+    }
+}
+
+// The first reason among the pairs of the arrow at the places from `from` up to `to`.
+fn search_arrow(
+    fourth: bool,
+    cells: &[u8; 1024],
+    arrows: &[u16; 1024],
+    kinds: &[u8; 1024],
+    owners: &[u16; 1024],
+    h: usize,
+    w: usize,
+    from: usize,
+    to: usize,
+    buffer: &mut [u16],
+) -> Finding
+    requires { ⌜ Fit h w (now buffer) × Line h w (now cells) (now arrows) (now kinds) (now owners) from to ⌝ }
+    ensures { λ r. ⌜ ((lines : List (List ℕ)) → Scene h w lines (now (cells .entry)) (now (arrows .entry)) (now (kinds .entry)) (now (owners .entry)) from to → FoundAs (firstOf (reasonAt fourth (viewOn h w lines (now (cells .entry)))) (pairs (take (h * w) (now (cells .entry))) (slice from to (now (arrows .entry))))) (now (buffer .entry)) (now (buffer .exit)) r) ⌝ }
+{
+    let mut last = next_square(cells, arrows, from, to);
+    while last < to {
+        let cur = next_square(cells, arrows, last + 1, to);
+        if cur == to {
+            return Finding::Nothing;
+        }
+        let finding = check_pair(
+            fourth,
+            cells,
+            arrows,
+            kinds,
+            owners,
+            h,
+            w,
+            last,
+            cur,
+            buffer,
+        );
+        match finding {
+            Finding::Nothing => {
+                last = cur;
+            }
+            Finding::Reason(literals) => {
+                return Finding::Reason(literals);
+            }
+            Finding::Refused(number) => {
+                return Finding::Refused(number);
+            }
+        }
+    }
+    Finding::Nothing
+}
+
+// The first reason among the pairs of all arrows, in record order: 4 for all of them, or 3.
+fn search_arrows(
+    fourth: bool,
+    cells: &[u8; 1024],
+    arrows: &[u16; 1024],
+    ends: &[u16; 1024],
+    number: usize,
+    kinds: &[u8; 1024],
+    owners: &[u16; 1024],
+    h: usize,
+    w: usize,
+    buffer: &mut [u16],
+) -> Finding
+    requires { ⌜ Fit h w (now buffer) × Whole h w (now cells) (now arrows) (now ends) (now kinds) (now owners) number ⌝ }
+    ensures { λ r. ⌜ FoundAs (firstOf (reasonAt fourth (viewOn h w (linesOf (now (arrows .entry)) (now (ends .entry)) number) (now (cells .entry)))) (flatMap (pairs (take (h * w) (now (cells .entry)))) (linesOf (now (arrows .entry)) (now (ends .entry)) number))) (now (buffer .entry)) (now (buffer .exit)) r ⌝ }
+{
+    let mut from = 0;
+    let mut a = 0;
+    while a < number {
+        let to = super::wide(ends[a]);
+        let finding = search_arrow(fourth, cells, arrows, kinds, owners, h, w, from, to, buffer);
+        match finding {
+            Finding::Nothing => {
+                from = to;
+                a += 1;
+            }
+            Finding::Reason(literals) => {
+                return Finding::Reason(literals);
+            }
+            Finding::Refused(number) => {
+                return Finding::Refused(number);
+            }
+        }
+    }
+    Finding::Nothing
+}
+
+// Reason 3 for every pair of every arrow; only where none meets it, reason 4.
+pub fn search_pairs(
+    cells: &[u8; 1024],
+    arrows: &[u16; 1024],
+    ends: &[u16; 1024],
+    number: usize,
+    kinds: &[u8; 1024],
+    owners: &[u16; 1024],
+    h: usize,
+    w: usize,
+    buffer: &mut [u16],
+) -> Finding
+    requires { ⌜ Fit h w (now buffer) × Whole h w (now cells) (now arrows) (now ends) (now kinds) (now owners) number ⌝ }
+    ensures { λ r. ⌜ FoundAs (reason34 (viewOn h w (linesOf (now (arrows .entry)) (now (ends .entry)) number) (now (cells .entry)))) (now (buffer .entry)) (now (buffer .exit)) r ⌝ }
+{
+    let finding = search_arrows(
+        false,
+        cells,
+        arrows,
+        ends,
+        number,
+        kinds,
+        owners,
+        h,
+        w,
+        buffer,
+    );
+    match finding {
+        Finding::Nothing => search_arrows(
+            true,
+            cells,
+            arrows,
+            ends,
+            number,
+            kinds,
+            owners,
+            h,
+            w,
+            buffer,
+        ),
+        Finding::Reason(literals) => Finding::Reason(literals),
+        Finding::Refused(number) => Finding::Refused(number),
+    }
+}
