@@ -1,0 +1,39 @@
+-- The text of document 01's example, and of the answers beside it.
+-- Assumes nothing.
+use Prim.Native.Nat.{ℕ}
+use mathlib.Core.Path.{_≡_, refl}
+use mathlib.Core.List.{List, [], _∷_, _++_}
+use mathlib.Core.Option.{none, some}
+use Rattle.grid.specs.Lists.{range, upto, filter, any, all, last, init, tail, flatMap, member, once}
+use Rattle.grid.specs.Grid.{size, cellsOf, row, col, only, up, down, left, right, neighbours, touches}
+use Rattle.record.specs.Record.{_>>=_, unless, bit, number, field, cellCodes, there, stepFrom, stepCells, arrowAt, filler, arrowsAt, readRecord, Outcome, ok, refused}
+use Rattle.board.specs.Board.{valueAt, cellsAfter, empty, square, undecided, filled, decided, after, refusal, afterAll, Call, decide}
+use Rattle.groups.specs.Groups.{rename, join, joinAll, edges, labels, group, names}
+use Rattle.groups.specs.Arrows.{onArrow, pairsFrom, pairs}
+use Rattle.groups.specs.Rules.{fits}
+use Rattle.kinds.specs.Kinds.{isFloating, isIn, isBeside, kindBeside, arrowBlock, blocksBeside, kindAt, kindsOf, has, viewWith, view, block, floatNear, inReach, reach, rival, fenceAt, fence}
+use Rattle.reasons.specs.Reasons.{orElse, given, firstOf, each, reason1At, reason1, breadthFirst, parent, path, reason2At, reason2, mostApart, blockName, reasonGrow, reason3At, gap, reasonShrink, reason4At, reason34, findReason, Found, findOn}
+use Rattle.reasons.specs.Find.{enough}
+use Rattle.host.specs.Host.{acceptOr, decideBytes, hostFinds}
+use Rattle.answer.specs.Text.{digitsWithin, digits, line, noneText, reasonText, refusedText, twoWords, literalLine}
+use Rattle.answer.specs.Program.{textOf, outputLimit, answerOf, inputAnswer, printed}
+
+-- strip S of document 01, with its last byte
+S : ℕ → List ℕ
+S z = 0x00 ∷ 0x80 ∷ 0x08 ∷ 0x00 ∷ 0x00 ∷ 0x05 ∷ z ∷ []
+
+-- the program's example, `none`, and the refusals that it tests itself
+prints :
+    _≡_ {A = List (List ℕ)}
+    (printed (0x00 ∷ 0x07 ∷ (S 0xE0 ++ (0x80 ∷ 0x00 ∷ 0x80 ∷ 0x02 ∷ [])))
+    ∷ printed (0x00 ∷ 0x07 ∷ S 0xE0)
+    ∷ printed (0x00 ∷ 0x08 ∷ S 0xE0)
+    ∷ printed (0x00 ∷ [])
+    ∷ [])
+    ((114 ∷ 101 ∷ 97 ∷ 115 ∷ 111 ∷ 110 ∷ 32 ∷ 51 ∷ 10 ∷ 48 ∷ 32 ∷ 49 ∷ 10 ∷ 50 ∷ 32 ∷ 49 ∷ 10 ∷ 48 ∷ 32 ∷ 49 ∷ 10 ∷ [])
+    ∷ (110 ∷ 111 ∷ 110 ∷ 101 ∷ 10 ∷ [])
+    ∷ (114 ∷ 101 ∷ 102 ∷ 117 ∷ 115 ∷ 101 ∷ 100 ∷ 32 ∷ 49 ∷ 10 ∷ [])
+    ∷ (114 ∷ 101 ∷ 102 ∷ 117 ∷ 115 ∷ 101 ∷ 100 ∷ 32 ∷ 49 ∷ 10 ∷ [])
+    ∷ [])
+unfolding S range upto filter any all last init tail flatMap member once size cellsOf row col only up down left right neighbours touches rename join joinAll edges labels group names _>>=_ unless bit number field cellCodes there stepFrom stepCells arrowAt filler arrowsAt readRecord valueAt cellsAfter empty square undecided filled decided after refusal afterAll isFloating isIn isBeside kindBeside onArrow arrowBlock blocksBeside kindAt kindsOf has viewWith view block floatNear inReach reach rival fenceAt fence orElse given firstOf each reason1At reason1 breadthFirst parent path reason2At reason2 pairsFrom pairs fits mostApart blockName reasonGrow reason3At gap reasonShrink reason4At reason34 findReason findOn acceptOr decideBytes enough hostFinds digitsWithin digits line noneText reasonText refusedText twoWords literalLine textOf outputLimit answerOf inputAnswer printed
+prints = refl

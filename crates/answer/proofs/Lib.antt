@@ -1,0 +1,10 @@
+pub mod Writing
+pub mod TextLaws
+pub mod Digits
+pub mod Lines
+pub mod Codes
+pub mod ToldLaws
+pub mod HostTold
+pub mod Answers
+pub mod Inputs
+pub mod Leaves

@@ -1,0 +1,177 @@
+-- The steps of the host call: its decisions on the board of the plain machine, and its refusals in their order.
+-- Assumes nothing.
+use Prim.Native.Nat.{ℕ, zero, suc, _+_, _*_, _/_, _%_, _≤_, _<_}
+use native.Mathlib.Omega.{arith}
+use mathlib.Core.Path.{_≡_, refl, sym, ap, _∙_}
+use mathlib.Core.Bool.{Bool, true, false, cond}
+use mathlib.Core.List.{List, [], _∷_}
+use lib.Dec.{eqb}
+use borrow.Author.Tests.{le-leb, lt-leb}
+use Rattle.grid.specs.Grid.{Grid, size}
+use Rattle.record.specs.Record.{Outcome, ok, refused, Puzzle, readRecord, _>>=_, unless}
+use Rattle.record.specs.Problem.{gridOf, problemOf}
+use Rattle.record.specs.Valid.{Valid}
+use Rattle.record.specs.declared.Answer.{Answer}
+use Rattle.record.specs.declared.Answer.the-variants.{Done, Refused}
+use Rattle.record.proofs.RecordLaws.{record-valid}
+use Rattle.board.specs.Board.{Literal, decide, after, refusal}
+use Rattle.board.specs.Form.{wellFormed}
+use Rattle.board.specs.Kept.{boardOf, opening, openOf}
+use Rattle.board.specs.Decide.{decideRefusal, decideOf, answered, refusedWith, onward, decideFrom, decideAllOf, placed}
+use Rattle.board.specs.declared.Board.{Board}
+use Rattle.board.specs.declared.Decided.{Decided}
+use Rattle.board.specs.declared.Opened.{Opened}
+use Rattle.board.proofs.ProblemForm.{size-most}
+use Rattle.board.proofs.Standing.{Standing, none, after-standing}
+use Rattle.board.proofs.CallLaws.{standing-well, decide-number, decide-left}
+use Rattle.reasons.specs.Reasons.{findOn}
+use Rattle.reasons.specs.Find.{reasonOn, enough}
+use Rattle.reasons.proofs.Demand3.{reason-on}
+use Rattle.host.specs.Host.{acceptOr, decideBytes, hostFinds, Opens}
+
+-- the board's answer to a list of decisions, by the machine's
+unfoldable pub decidedBy : Board → Puzzle → Outcome (List Literal) → Decided
+decidedBy b₀ p (refused k) = refusedWith k b₀
+decidedBy b₀ p (ok ds) = record { answer = Done; board = boardOf p ds }
+
+module _ (p : Puzzle) (v : Valid p) (b₀ : Board) where
+  -- one decision: a refusal ends the list, and otherwise it goes on with the next board
+  one : (k : ℕ) (b next : Board) (rest : Outcome (List Literal)) (onto : Decided) → onto ≡ decidedBy b₀ p rest
+      → onward (answered k b next .answer) b₀ onto ≡ decidedBy b₀ p (acceptOr k rest)
+  unfolding onward answered acceptOr decidedBy
+  one zero b next rest onto e = e
+  one (suc k) b next rest onto e = refl
+
+  -- a list of decisions on the machine's board
+  pub decided-bytes : (bytes : List ℕ) {ds : List Literal} → Standing (p .grid) ds → decideFrom b₀ (boardOf p ds) bytes ≡ decidedBy b₀ p (decideBytes (p .grid) ds bytes)
+  unfolding decideFrom decideBytes
+  decided-bytes [] s = unfold decidedBy in refl
+  decided-bytes (a ∷ []) s = unfold decidedBy in refl
+  decided-bytes (a ∷ b ∷ rest) {ds} s =
+      go (eqb ((a * 256 + b) % 32768 / 1024) 0) ((a * 256 + b) % 1024) ((a * 256 + b) / 32768) (λ (es : List Literal) (t : Standing (p .grid) es). decided-bytes rest t)
+    where
+      go : (t : Bool) (i x : ℕ) → ((es : List Literal) → Standing (p .grid) es → decideFrom b₀ (boardOf p es) rest ≡ decidedBy b₀ p (decideBytes (p .grid) es rest))
+          → cond t (onward (decideOf (boardOf p ds) i x .answer) b₀ (decideFrom b₀ (decideOf (boardOf p ds) i x .board) rest)) (refusedWith 12 b₀)
+          ≡ decidedBy b₀ p (cond t (acceptOr (refusal (p .grid) (decide i x) ds) (decideBytes (p .grid) (after (p .grid) (decide i x) ds) rest)) (refused 12))
+      go false i x next = unfold decidedBy in refl
+      go true i x next =
+          rw (decide-left p v s i x, ← decide-number p v s i x)
+          (unfold decideOf in one (decideRefusal (boardOf p ds) i x) (boardOf p ds) (placed (boardOf p ds) i x) (decideBytes (p .grid) (after (p .grid) (decide i x) ds) rest)
+          (decideFrom b₀ (boardOf p (after (p .grid) (decide i x) ds)) rest) (next (after (p .grid) (decide i x) ds) (after-standing (p .grid) (decide i x) s)))
+
+-- the decisions that are accepted stand
+bytes-standing : (g : Grid) (bytes : List ℕ) {ds es : List Literal} → Standing g ds → decideBytes g ds bytes ≡ ok es → Standing g es
+unfolding decideBytes acceptOr
+bytes-standing g [] {ds} {es} s e = let q : ds ≡ es = cc in rw (← q) s
+bytes-standing g (a ∷ []) s e = let z : _≡_ {A = ℕ} 0 1 = cc in absurd (omega arith)
+bytes-standing g (a ∷ b ∷ rest) {ds} {es} s e =
+    go (eqb ((a * 256 + b) % 32768 / 1024) 0) ((a * 256 + b) % 1024) ((a * 256 + b) / 32768) (λ (ds : List Literal) (t : Standing g ds). bytes-standing g rest t) e
+  where
+    accepted : (k : ℕ) (next : Outcome (List Literal)) → (next ≡ ok es → Standing g es) → acceptOr k next ≡ ok es → Standing g es
+    accepted zero next f q = f q
+    accepted (suc k) next f q = let z : _≡_ {A = ℕ} 0 1 = cc in absurd (omega arith)
+
+    go : (t : Bool) (i x : ℕ) → ((ds : List Literal) → Standing g ds → decideBytes g ds rest ≡ ok es → Standing g es)
+        → cond t (acceptOr (refusal g (decide i x) ds) (decideBytes g (after g (decide i x) ds) rest)) (refused 12) ≡ ok es → Standing g es
+    go false i x next q = let z : _≡_ {A = ℕ} 0 1 = cc in absurd (omega arith)
+    go true i x next q =
+        accepted (refusal g (decide i x) ds) (decideBytes g (after g (decide i x) ds) rest)
+        (next (after g (decide i x) ds) (after-standing g (decide i x) s)) q
+
+-- the grid is the record's
+grid-on : (p : Puzzle) (ds : List Literal) → gridOf (boardOf p ds .problem) ≡ p .grid
+unfolding boardOf problemOf gridOf
+grid-on p ds = refl
+
+-- ---- the call, step by step
+
+-- a refused record
+pub open-refused : (s : List ℕ) (o : Opened) {k : ℕ} → o ≡ openOf s → o .answer ≡ Refused k → (decisions : List ℕ) (n : ℕ) → hostFinds s decisions n ≡ refused k
+unfolding hostFinds openOf opening _>>=_
+open-refused s o {k} e f decisions n = rw (go (readRecord s) (sym (ap (λ (o : Opened). o .answer) e) ∙ f)) refl
+  where
+    go : (r : Outcome Puzzle) → opening r .answer ≡ Refused k → r ≡ refused k
+    go (refused m) q = let z : m ≡ k = cc in ap refused z
+    go (ok p) q = let z : _≡_ {A = ℕ} 0 1 = cc in absurd (omega arith)
+
+-- an accepted record
+pub open-done : (s : List ℕ) (o : Opened) → o ≡ openOf s → o .answer ≡ Done → Opens s (o .board)
+open-done s o e f = sym e ∙ ap (λ (a : Answer). record { answer = a; board = o .board }) f
+
+-- the puzzle of an accepted record, and its fresh board
+pub record OpensAs (s : List ℕ) (b : Board) : Type 0 where
+  pub puzzle : Puzzle
+  pub reads : readRecord s ≡ ok puzzle
+  pub fresh : b ≡ boardOf puzzle []
+
+pub opens-as : (s : List ℕ) (b : Board) → Opens s b → OpensAs s b
+unfolding openOf opening
+opens-as s b e = go (readRecord s) refl e
+  where
+    go : (r : Outcome Puzzle) → readRecord s ≡ r → opening r ≡ record { answer = Done; board = b } → OpensAs s b
+    go (refused m) q f = let g = ap (λ (o : Opened). o .answer) f in let z : _≡_ {A = ℕ} 0 1 = cc in absurd (omega arith)
+    go (ok p) q f = record { puzzle = p; reads = q; fresh = sym (ap (λ (o : Opened). o .board) f) }
+
+-- what the board after the decisions is known to be
+pub record Settled (s decisions : List ℕ) (n : ℕ) (b : Board) : Type 0 where
+  pub finds : hostFinds s decisions n ≡ ok (reasonOn b)
+  pub well : wellFormed b ≡ true
+  pub room : 2 * enough (gridOf (b .problem)) ≤ n
+
+module _ (s : List ℕ) {p : Puzzle} (reads : readRecord s ≡ ok p) {b : Board} (fresh : b ≡ boardOf p []) where
+  valid : Valid p
+  valid = record-valid s reads
+
+  sizes : b .problem .height * b .problem .width ≡ size (p .grid)
+  unfolding boardOf problemOf size
+  sizes = rw fresh refl
+
+  -- the cells are few, so nothing overflows
+  pub opens-area : b .problem .height * b .problem .width ≤ 1024
+  opens-area = rw sizes (size-most (p .grid) (valid .high .0) (valid .high .1))
+
+  module _ (decisions : List ℕ) (n : ℕ) where
+    -- an output that is too short
+    pub output-short : n < 2 * (3 * (b .problem .height * b .problem .width) + 1) → hostFinds s decisions n ≡ refused 11
+    unfolding hostFinds enough _>>=_ unless
+    output-short h = rw (reads, lt-leb (2 * (3 * size (p .grid) + 1)) n (rw sizes at h)) refl
+
+    -- the decisions come next where it is long enough
+    output-long : 2 * (3 * (b .problem .height * b .problem .width) + 1) ≤ n → hostFinds s decisions n ≡ (decideBytes (p .grid) [] decisions >>= λ ds. ok (findOn p ds))
+    unfolding hostFinds enough _>>=_ unless
+    output-long h = rw (reads, le-leb (2 * (3 * size (p .grid) + 1)) n (rw sizes at h)) refl
+
+    long-enough : 2 * (3 * (b .problem .height * b .problem .width) + 1) ≤ n → 2 * enough (p .grid) ≤ n
+    unfolding enough
+    long-enough h = rw sizes at h
+
+    -- the board's list of decisions answers as the machine does
+    all-decided : decideAllOf b decisions ≡ decidedBy b p (decideBytes (p .grid) [] decisions)
+    unfolding decideAllOf
+    all-decided = rw (fresh, standing-well p valid none) (decided-bytes p valid (boardOf p []) decisions none)
+
+    module _ (d : Decided) (e : d ≡ decideAllOf b decisions) (h : 2 * (3 * (b .problem .height * b .problem .width) + 1) ≤ n) where
+      -- a decision is refused
+      pub decisions-refused : {k : ℕ} → d .answer ≡ Refused k → hostFinds s decisions n ≡ refused k
+      unfolding decidedBy refusedWith _>>=_
+      decisions-refused {k} f = output-long h ∙ go (decideBytes (p .grid) [] decisions) (sym (ap (λ (d : Decided). d .answer) (e ∙ all-decided)) ∙ f)
+        where
+          go : (r : Outcome (List Literal)) → decidedBy b p r .answer ≡ Refused k → (r >>= λ ds. ok (findOn p ds)) ≡ refused k
+          go (refused m) q = let z : m ≡ k = cc in ap refused z
+          go (ok ds) q = let z : _≡_ {A = ℕ} 0 1 = cc in absurd (omega arith)
+
+      -- all are accepted
+      pub decisions-done : d .answer ≡ Done → Settled s decisions n (d .board)
+      unfolding decidedBy refusedWith _>>=_
+      decisions-done f = go (decideBytes (p .grid) [] decisions) refl (e ∙ all-decided)
+        where
+          go : (r : Outcome (List Literal)) → decideBytes (p .grid) [] decisions ≡ r → d ≡ decidedBy b p r → Settled s decisions n (d .board)
+          go (refused m) q g = let a = ap (λ (d : Decided). d .answer) g in let z : _≡_ {A = ℕ} 0 1 = cc in absurd (omega arith)
+          go (ok ds) q g =
+              let t : Standing (p .grid) ds = bytes-standing (p .grid) decisions none q in
+              let z : d .board ≡ boardOf p ds = ap (λ (d : Decided). d .board) g in
+              record {
+                finds = output-long h ∙ rw (q, z, reason-on p valid t) refl;
+                well = rw z (standing-well p valid t);
+                room = rw (z, grid-on p ds) (long-enough h);
+              }

@@ -1,0 +1,97 @@
+-- The leaves of document 01: those that it stars as one computed theorem, and the others beside it.
+-- Assumes nothing.
+use Prim.Native.Nat.{ℕ}
+use mathlib.Core.Path.{_≡_, refl}
+use mathlib.Core.List.{List, [], _∷_, _++_}
+use mathlib.Core.Option.{none, some}
+use Rattle.grid.specs.Lists.{range, upto, filter, any, all, last, init, tail, flatMap, member, once}
+use Rattle.grid.specs.Grid.{size, cellsOf, row, col, only, up, down, left, right, neighbours, touches}
+use Rattle.record.specs.Record.{_>>=_, unless, bit, number, field, cellCodes, there, stepFrom, stepCells, arrowAt, filler, arrowsAt, readRecord, Outcome, ok, refused}
+use Rattle.board.specs.Board.{valueAt, cellsAfter, empty, square, undecided, filled, decided, after, refusal, afterAll, Call, decide}
+use Rattle.groups.specs.Groups.{rename, join, joinAll, edges, labels, group, names}
+use Rattle.groups.specs.Arrows.{onArrow, pairsFrom, pairs}
+use Rattle.groups.specs.Rules.{fits}
+use Rattle.kinds.specs.Kinds.{isFloating, isIn, isBeside, kindBeside, arrowBlock, blocksBeside, kindAt, kindsOf, has, viewWith, view, block, floatNear, inReach, reach, rival, fenceAt, fence}
+use Rattle.reasons.specs.Reasons.{orElse, given, firstOf, each, reason1At, reason1, breadthFirst, parent, path, reason2At, reason2, mostApart, blockName, reasonGrow, reason3At, gap, reasonShrink, reason4At, reason34, findReason, Found, findOn}
+use Rattle.reasons.specs.Find.{enough}
+use Rattle.host.specs.Host.{acceptOr, decideBytes, hostFinds}
+
+-- open a record, decide in order, find
+unfoldable pub findAfter : List ℕ → List Call → Outcome Found
+findAfter s cs = readRecord s >>= λ p. ok (findReason (p .grid) (p .arrows) (cellsAfter (p .grid) (afterAll (p .grid) cs [])))
+
+-- strip S of document 01, with its last byte
+S : ℕ → List ℕ
+S z = 0x00 ∷ 0x80 ∷ 0x08 ∷ 0x00 ∷ 0x00 ∷ 0x05 ∷ z ∷ []
+
+-- pair T
+pairT : List ℕ
+pairT = 0x00 ∷ 0x40 ∷ 0x00 ∷ 0x00 ∷ []
+
+-- the grid of 2 by 5, one arrow along row 0
+grid25 : List ℕ
+grid25 = 0x09 ∷ 0x00 ∷ 0x08 ∷ 0x00 ∷ 0x00 ∷ 0x00 ∷ 0x00 ∷ 0x27 ∷ 0xF8 ∷ []
+
+-- 0, 4, 8, 9 square, 1 and 5 empty
+some25 : List Call
+some25 = decide 0 1 ∷ decide 4 1 ∷ decide 8 1 ∷ decide 9 1 ∷ decide 1 0 ∷ decide 5 0 ∷ []
+
+-- the leaves marked *
+starred :
+    _≡_ {A = List (Outcome Found)}
+    (findAfter (S 0xE0) []
+    ∷ findAfter (S 0xE0) (decide 0 1 ∷ decide 1 1 ∷ [])
+    ∷ findAfter (S 0xE0) (decide 0 1 ∷ decide 2 1 ∷ [])
+    ∷ findAfter (S 0xE0) (decide 0 0 ∷ decide 1 0 ∷ decide 2 0 ∷ [])
+    ∷ findAfter pairT (decide 1 1 ∷ [])
+    ∷ findAfter pairT (decide 0 0 ∷ decide 1 1 ∷ [])
+    ∷ findAfter grid25 some25
+    ∷ findAfter grid25 (some25 ++ (decide 2 0 ∷ []))
+    ∷ findAfter (S 0xE1) []
+    ∷ findAfter (0x00 ∷ 0x80 ∷ 0x08 ∷ 0x00 ∷ 0x00 ∷ 0x05 ∷ []) []
+    ∷ findAfter (S 0xC0) []
+    ∷ findAfter (S 0x80) []
+    ∷ findAfter (0x00 ∷ 0x40 ∷ 0x01 ∷ 0x80 ∷ []) []
+    ∷ [])
+    (ok none
+    ∷ ok (some ((0, 1) ∷ (1, 1) ∷ []))
+    ∷ ok (some ((0, 1) ∷ (2, 1) ∷ (0, 1) ∷ []))
+    ∷ ok none
+    ∷ ok (some ((1, 1) ∷ []))
+    ∷ ok (some ((0, 0) ∷ (1, 1) ∷ []))
+    ∷ ok none
+    ∷ ok (some ((4, 1) ∷ (8, 1) ∷ (9, 1) ∷ (0, 1) ∷ (1, 0) ∷ (5, 0) ∷ (2, 0) ∷ []))
+    ∷ refused 5
+    ∷ refused 1
+    ∷ refused 4
+    ∷ refused 3
+    ∷ refused 2
+    ∷ [])
+unfolding findAfter S pairT grid25 some25 range upto filter any all last init tail flatMap member once size cellsOf row col only up down left right neighbours touches rename join joinAll edges labels group names _>>=_ unless bit number field cellCodes there stepFrom stepCells arrowAt filler arrowsAt readRecord valueAt cellsAfter empty square undecided filled decided after refusal afterAll isFloating isIn isBeside kindBeside onArrow arrowBlock blocksBeside kindAt kindsOf has viewWith view block floatNear inReach reach rival fenceAt fence orElse given firstOf each reason1At reason1 breadthFirst parent path reason2At reason2 pairsFrom pairs fits mostApart blockName reasonGrow reason3At gap reasonShrink reason4At reason34 findReason
+starred = refl
+
+-- the host call on S: its answer, and its refusals in their order
+hosts :
+    _≡_ {A = List (Outcome Found)}
+    (hostFinds (S 0xE0) (0x80 ∷ 0x00 ∷ 0x80 ∷ 0x02 ∷ []) 20
+    ∷ hostFinds (S 0xE0) (0x80 ∷ 0x00 ∷ 0x80 ∷ 0x02 ∷ []) 19
+    ∷ hostFinds (S 0xE0) (0x80 ∷ 0x00 ∷ 0x80 ∷ []) 20
+    ∷ hostFinds (S 0xE0) (0x80 ∷ 0x03 ∷ 0x80 ∷ []) 20
+    ∷ hostFinds (S 0xE0) (0x80 ∷ 0x00 ∷ 0x00 ∷ 0x00 ∷ []) 20
+    ∷ hostFinds (S 0xE0) (0x84 ∷ 0x03 ∷ []) 20
+    ∷ [])
+    (ok (some ((0, 1) ∷ (2, 1) ∷ (0, 1) ∷ [])) ∷ refused 11 ∷ refused 12 ∷ refused 7 ∷ refused 9 ∷ refused 12 ∷ [])
+unfolding S range upto filter any all last init tail flatMap member once size cellsOf row col only up down left right neighbours touches rename join joinAll edges labels group names _>>=_ unless bit number field cellCodes there stepFrom stepCells arrowAt filler arrowsAt readRecord valueAt cellsAfter empty square undecided filled decided after refusal afterAll isFloating isIn isBeside kindBeside onArrow arrowBlock blocksBeside kindAt kindsOf has viewWith view block floatNear inReach reach rival fenceAt fence orElse given firstOf each reason1At reason1 breadthFirst parent path reason2At reason2 pairsFrom pairs fits mostApart blockName reasonGrow reason3At gap reasonShrink reason4At reason34 findReason findOn acceptOr decideBytes enough hostFinds
+hosts = refl
+
+-- two boards that tell the tempting faults: a barrier taken for reachable, and 4 tested before every pair has passed 3
+tempting :
+    _≡_ {A = List Found}
+    (findReason (record { height = 1; width = 3 }) ((2 ∷ 1 ∷ 0 ∷ []) ∷ []) (1 ∷ 2 ∷ 1 ∷ [])
+    ∷ findReason (record { height = 2; width = 4 }) ((7 ∷ 6 ∷ 5 ∷ 1 ∷ 2 ∷ 3 ∷ []) ∷ []) (1 ∷ 0 ∷ 1 ∷ 0 ∷ 1 ∷ 1 ∷ 0 ∷ 1 ∷ [])
+    ∷ [])
+    (some ((2, 1) ∷ (0, 1) ∷ (2, 1) ∷ [])
+    ∷ some ((0, 1) ∷ (4, 1) ∷ (5, 1) ∷ (2, 1) ∷ (1, 0) ∷ (3, 0) ∷ (6, 0) ∷ [])
+    ∷ [])
+unfolding range upto filter any all last init tail flatMap member once size cellsOf row col only up down left right neighbours touches rename join joinAll edges labels group names _>>=_ unless bit number field cellCodes there stepFrom stepCells arrowAt filler arrowsAt readRecord valueAt cellsAfter empty square undecided filled decided after refusal afterAll isFloating isIn isBeside kindBeside onArrow arrowBlock blocksBeside kindAt kindsOf has viewWith view block floatNear inReach reach rival fenceAt fence orElse given firstOf each reason1At reason1 breadthFirst parent path reason2At reason2 pairsFrom pairs fits mostApart blockName reasonGrow reason3At gap reasonShrink reason4At reason34 findReason findOn acceptOr decideBytes enough hostFinds
+tempting = refl

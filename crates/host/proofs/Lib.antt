@@ -1,0 +1,5 @@
+pub mod Leaves
+pub mod HostLaws
+pub mod OutputLaws
+pub mod NegatedLaws
+pub mod FoundLaws

@@ -1,0 +1,64 @@
+-- `host::evolmino_find` meets its contract: a record that is refused, or what comes after it.
+-- Assumes nothing.
+use mathlib.Core.Path.{_∙_}
+use lib.ListN.{length}
+use mir.Syntax.{w32}
+use mir.ValLaws.{toZ-ofZ}
+use Rattle.host.specs.Host.{Opens}
+use Rattle.host.proofs.HostLaws.{open-refused, open-done}
+use Rattle.host.proofs.FoundLaws.{refused-told}
+use borrow.Author.Needs.{needs}
+use Rattle.host.proofs.evolmino_find.Statement.{statement}
+use Rattle.host.proofs.evolmino_find.Tie as tie
+
+-- the record is accepted
+opens : (c : tie.After-enum-told) → Opens (c .before .before .before .before .before .before .before .args .«record» .now) (c .before .before .before .«open» .result .board)
+opens c =
+    let o = c .before .before .before .«open» in
+    open-done (c .before .before .before .before .before .before .before .args .«record» .now) (o .result) (o .ensures) (c .enum-told .given .1)
+
+open-requires : tie.Need-open-requires
+open-requires c κs = search needs
+
+enum-told : tie.Need-enum-told
+enum-told c = search needs
+
+decide-and-find-requires : tie.Need-decide-and-find-requires
+decide-and-find-requires c κs = (c .before .before .before .before .before .before .before .before .args .«record» .now, opens (c .before))
+
+enum-known-answer : tie.Need-enum-known-answer
+enum-known-answer c = search needs
+
+negated-requires : tie.Need-negated-requires
+negated-requires c κs = search needs
+
+same-length : tie.Need-same-length
+same-length c = search needs
+
+returns : tie.Need-returns
+returns c =
+    let s = c .before .before .before .before .before .before .before .before .before .before .before .args .«record» .now in
+    let f = c .before .before .decide-and-find in
+    let q = f .ensures s (opens (c .before .before .before .before)) in
+    (toZ-ofZ w32 (f .result) (record { sfits = f .ok }) ∙ q .0, q .1)
+
+returns-2 : tie.Need-returns-2
+returns-2 c =
+    let a = c .before .before .before .before .before .before .before .before .before .args in
+    let o = c .before .before .before .before .before .«open» in
+    let n = c .negated in
+    let t = refused-told (a .output .now) (open-refused (a .«record» .now) (o .result) (o .ensures) (c .before .before .answer .given .1) (a .decisions .now) (length (a .output .now))) in
+    (toZ-ofZ w32 (n .result) (record { sfits = n .ok }) ∙ n .ensures ∙ t .0, t .1)
+
+pub evolmino-find-spec : {M : Type 1} → statement M
+evolmino-find-spec =
+    tie.close
+    (tie.spec
+    open-requires
+    enum-told
+    decide-and-find-requires
+    enum-known-answer
+    negated-requires
+    same-length
+    returns
+    returns-2)

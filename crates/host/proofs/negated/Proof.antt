@@ -1,0 +1,18 @@
+-- `host::negated` meets its contract.
+-- Assumes nothing.
+use borrow.Author.Needs.{needs}
+use Rattle.host.proofs.NegatedLaws.{fits, value}
+use Rattle.host.proofs.negated.Statement.{statement}
+use Rattle.host.proofs.negated.Tie as tie
+
+cast-result : tie.Need-cast-result
+cast-result c = search needs
+
+sub-result : tie.Need-sub-result
+sub-result c = fits (c .args .k) (search needs)
+
+returns : tie.Need-returns
+returns c = value (c .args .k) (search needs)
+
+pub negated-spec : {M : Type 1} → statement M
+negated-spec = tie.close (tie.spec cast-result sub-result returns)

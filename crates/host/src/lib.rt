@@ -1,0 +1,98 @@
+// The call that is exported for Rust and C.
+use board::Board;
+use reasons::Finding;
+use record::Answer;
+ghost use mathlib.Core.Path.{_≡_};
+ghost use mathlib.Core.Bool.{true};
+ghost use Prim.Native.Nat.{ℕ, _+_, _*_, _≤_};
+ghost use mathlib.Core.List.{List, _++_};
+ghost use lib.IntN.{pos, negℤ};
+ghost use lib.ListN.{length, take, drop};
+ghost use Rattle.record.specs.Record.{ok};
+ghost use Rattle.record.specs.Problem.{gridOf};
+ghost use Rattle.board.specs.Form.{wellFormed};
+ghost use Rattle.reasons.specs.Find.{enough, reasonOn};
+ghost use Rattle.host.specs.Host.{bytesOf, hostFinds, returned, outputAfter, Opens};
+
+// The number of a refusal, negated.
+fn negated(k: u8) -> i32
+    ensures { λ r. ⌜ r ≡ negℤ (pos k) ⌝ }
+{
+    -(k as i32)
+}
+
+// Room for the longest reason.
+fn no_literals() -> [u16; Board::LITERALS]
+    ensures { λ r. ⌜ length r ≡ 3073 ⌝ }
+{
+    [0u16; Board::LITERALS]
+}
+
+// Writes the first `count` literals to the output, each as two bytes, most significant first.
+fn write_literals(literals: &[u16], count: usize, output: &mut [u8])
+    requires { ⌜ (count ≤ length (now literals)) × (2 * count ≤ length (now output)) ⌝ }
+    ensures { λ _. ⌜ now (output .exit) ≡ bytesOf (take count (now (literals .entry))) ++ drop (2 * count) (now (output .entry)) ⌝ }
+{
+    let mut k = 0;
+    while k < count {
+        let literal = literals[k];
+        let at = 2 * k;
+        output[at] = (literal / 256) as u8;
+        output[at + 1] = (literal % 256) as u8;
+        k += 1;
+    }
+}
+
+// Finds on a board that is well formed. The output is long enough for every reason.
+fn find_on(board: Board, output: &mut [u8]) -> i32
+    requires { ⌜ (wellFormed board ≡ true) × (2 * enough (gridOf (board .problem)) ≤ length (now output)) ⌝ }
+    ensures { λ r. ⌜ (r ≡ returned (ok (reasonOn board))) × (now (output .exit) ≡ outputAfter (ok (reasonOn board)) (now (output .entry))) ⌝ }
+{
+    let mut literals = no_literals();
+    let found = reasons::find(board, &mut literals);
+    match found {
+        Finding::Nothing => 0,
+        Finding::Reason(count) => {
+            write_literals(&literals, count, output);
+            count as i32
+        }
+        Finding::Refused(k) => negated(k),
+    }
+}
+
+// Decides in order on a fresh board and finds: 11 for an output that is too short, then the decisions' refusals.
+fn decide_and_find(board: Board, decisions: &[u8], output: &mut [u8]) -> i32
+    requires { ⌜ ((s : List ℕ) × Opens s board) ⌝ }
+    ensures { λ r. ⌜ ((s : List ℕ) → Opens s board
+        → (r ≡ returned (hostFinds s (now (decisions .entry)) (length (now (output .entry)))))
+        × (now (output .exit) ≡ outputAfter (hostFinds s (now (decisions .entry)) (length (now (output .entry)))) (now (output .entry)))) ⌝ }
+{
+    let h = board.problem.height;
+    let w = board.problem.width;
+    if output.len() < 2 * (3 * (h * w) + 1) {
+        return negated(11);
+    }
+    let decided = board.decide_all(decisions);
+    let answer = decided.answer;
+    let after = decided.board;
+    match answer {
+        Answer::Done => find_on(after, output),
+        Answer::Refused(k) => negated(k),
+    }
+}
+
+// Opens the record, decides in order and finds. The literals stand in the output's first bytes, two each, most significant first.
+// Returns how many there are, 0 for none, or the negated number of a refusal, which leaves the output as it was.
+#[no_mangle]
+pub extern "C" fn evolmino_find(record: &[u8], decisions: &[u8], output: &mut [u8]) -> i32
+    ensures { λ r. ⌜ (r ≡ returned (hostFinds (now («record» .entry)) (now (decisions .entry)) (length (now (output .entry)))))
+        × (now (output .exit) ≡ outputAfter (hostFinds (now («record» .entry)) (now (decisions .entry)) (length (now (output .entry)))) (now (output .entry))) ⌝ }
+{
+    let opened = Board::open(record);
+    let answer = opened.answer;
+    let board = opened.board;
+    match answer {
+        Answer::Done => decide_and_find(board, decisions, output),
+        Answer::Refused(k) => negated(k),
+    }
+}
