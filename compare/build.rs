@@ -1,0 +1,53 @@
+//! Finds the two files of the original and, with the feature `host`, the library of the host call.
+//!
+//! Nothing is copied: the program includes the original's text from where it stands. Where it is
+//! missing, `cfg(original)` stays unset and the program does without it.
+
+use std::env;
+use std::path::{Path, PathBuf};
+
+const EVOLMINO: &str = "src--cspuz_rs_puzzles--src--puzzles--evolmino.rs.txt";
+const UTIL: &str = "src--cspuz_rs_puzzles--src--util.rs.txt";
+
+fn main() {
+    println!("cargo:rerun-if-changed=build.rs");
+    println!("cargo:rustc-check-cfg=cfg(original)");
+    find_original(&folder("EVOLMINO_ORIGINAL", "../../shared/docs"));
+    if env::var_os("CARGO_FEATURE_HOST").is_some() {
+        link_host(&folder("EVOLMINO_HOST", "../target/staticlib"));
+    }
+}
+
+/// The folder that an environment variable names, or a default; relative ones start at compare/.
+fn folder(variable: &str, default: &str) -> PathBuf {
+    println!("cargo:rerun-if-env-changed={variable}");
+    let manifest = env::var_os("CARGO_MANIFEST_DIR").expect("cargo sets CARGO_MANIFEST_DIR");
+    let named = env::var_os(variable).unwrap_or_else(|| default.into());
+    Path::new(&manifest).join(named)
+}
+
+fn find_original(folder: &Path) {
+    let evolmino = folder.join(EVOLMINO);
+    let util = folder.join(UTIL);
+    println!("cargo:rerun-if-changed={}", evolmino.display());
+    println!("cargo:rerun-if-changed={}", util.display());
+    if evolmino.is_file() && util.is_file() {
+        println!("cargo:rustc-cfg=original");
+        println!("cargo:rustc-env=EVOLMINO_RS={}", evolmino.display());
+        println!("cargo:rustc-env=EVOLMINO_UTIL_RS={}", util.display());
+    } else {
+        println!(
+            "cargo:warning=the original is not in {}: set EVOLMINO_ORIGINAL",
+            folder.display()
+        );
+    }
+}
+
+fn link_host(folder: &Path) {
+    println!(
+        "cargo:rerun-if-changed={}",
+        folder.join("libhost.a").display()
+    );
+    println!("cargo:rustc-link-search=native={}", folder.display());
+    println!("cargo:rustc-link-lib=static=host");
+}

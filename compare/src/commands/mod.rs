@@ -1,0 +1,10 @@
+//! The subcommands.
+
+pub mod bench;
+pub mod calls;
+pub mod finds;
+pub mod groups;
+pub mod host;
+pub mod program;
+pub mod records;
+pub mod small;

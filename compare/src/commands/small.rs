@@ -1,0 +1,142 @@
+//! `compare small`: on small grids each reason against every full board, and full boards against
+//! the block rules.
+
+use super::finds::compare;
+use crate::generate::boards::{board_of_puzzle, Decided};
+use crate::generate::puzzles::{puzzle_of_size, size_up_to};
+use crate::original::AT_HAND;
+use crate::progress::{facts, Outcome, Progress};
+use crate::random::Random;
+use crate::reading::board::{Board, Cell};
+use crate::reading::finished::finished;
+use crate::reading::groups::block_rules_hold;
+use crate::reading::reasons::{find_reason, Reason};
+use crate::reading::record::{Code, Puzzle};
+use crate::reading::Literal;
+use crate::tally::Tally;
+
+const MOST_CELLS: usize = 12;
+
+/// Grids up to this size have all their boards tried, larger ones random boards.
+const ALL_BOARDS: usize = 8;
+const RANDOM_BOARDS: usize = 500;
+
+pub fn run(seed: u64, count: usize) -> Outcome {
+    let mut random = Random::new(seed);
+    let mut progress = Progress::new("small", count);
+    let mut partly = Tally::default();
+    let mut full = Tally::default();
+    let mut solved = 0;
+    for done in 0..count {
+        progress.at(done);
+        let puzzle = small_puzzle(&mut random);
+        let rules = every_full_board(&puzzle, &mut full)?;
+        solved += rules.iter().filter(|&&hold| hold).count();
+        for board in boards(&mut random, puzzle) {
+            let reason = find(&board)?;
+            if let Some(reason) = &reason {
+                sound(&board, reason, &rules)?;
+            }
+            partly.add(board.puzzle.size, reason.as_ref());
+        }
+    }
+    println!("small: {count} puzzles; reasons tried against every full board:");
+    partly.print();
+    println!("every full board of these puzzles ({solved} meet the block rules):");
+    full.print();
+    Ok(())
+}
+
+fn small_puzzle(random: &mut Random) -> Puzzle {
+    let longest = random.pick(&[4, 4, 4, MOST_CELLS]);
+    loop {
+        let size = size_up_to(random, longest);
+        if size.cells() <= MOST_CELLS {
+            return puzzle_of_size(random, size);
+        }
+    }
+}
+
+/// All boards of a puzzle where there are few, else some.
+fn boards(random: &mut Random, puzzle: Puzzle) -> Vec<Decided> {
+    let cells = puzzle.size.cells();
+    if cells <= ALL_BOARDS {
+        let board = |number| Decided {
+            puzzle: puzzle.clone(),
+            decisions: decisions(number, cells, 3),
+        };
+        return (0..3usize.pow(cells as u32)).map(board).collect();
+    }
+    let board = |_| board_of_puzzle(random, puzzle.clone());
+    (0..RANDOM_BOARDS).map(board).collect()
+}
+
+/// The digits of a number are the cells: 0 empty, 1 square, 2 undecided.
+fn decisions(number: usize, cells: usize, base: usize) -> Vec<Literal> {
+    let digit = |cell: usize| (number / base.pow(cell as u32) % base) as u8;
+    (0..cells)
+        .map(|cell| (cell, digit(cell)))
+        .filter(|&(_, value)| value < 2)
+        .collect()
+}
+
+/// The reading's reason; where the original is at hand it has the same.
+fn find(board: &Decided) -> Result<Option<Reason>, String> {
+    if AT_HAND {
+        return compare(board);
+    }
+    let cells = Board::after(&board.puzzle, &board.decisions).cells();
+    Ok(find_reason(&board.puzzle, &cells))
+}
+
+/// For each full board, by its number, whether the block rules hold. Find says none exactly then,
+/// and it is finished exactly when black and given cells are kept too.
+fn every_full_board(puzzle: &Puzzle, tally: &mut Tally) -> Result<Vec<bool>, String> {
+    let cells = puzzle.size.cells();
+    let mut rules = Vec::new();
+    for number in 0..1 << cells {
+        let board = Decided {
+            puzzle: puzzle.clone(),
+            decisions: decisions(number, cells, 2),
+        };
+        let after = Board::after(puzzle, &board.decisions);
+        let hold = block_rules_hold(puzzle, &after.cells());
+        let reason = find(&board)?;
+        tally.add(puzzle.size, reason.as_ref());
+        if hold != reason.is_none() || finished(&after) != (hold && kept(puzzle, &after.cells())) {
+            return Err(format!(
+                "{}\nthe block rules: {hold}, finished: {}, find: {reason:?}",
+                facts(puzzle, &board.decisions),
+                finished(&after),
+            ));
+        }
+        rules.push(hold);
+    }
+    Ok(rules)
+}
+
+fn kept(puzzle: &Puzzle, cells: &[Cell]) -> bool {
+    (0..cells.len()).all(|cell| match puzzle.codes[cell] {
+        Code::Plain => true,
+        Code::Black => cells[cell] == Cell::Empty,
+        Code::Given => cells[cell] == Cell::Square,
+    })
+}
+
+/// Every literal stands, and no full board that agrees with all of them meets the block rules.
+fn sound(board: &Decided, reason: &Reason, rules: &[bool]) -> Outcome {
+    let stands = |literal: &Literal| board.decisions.contains(literal);
+    let agrees = |number: usize| {
+        let value = |index: usize| (number >> index & 1) as u8;
+        reason.literals.iter().all(|&(index, v)| value(index) == v)
+    };
+    let counterexample = (0..rules.len()).find(|&number| rules[number] && agrees(number));
+    if reason.literals.iter().all(stands) && counterexample.is_none() {
+        return Ok(());
+    }
+    Err(format!(
+        "{}\n{reason:?} is refuted by the full board {:?}",
+        facts(&board.puzzle, &board.decisions),
+        counterexample.map(|number| decisions(number, board.puzzle.size.cells(), 2)),
+    ))
+}

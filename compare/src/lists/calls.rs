@@ -1,0 +1,135 @@
+//! `boards.list` and `calls.list`: lists of calls on one board.
+
+use super::numbers::cell_number;
+use super::List;
+use crate::answers::{by_original, by_reading, Answer};
+use crate::generate::boards::{any_board, board_of_size, Decided};
+use crate::generate::calls::{calls, Call};
+use crate::generate::puzzles::square;
+use crate::original::Original;
+use crate::progress::facts;
+use crate::random::Random;
+use crate::reading::board::Board;
+use crate::reading::grid::Size;
+use crate::reading::record::encode;
+
+const FORMAT: [&str; 8] = [
+    "Entries to the end of the file: u16 record length, the record, u16 number of calls, the calls.",
+    "A call is u8 kind and:",
+    "  0 decide: u16 index, u8 value, u8 expected refusal or 0",
+    "  1 undo: u8 expected refusal or 0",
+    "  2 find: u16 buffer length in literals, u8 expected refusal or 0; if 0, u16 count (0 for none)",
+    "    and that many u16 literals, value * 32768 + index",
+    "  3 cells: height * width bytes, the expected cells (0 empty, 1 square, 2 undecided)",
+    "Each entry starts on a fresh board of its record.",
+];
+
+/// Decide, undo and cells only.
+pub fn boards(seed: u64) -> Result<List, String> {
+    let what = "Lists of decide and undo on one board, without find.";
+    call_lists("boards.list", 150_000, seed, what, false)
+}
+
+/// Decide, undo, find and cells.
+pub fn calls_with_finds(seed: u64) -> Result<List, String> {
+    let what = "Lists of decide, undo and find on one board.";
+    call_lists("calls.list", 400_000, seed, what, true)
+}
+
+fn call_lists(
+    name: &'static str,
+    limit: usize,
+    seed: u64,
+    what: &str,
+    finds: bool,
+) -> Result<List, String> {
+    let mut list = List::new(name, limit, seed, what);
+    list.answers_are_the_originals();
+    list.line("Its panics are refusals 9 and 10, and 7; it has no counterpart to 8 and 11.");
+    for line in FORMAT {
+        list.line(line);
+    }
+    let mut random = Random::new(seed ^ u64::from(finds));
+    for goal in goals(&mut random) {
+        let wanted = length(&mut random, &goal);
+        let calls = calls(&mut random, &goal, wanted, finds);
+        add_entry(&mut list, &goal, &calls)?;
+    }
+    Ok(list)
+}
+
+/// Boards of every kind of size; few of the largest.
+fn goals(random: &mut Random) -> Vec<Decided> {
+    let mut goals = Vec::new();
+    for (height, width) in [(1, 1), (1, 1), (1, 32), (32, 1), (2, 32), (32, 2), (32, 32)] {
+        goals.push(board_of_size(random, Size { height, width }));
+    }
+    for side in 1..=16 {
+        goals.push(board_of_size(random, square(side)));
+    }
+    while goals.len() < 350 {
+        let board = any_board(random);
+        if board.puzzle.size.cells() <= 100 {
+            goals.push(board);
+        }
+    }
+    goals
+}
+
+/// Some lists reach the whole board and beyond, most stop on the way.
+fn length(random: &mut Random, goal: &Decided) -> usize {
+    let decisions = goal.decisions.len();
+    let whole_board = 2 * decisions + 4;
+    match random.below(2) {
+        0 => whole_board,
+        _ if goal.puzzle.size.cells() > 256 => whole_board,
+        _ => random.between(1, 8 + decisions.min(40)),
+    }
+}
+
+fn add_entry(list: &mut List, goal: &Decided, calls: &[Call]) -> Result<(), String> {
+    let mut board = Board::fresh(goal.puzzle.clone());
+    let mut original = Original::open(&goal.puzzle).expect("no arrow cell is used twice");
+    list.entries += 1;
+    list.long_bytes(&encode(&goal.puzzle));
+    list.u16(calls.len());
+    for &call in calls {
+        let by_reading = by_reading(&mut board, call);
+        let answer = by_original(&board, &mut original, call).unwrap_or(by_reading.clone());
+        if answer != by_reading {
+            return Err(format!("{}: {calls:?}", facts(&goal.puzzle, &[])));
+        }
+        add_call(list, call, &answer);
+    }
+    Ok(())
+}
+
+fn add_call(list: &mut List, call: Call, answer: &Answer) {
+    match call {
+        Call::Decide { index, value } => {
+            list.u8(0);
+            list.u16(index);
+            list.u8(value);
+        }
+        Call::Undo => list.u8(1),
+        Call::Find { buffer } => {
+            list.u8(2);
+            list.u16(buffer);
+        }
+        Call::Cells => list.u8(3),
+    }
+    match answer {
+        Answer::Done => list.u8(0),
+        Answer::Refused(refusal) => list.u8(refusal.number()),
+        Answer::Found(reason) => {
+            list.u8(0);
+            list.literals(reason.as_deref().unwrap_or(&[]));
+        }
+        Answer::Cells(cells) => {
+            for &cell in cells {
+                list.u8(cell_number(cell));
+            }
+        }
+        Answer::Panicked => unreachable!("the reading's answer is the same, and never this"),
+    }
+}

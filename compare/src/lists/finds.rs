@@ -1,0 +1,84 @@
+//! `finds.list`: boards with the original's reason.
+
+use super::List;
+use crate::commands::finds::compare;
+use crate::generate::boards::{board_of_size, Decided};
+use crate::generate::long::long_reasons;
+use crate::generate::puzzles::{any_size, square};
+use crate::quota::boards_of_each_kind;
+use crate::random::Random;
+use crate::reading::grid::Size;
+use crate::tally::Tally;
+use std::ops::RangeInclusive;
+
+const FORMAT: [&str; 3] = [
+    "Entries to the end of the file: u16 record length, the record, u16 number of decisions,",
+    "  that many u16 decisions, then u16 count (0 for none) and that many u16 literals.",
+    "A decision or literal is value * 32768 + index.",
+];
+
+/// So many boards of none and of each reason, on grids of so many cells.
+const QUOTAS: [(RangeInclusive<usize>, [usize; Tally::COLUMNS]); 3] = [
+    (1..=100, [400, 350, 350, 400, 400, 400]),
+    (101..=256, [30; Tally::COLUMNS]),
+    (400..=1_024, [7; Tally::COLUMNS]),
+];
+
+pub fn finds(seed: u64) -> Result<List, String> {
+    let mut random = Random::new(seed);
+    let mut boards = Vec::new();
+    for board in every_shape(&mut random).into_iter().chain(long_reasons()) {
+        let reason = compare(&board)?;
+        boards.push((board, reason));
+    }
+    for (cells, wanted) in QUOTAS {
+        let next = || board_with_cells(&mut random, &cells);
+        boards.extend(boards_of_each_kind(wanted, next)?);
+    }
+    let mut tally = Tally::default();
+    for (board, reason) in &boards {
+        tally.add(board.puzzle.size, reason.as_ref());
+    }
+
+    let mut list = List::new("finds.list", 700_000, seed, "Boards with what find says.");
+    list.answers_are_the_originals();
+    list.line(&format!("{} boards: {}.", boards.len(), tally.line()));
+    for line in FORMAT {
+        list.line(line);
+    }
+    for (board, reason) in &boards {
+        list.board(board);
+        let literals = reason.as_ref().map_or(&[][..], |reason| &reason.literals);
+        list.literals(literals);
+    }
+    Ok(list)
+}
+
+/// The largest grid, strips of each length, squares up to 16 by 16.
+fn every_shape(random: &mut Random) -> Vec<Decided> {
+    let mut sizes = vec![square(32), square(32)];
+    for length in 1..=32 {
+        sizes.push(Size {
+            height: 1,
+            width: length,
+        });
+        sizes.push(Size {
+            height: length,
+            width: 1,
+        });
+        if length <= 16 {
+            sizes.push(square(length));
+        }
+    }
+    let board = |size| board_of_size(random, size);
+    sizes.into_iter().map(board).collect()
+}
+
+fn board_with_cells(random: &mut Random, cells: &RangeInclusive<usize>) -> Decided {
+    loop {
+        let size = any_size(random);
+        if cells.contains(&size.cells()) {
+            return board_of_size(random, size);
+        }
+    }
+}

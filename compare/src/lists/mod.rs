@@ -1,0 +1,130 @@
+//! `compare lists`: fixed lists of answers that the port's test programs replay.
+//!
+//! A list is a head of text lines, each starting with `# `, an empty line, and data: numbers most
+//! significant byte first.
+
+mod calls;
+mod finds;
+mod groups;
+mod hosts;
+mod numbers;
+mod records;
+pub mod replay;
+
+use crate::generate::boards::Decided;
+use crate::original::COMMIT;
+use crate::progress::Outcome;
+use crate::reading::host::two_bytes;
+use crate::reading::record::encode;
+use crate::reading::Literal;
+use std::fs;
+use std::path::Path;
+
+pub fn run(seed: u64, folder: &str) -> Outcome {
+    fs::create_dir_all(folder).map_err(|error| format!("{folder}: {error}"))?;
+    let lists = [
+        records::records(seed),
+        calls::boards(seed)?,
+        groups::groups(seed)?,
+        finds::finds(seed)?,
+        calls::calls_with_finds(seed)?,
+        hosts::hosts(seed)?,
+    ];
+    for list in lists {
+        list.write(folder)?;
+    }
+    Ok(())
+}
+
+pub struct List {
+    name: &'static str,
+    /// The file stays below this many bytes.
+    limit: usize,
+    head: String,
+    data: Vec<u8>,
+    entries: usize,
+}
+
+impl List {
+    fn new(name: &'static str, limit: usize, seed: u64, what: &str) -> List {
+        let mut list = List {
+            name,
+            limit,
+            head: String::new(),
+            data: Vec::new(),
+            entries: 0,
+        };
+        list.line(what);
+        list.line(&format!("Made by `compare lists` with seed {seed}."));
+        list
+    }
+
+    /// A line of the head.
+    fn line(&mut self, text: &str) {
+        self.head += &format!("# {text}\n");
+    }
+
+    /// The head's line on where the answers are from.
+    fn answers_are_the_originals(&mut self) {
+        self.line(&format!(
+            "The answers are the original's, semiexp/cspuz_core commit {COMMIT}."
+        ));
+    }
+
+    fn u8(&mut self, number: u8) {
+        self.data.push(number);
+    }
+
+    fn u16(&mut self, number: usize) {
+        let number = u16::try_from(number).expect("16 bits are enough");
+        self.data.extend(number.to_be_bytes());
+    }
+
+    fn numbers(&mut self, numbers: &[usize]) {
+        for &number in numbers {
+            self.u16(number);
+        }
+    }
+
+    fn bytes(&mut self, bytes: &[u8]) {
+        self.data.extend(bytes);
+    }
+
+    /// A length and that many bytes.
+    fn long_bytes(&mut self, bytes: &[u8]) {
+        self.u16(bytes.len());
+        self.bytes(bytes);
+    }
+
+    /// A record, and the decisions made on its board.
+    fn board(&mut self, board: &Decided) {
+        self.entries += 1;
+        self.long_bytes(&encode(&board.puzzle));
+        self.literals(&board.decisions);
+    }
+
+    /// A count and that many literals.
+    fn literals(&mut self, literals: &[Literal]) {
+        self.u16(literals.len());
+        for &literal in literals {
+            self.bytes(&two_bytes(literal));
+        }
+    }
+
+    fn write(&self, folder: &str) -> Outcome {
+        let mut file = self.head.clone().into_bytes();
+        file.push(b'\n');
+        file.extend(&self.data);
+        println!(
+            "lists: {} has {} entries in {} bytes",
+            self.name,
+            self.entries,
+            file.len()
+        );
+        if file.len() >= self.limit {
+            return Err(format!("{} reaches {} bytes", self.name, self.limit));
+        }
+        let path = Path::new(folder).join(self.name);
+        fs::write(&path, file).map_err(|error| format!("{}: {error}", path.display()))
+    }
+}

@@ -1,0 +1,119 @@
+//! Compares the Rust original of the Evolmino constraint with a literal reading of document 01,
+//! writes fixed lists of answers, and measures. See README.md.
+
+mod answers;
+mod commands;
+mod generate;
+mod host;
+mod lists;
+mod options;
+mod original;
+mod progress;
+mod quota;
+mod random;
+mod reading;
+mod shrink;
+mod tally;
+
+#[cfg(not(original))]
+#[allow(dead_code)]
+mod absent;
+
+// The original's text names the crates `cspuz_rs` and `cspuz_core` and its own `crate::util`.
+// Here all three are this crate, with the stand-ins at its root.
+#[cfg(original)]
+extern crate self as cspuz_core;
+#[cfg(original)]
+extern crate self as cspuz_rs;
+#[cfg(original)]
+#[allow(dead_code)]
+mod standins;
+#[cfg(original)]
+use standins::{custom_constraints, graph, serializer, solver};
+
+#[cfg(original)]
+#[allow(dead_code)]
+mod util {
+    include!(env!("EVOLMINO_UTIL_RS"));
+}
+
+#[cfg(original)]
+#[allow(dead_code)]
+mod evolmino {
+    include!(env!("EVOLMINO_RS"));
+    include!("access.rs");
+}
+
+use options::Options;
+use progress::Outcome;
+use std::io::Read;
+use std::process::ExitCode;
+
+const USAGE: &str = "\
+compare records|finds|calls|groups|small|all [--seed N] [--count N]
+compare lists FOLDER [--seed N]
+compare replay FOLDER
+compare program PATH [--seed N] [--count N]
+compare bench [--seed N] [--count ROUNDS]
+compare host [--seed N] [--count N]
+compare reason < INPUT";
+
+const NOT_AT_HAND: &str = "the original is not at hand: name the folder with its two files \
+                           in EVOLMINO_ORIGINAL and build again";
+
+fn main() -> ExitCode {
+    let outcome = options::read(std::env::args().skip(1)).and_then(|options| run(&options));
+    match outcome {
+        Ok(()) => ExitCode::SUCCESS,
+        Err(message) => {
+            println!("{message}");
+            ExitCode::FAILURE
+        }
+    }
+}
+
+fn run(options: &Options) -> Outcome {
+    let seed = options.seed;
+    let count = |default: usize| options.count.unwrap_or(default);
+    let path = || options.path.as_deref().ok_or(USAGE);
+    match options.command.as_str() {
+        "records" => commands::records::run(seed, count(20_000)),
+        "small" => commands::small::run(seed, count(1_000)),
+        "all" => all(seed, count(100_000)),
+        "replay" => lists::replay::run(path()?),
+        "program" => commands::program::run(seed, count(2_000), path()?),
+        "reason" => reason(),
+        "finds" | "calls" | "groups" | "lists" | "bench" | "host" if !original::AT_HAND => {
+            Err(NOT_AT_HAND.to_string())
+        }
+        "finds" => commands::finds::run(seed, count(100_000)),
+        "calls" => commands::calls::run(seed, count(20_000)),
+        "groups" => commands::groups::run(seed, count(50_000)),
+        "lists" => lists::run(seed, path()?),
+        "bench" => commands::bench::run(seed, count(200)),
+        "host" => commands::host::run(seed, count(100_000)),
+        _ => Err(USAGE.to_string()),
+    }
+}
+
+/// All comparisons, in numbers that take about the same time.
+fn all(seed: u64, count: usize) -> Outcome {
+    commands::records::run(seed, count)?;
+    commands::small::run(seed, count.div_ceil(100))?;
+    if !original::AT_HAND {
+        println!("{NOT_AT_HAND}; the rest was left out");
+        return Ok(());
+    }
+    commands::finds::run(seed, count)?;
+    commands::calls::run(seed, count.div_ceil(4))?;
+    commands::groups::run(seed, count)
+}
+
+/// What the program `reason` prints, by the reading.
+fn reason() -> Outcome {
+    let mut input = Vec::new();
+    let read = std::io::stdin().read_to_end(&mut input);
+    read.map_err(|error| format!("standard input: {error}"))?;
+    print!("{}", reading::program::reason(&input));
+    Ok(())
+}

@@ -1,0 +1,46 @@
+//! A line now and then, and facts that reproduce a difference.
+
+use crate::reading::record::{encode, Puzzle};
+use crate::reading::Literal;
+use std::time::{Duration, Instant};
+
+/// How a subcommand ends: well, or with the first difference.
+pub type Outcome = Result<(), String>;
+
+pub struct Progress {
+    name: &'static str,
+    wanted: usize,
+    last_line: Instant,
+}
+
+impl Progress {
+    pub fn new(name: &'static str, wanted: usize) -> Progress {
+        Progress {
+            name,
+            wanted,
+            last_line: Instant::now(),
+        }
+    }
+
+    /// Says how far it is, every five seconds.
+    pub fn at(&mut self, done: usize) {
+        if self.last_line.elapsed() > Duration::from_secs(5) {
+            println!("{}: {done} of {}", self.name, self.wanted);
+            self.last_line = Instant::now();
+        }
+    }
+}
+
+pub fn hexadecimal(bytes: &[u8]) -> String {
+    bytes.iter().map(|byte| format!("{byte:02X}")).collect()
+}
+
+/// A board as it can be typed in again.
+pub fn facts(puzzle: &Puzzle, decisions: &[Literal]) -> String {
+    format!(
+        "{} by {}, record {}, decisions {decisions:?}",
+        puzzle.size.height,
+        puzzle.size.width,
+        hexadecimal(&encode(puzzle)),
+    )
+}

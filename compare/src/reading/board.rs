@@ -1,0 +1,79 @@
+//! "Board": the plain machine of document 01, a puzzle with its list of standing decisions.
+
+use super::record::{decode, Puzzle};
+use super::{Literal, Refusal};
+
+#[derive(Clone, Copy, Debug, PartialEq, Eq)]
+pub enum Cell {
+    Empty,
+    Square,
+    Undecided,
+}
+
+#[derive(Clone, Debug)]
+pub struct Board {
+    puzzle: Puzzle,
+    standing: Vec<Literal>,
+}
+
+impl Board {
+    /// A fresh board: all undecided.
+    pub fn open(record: &[u8]) -> Result<Board, Refusal> {
+        Ok(Board::fresh(decode(record)?))
+    }
+
+    pub fn fresh(puzzle: Puzzle) -> Board {
+        Board {
+            puzzle,
+            standing: Vec::new(),
+        }
+    }
+
+    /// A fresh board after decisions that aren't refused.
+    pub fn after(puzzle: &Puzzle, decisions: &[Literal]) -> Board {
+        let mut board = Board::fresh(puzzle.clone());
+        for &(index, value) in decisions {
+            board
+                .decide(index, value)
+                .expect("decisions are of different cells");
+        }
+        board
+    }
+
+    pub fn puzzle(&self) -> &Puzzle {
+        &self.puzzle
+    }
+
+    pub fn decide(&mut self, index: usize, value: u8) -> Result<(), Refusal> {
+        if index >= self.puzzle.size.cells() {
+            return Err(Refusal::Index);
+        }
+        if value > 1 {
+            return Err(Refusal::Value);
+        }
+        if self.standing.iter().any(|&(decided, _)| decided == index) {
+            return Err(Refusal::Decided);
+        }
+        self.standing.push((index, value));
+        Ok(())
+    }
+
+    pub fn undo(&mut self) -> Result<(), Refusal> {
+        match self.standing.pop() {
+            Some(_) => Ok(()),
+            None => Err(Refusal::NothingToUndo),
+        }
+    }
+
+    pub fn cells(&self) -> Vec<Cell> {
+        let mut cells = vec![Cell::Undecided; self.puzzle.size.cells()];
+        for &(index, value) in &self.standing {
+            cells[index] = if value == 1 {
+                Cell::Square
+            } else {
+                Cell::Empty
+            };
+        }
+        cells
+    }
+}

@@ -1,0 +1,55 @@
+//! The host call: a record, decisions and an output as bytes, a number back.
+
+use super::board::Board;
+use super::reasons::{find, most_literals};
+use super::{Literal, Refusal};
+
+/// The literal count, 0 for none, or the negated refusal number; only literals are written.
+pub fn host_call(record: &[u8], decisions: &[u8], output: &mut [u8]) -> i32 {
+    match answer(record, decisions, output.len()) {
+        Err(refusal) => -i32::from(refusal.number()),
+        Ok(literals) => {
+            for (place, &literal) in literals.iter().enumerate() {
+                output[2 * place..2 * place + 2].copy_from_slice(&two_bytes(literal));
+            }
+            literals.len() as i32
+        }
+    }
+}
+
+/// Opens, decides in order and finds; no literals for none.
+/// Refusals: 1 to 5, 11, then per decision 12, 7, 9, the odd byte last.
+pub fn answer(
+    record: &[u8],
+    decisions: &[u8],
+    output_length: usize,
+) -> Result<Vec<Literal>, Refusal> {
+    let mut board = Board::open(record)?;
+    if output_length < 2 * most_literals(board.puzzle().size) {
+        return Err(Refusal::ShortBuffer);
+    }
+    let whole = decisions.chunks_exact(2);
+    let odd_byte = !whole.remainder().is_empty();
+    for decision in whole {
+        let (index, value) = literal([decision[0], decision[1]])?;
+        board.decide(index, value)?;
+    }
+    if odd_byte {
+        return Err(Refusal::HostInput);
+    }
+    let reason = find(&board, output_length / 2)?;
+    Ok(reason.map_or(Vec::new(), |reason| reason.literals))
+}
+
+/// Most significant first: value (1 bit), five zero bits, index (10).
+pub fn literal([high, low]: [u8; 2]) -> Result<Literal, Refusal> {
+    if high >> 2 & 0b11111 != 0 {
+        return Err(Refusal::HostInput);
+    }
+    let index = usize::from(high & 0b11) * 256 + usize::from(low);
+    Ok((index, high >> 7))
+}
+
+pub fn two_bytes((index, value): Literal) -> [u8; 2] {
+    (u16::from(value) * 32_768 + index as u16).to_be_bytes()
+}

@@ -1,0 +1,159 @@
+//! "Leaves to check", the program's example, and the boards that tell two tempting faults.
+
+use super::board::{Board, Cell};
+use super::finished::finished;
+use super::grid::Size;
+use super::groups::block_rules_hold;
+use super::host::host_call;
+use super::program::reason;
+use super::reasons::{find, find_reason};
+use super::record::{decode, encode, Code, Puzzle};
+use super::{Literal, Refusal};
+
+const S: [u8; 7] = [0x00, 0x80, 0x08, 0x00, 0x00, 0x05, 0xE0];
+const T: [u8; 4] = [0x00, 0x40, 0x00, 0x00];
+
+fn plain(height: usize, width: usize, arrows: &[&[usize]]) -> Puzzle {
+    let size = Size { height, width };
+    Puzzle {
+        size,
+        codes: vec![Code::Plain; size.cells()],
+        arrows: arrows.iter().map(|arrow| arrow.to_vec()).collect(),
+    }
+}
+
+fn board(record: &[u8], decisions: &[Literal]) -> Board {
+    Board::after(&decode(record).unwrap(), decisions)
+}
+
+fn found(record: &[u8], decisions: &[Literal]) -> Option<Vec<Literal>> {
+    let reason = find(&board(record, decisions), 100).unwrap();
+    reason.map(|reason| reason.literals)
+}
+
+#[test]
+fn strip_s() {
+    assert_eq!(encode(&plain(1, 3, &[&[0, 1, 2]])), S);
+    assert_eq!(found(&S, &[]), None);
+    assert_eq!(found(&S, &[(0, 1), (1, 1)]), Some(vec![(0, 1), (1, 1)]));
+    assert_eq!(
+        found(&S, &[(0, 1), (2, 1)]),
+        Some(vec![(0, 1), (2, 1), (0, 1)])
+    );
+    assert_eq!(found(&S, &[(0, 0), (1, 0), (2, 0)]), None);
+}
+
+#[test]
+fn pair_t() {
+    assert_eq!(encode(&plain(1, 2, &[])), T);
+    assert_eq!(found(&T, &[(1, 1)]), Some(vec![(1, 1)]));
+    assert_eq!(found(&T, &[(0, 0), (1, 1)]), Some(vec![(0, 0), (1, 1)]));
+}
+
+#[test]
+fn grid_of_2_by_5() {
+    let record = encode(&plain(2, 5, &[&[0, 1, 2, 3, 4]]));
+    let mut decisions = vec![(0, 1), (4, 1), (8, 1), (9, 1), (1, 0), (5, 0)];
+    assert_eq!(found(&record, &decisions), None);
+    decisions.push((2, 0));
+    let reason = vec![(4, 1), (8, 1), (9, 1), (0, 1), (1, 0), (5, 0), (2, 0)];
+    assert_eq!(found(&record, &decisions), Some(reason));
+}
+
+#[test]
+fn refused_records() {
+    let s_ending = |last: u8| [&S[..6], &[last]].concat();
+    assert_eq!(decode(&s_ending(0xE1)), Err(Refusal::Filler));
+    assert_eq!(decode(&S[..6]), Err(Refusal::RecordEnds));
+    assert_eq!(decode(&s_ending(0xC0)), Err(Refusal::ArrowCellTwice));
+    assert_eq!(decode(&s_ending(0x80)), Err(Refusal::OffTheGrid));
+    assert_eq!(decode(&[0x00, 0x40, 0x01, 0x80]), Err(Refusal::CellCode));
+    assert_eq!(decode(&[]), Err(Refusal::RecordEnds));
+    assert_eq!(decode(&[&S[..], &[0]].concat()), Err(Refusal::Filler));
+}
+
+#[test]
+fn refused_calls() {
+    let mut fresh = board(&S, &[]);
+    assert_eq!(fresh.decide(3, 2), Err(Refusal::Index));
+    assert_eq!(fresh.decide(0, 2), Err(Refusal::Value));
+    assert_eq!(fresh.undo(), Err(Refusal::NothingToUndo));
+    assert_eq!(fresh.decide(0, 1), Ok(()));
+    assert_eq!(fresh.decide(0, 1), Err(Refusal::Decided));
+    assert_eq!(find(&fresh, 9), Err(Refusal::ShortBuffer));
+    assert_eq!(find(&fresh, 10), Ok(None));
+    assert_eq!(fresh.undo(), Ok(()));
+    assert_eq!(fresh.cells(), [Cell::Undecided; 3]);
+}
+
+/// 1 × 3, arrow 2 1 0: the cell between the two squares is a barrier.
+#[test]
+fn barrier_is_not_reachable() {
+    let record = encode(&plain(1, 3, &[&[2, 1, 0]]));
+    let reason = vec![(2, 1), (0, 1), (2, 1)];
+    assert_eq!(found(&record, &[(0, 1), (2, 1)]), Some(reason));
+}
+
+/// 2 × 4, full: the first pair meets 4 (a), but a later one meets 3.
+#[test]
+fn four_waits_for_three() {
+    let record = encode(&plain(2, 4, &[&[7, 6, 5, 1, 2, 3]]));
+    let values = [1, 0, 1, 0, 1, 1, 0, 1];
+    let decisions: Vec<Literal> = values.into_iter().enumerate().collect();
+    let reason = vec![(0, 1), (4, 1), (5, 1), (2, 1), (1, 0), (3, 0), (6, 0)];
+    assert_eq!(found(&record, &decisions), Some(reason));
+}
+
+#[test]
+fn finished_boards() {
+    assert!(finished(&board(&S, &[(0, 0), (1, 0), (2, 0)])));
+    assert!(!finished(&board(&S, &[(0, 0), (1, 0)])));
+    let mut puzzle = plain(2, 3, &[&[0, 1, 2]]);
+    puzzle.codes[3] = Code::Black;
+    puzzle.codes[5] = Code::Given;
+    let values = [1, 0, 1, 0, 0, 1];
+    let decisions: Vec<Literal> = values.into_iter().enumerate().collect();
+    let solved = board(&encode(&puzzle), &decisions);
+    assert!(finished(&solved));
+    assert_eq!(find_reason(&puzzle, &solved.cells()), None);
+    puzzle.codes[0] = Code::Black;
+    let black_square = board(&encode(&puzzle), &decisions);
+    assert!(!finished(&black_square));
+    assert!(block_rules_hold(&puzzle, &black_square.cells()));
+}
+
+#[test]
+fn program_example() {
+    let input = [&[0x00, 0x07], &S[..], &[0x80, 0x00, 0x80, 0x02]].concat();
+    assert_eq!(reason(&input), "reason 3\n0 1\n2 1\n0 1\n");
+    assert_eq!(reason(&input[..9]), "none\n");
+    assert_eq!(reason(&input[..8]), "refused 1\n");
+    assert_eq!(reason(&input[..1]), "refused 1\n");
+    assert_eq!(reason(&[0; 8_192]), "refused 1\n");
+    assert_eq!(reason(&[0; 8_193]), "refused 12\n");
+    assert_eq!(reason(&input[..12]), "refused 12\n");
+}
+
+#[test]
+fn host_refusals_in_order() {
+    let call = |record: &[u8], decisions: &[u8], output: usize| {
+        host_call(record, decisions, &mut vec![0; output])
+    };
+    assert_eq!(call(&S, &[], 20), 0);
+    assert_eq!(call(&S, &[], 19), -11);
+    assert_eq!(call(&S[..6], &[0x04], 0), -1);
+    assert_eq!(call(&S, &[0x04, 0x00], 19), -11);
+    assert_eq!(call(&S, &[0x84, 0x03], 20), -12);
+    assert_eq!(call(&S, &[0x80, 0x03, 0x04, 0x00], 20), -7);
+    assert_eq!(call(&S, &[0x80, 0x00, 0x00, 0x00, 0x00], 20), -9);
+    assert_eq!(call(&S, &[0x80, 0x00, 0x00], 20), -12);
+}
+
+#[test]
+fn host_writes_only_literals() {
+    let mut output = [0xAA; 21];
+    let decisions = [0x80, 0x00, 0x80, 0x02];
+    assert_eq!(host_call(&S, &decisions, &mut output), 3);
+    assert_eq!(output[..6], [0x80, 0x00, 0x80, 0x02, 0x80, 0x00]);
+    assert_eq!(output[6..], [0xAA; 15]);
+}

@@ -1,0 +1,45 @@
+//! A literal reading of document 01, one module for each of its sections and in their order.
+//!
+//! It is written from the document, not from the original, and for the reader: where the document
+//! says "each" there is a loop, and nothing is clever.
+
+pub mod board;
+pub mod finished;
+pub mod grid;
+pub mod groups;
+pub mod host;
+pub mod kinds;
+pub mod program;
+pub mod reasons;
+pub mod record;
+
+#[cfg(test)]
+mod leaves;
+
+/// What is returned when no result can be, by the numbers of document 01's table.
+///
+/// 6, a board that no list of calls could leave, is missing: a `Board` of this reading is made by
+/// `open` and changed by calls alone.
+#[derive(Clone, Copy, Debug, PartialEq, Eq)]
+pub enum Refusal {
+    RecordEnds = 1,
+    CellCode = 2,
+    OffTheGrid = 3,
+    ArrowCellTwice = 4,
+    Filler = 5,
+    Index = 7,
+    Value = 8,
+    Decided = 9,
+    NothingToUndo = 10,
+    ShortBuffer = 11,
+    HostInput = 12,
+}
+
+impl Refusal {
+    pub fn number(self) -> u8 {
+        self as u8
+    }
+}
+
+/// An index with a value, 0 or 1: a standing decision, or a literal of a reason.
+pub type Literal = (usize, u8);
