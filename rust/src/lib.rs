@@ -1,0 +1,27 @@
+//! The proved Evolmino constraint, for Rust.
+//!
+//! [`find`] asks the proved library why a board can't be finished; [`Record`] writes a [`Problem`] in the form that it reads; and
+//! [`Constraint`] has `notify`, `undo` and `find_inconsistency` with the signatures of cspuz_core's `SimpleCustomConstraint`, so
+//! that it can stand where `EvolminoConstraint` stood.
+//!
+//! ```
+//! use evolmino::{Problem, ProblemCell, Record};
+//!
+//! // One row of three cells with an arrow along it.
+//! let problem = Problem {
+//!     cells: vec![vec![ProblemCell::Empty; 3]],
+//!     arrows: vec![vec![(0, 0), (0, 1), (0, 2)]],
+//! };
+//! let record = Record::new(&problem).unwrap();
+//! // Cells 0 and 1 are square: one block would have two arrow cells.
+//! let reason = evolmino::find(record.bytes(), &[(0, true), (1, true)]).unwrap();
+//! assert_eq!(reason, Some(vec![(0, true), (1, true)]));
+//! ```
+
+mod constraint;
+mod host;
+mod record;
+
+pub use constraint::Constraint;
+pub use host::{find, find_bytes, Literal, Refusal};
+pub use record::{Problem, ProblemCell, Record, RecordError};

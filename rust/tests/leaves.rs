@@ -1,0 +1,157 @@
+//! The leaves of document 01, and the refusals that a caller can meet.
+
+use evolmino::{find, find_bytes, Constraint, Problem, ProblemCell, Record, RecordError, Refusal};
+
+/// Strip S: one row of three cells, an arrow along it.
+const S: [u8; 7] = [0x00, 0x80, 0x08, 0x00, 0x00, 0x05, 0xE0];
+
+/// Pair T: one row of two cells, no arrow.
+const T: [u8; 4] = [0x00, 0x40, 0x00, 0x00];
+
+fn strip() -> Problem {
+    Problem {
+        cells: vec![vec![ProblemCell::Empty; 3]],
+        arrows: vec![vec![(0, 0), (0, 1), (0, 2)]],
+    }
+}
+
+#[test]
+fn leaves() {
+    assert_eq!(find(&S, &[]), Ok(None));
+    assert_eq!(find(&S, &[(0, true), (1, true)]), Ok(Some(vec![(0, true), (1, true)])));
+    assert_eq!(
+        find(&S, &[(0, true), (2, true)]),
+        Ok(Some(vec![(0, true), (2, true), (0, true)]))
+    );
+    assert_eq!(find(&S, &[(0, false), (1, false), (2, false)]), Ok(None));
+    assert_eq!(find(&T, &[(1, true)]), Ok(Some(vec![(1, true)])));
+    assert_eq!(
+        find(&T, &[(0, false), (1, true)]),
+        Ok(Some(vec![(0, false), (1, true)]))
+    );
+}
+
+#[test]
+fn two_by_five() {
+    let problem = Problem {
+        cells: vec![vec![ProblemCell::Empty; 5]; 2],
+        arrows: vec![(0..5).map(|x| (0, x)).collect()],
+    };
+    let record = Record::new(&problem).unwrap();
+    let mut decisions = vec![(0, true), (4, true), (8, true), (9, true), (1, false), (5, false)];
+    assert_eq!(find(record.bytes(), &decisions), Ok(None));
+    decisions.push((2, false));
+    assert_eq!(
+        find(record.bytes(), &decisions),
+        Ok(Some(vec![
+            (4, true),
+            (8, true),
+            (9, true),
+            (0, true),
+            (1, false),
+            (5, false),
+            (2, false)
+        ]))
+    );
+}
+
+#[test]
+fn record_refusals() {
+    let ending = |last: u8| [&S[..6], &[last]].concat();
+    assert_eq!(find(&ending(0xE1), &[]), Err(Refusal::Filler));
+    assert_eq!(find(&S[..6], &[]), Err(Refusal::RecordEnds));
+    assert_eq!(find(&[], &[]), Err(Refusal::RecordEnds));
+    assert_eq!(find(&ending(0xC0), &[]), Err(Refusal::UsedTwice));
+    assert_eq!(find(&ending(0x80), &[]), Err(Refusal::OffGrid));
+    assert_eq!(find(&[0x00, 0x40, 0x01, 0x80], &[]), Err(Refusal::CellCode));
+}
+
+#[test]
+fn decision_refusals() {
+    assert_eq!(find(&S, &[(3, true)]), Err(Refusal::Index));
+    assert_eq!(find(&S, &[(0, true), (4000, true)]), Err(Refusal::Index));
+    assert_eq!(find(&S, &[(0, true), (0, false)]), Err(Refusal::Decided));
+    let mut output = [0xFF; 20];
+    assert_eq!(find_bytes(&S, &[0x84, 0x00], &mut output), Err(Refusal::Decision));
+    assert_eq!(find_bytes(&S, &[0x80], &mut output), Err(Refusal::Decision));
+    assert_eq!(find_bytes(&S, &[], &mut output[..19]), Err(Refusal::OutputShort));
+    assert_eq!(output, [0xFF; 20]);
+}
+
+#[test]
+fn only_literals_are_written() {
+    let mut output = [0xFF; 20];
+    assert_eq!(find_bytes(&S, &[0x80, 0x00, 0x80, 0x02], &mut output), Ok(3));
+    assert_eq!(output[..6], [0x80, 0x00, 0x80, 0x02, 0x80, 0x00]);
+    assert_eq!(output[6..], [0xFF; 14]);
+}
+
+#[test]
+fn records() {
+    assert_eq!(Record::new(&strip()).unwrap().bytes(), S);
+    let mut bent = strip();
+    bent.arrows[0].swap(0, 1);
+    assert_eq!(Record::new(&bent), Err(RecordError::Step(0)));
+    let mut twice = strip();
+    twice.arrows.push(vec![(0, 1)]);
+    assert_eq!(Record::new(&twice), Err(RecordError::UsedTwice(1)));
+    let mut off = strip();
+    off.arrows[0].push((1, 2));
+    assert_eq!(Record::new(&off), Err(RecordError::OffGrid(0)));
+    let mut none = strip();
+    none.arrows.push(vec![]);
+    assert_eq!(Record::new(&none), Err(RecordError::NoCell(1)));
+    let wide = Problem {
+        cells: vec![vec![ProblemCell::Empty; 33]],
+        arrows: vec![],
+    };
+    assert_eq!(Record::new(&wide), Err(RecordError::Width(33)));
+    let ragged = Problem {
+        cells: vec![vec![ProblemCell::Black; 2], vec![ProblemCell::Square; 3]],
+        arrows: vec![],
+    };
+    assert_eq!(Record::new(&ragged), Err(RecordError::Row(1)));
+    assert_eq!(
+        Record::new(&Problem {
+            cells: vec![],
+            arrows: vec![]
+        }),
+        Err(RecordError::Height(0))
+    );
+}
+
+#[test]
+fn constraint() {
+    let mut constraint = Constraint::new(&strip()).unwrap();
+    constraint.initialize_sat(3);
+    constraint.notify(0, true);
+    assert_eq!(constraint.find_inconsistency(), None);
+    constraint.notify(1, true);
+    assert_eq!(constraint.find_inconsistency(), Some(vec![(0, true), (1, true)]));
+    constraint.undo();
+    constraint.notify(1, false);
+    assert_eq!(constraint.find_inconsistency(), None);
+}
+
+#[test]
+#[should_panic]
+fn a_cell_is_decided_once() {
+    let mut constraint = Constraint::new(&strip()).unwrap();
+    constraint.notify(0, true);
+    constraint.notify(0, false);
+}
+
+#[test]
+#[should_panic]
+fn nothing_to_undo() {
+    Constraint::new(&strip()).unwrap().undo();
+}
+
+#[test]
+fn refusals_have_their_numbers() {
+    for number in 1..=12 {
+        assert_eq!(Refusal::from_number(number).unwrap().number(), number);
+    }
+    assert_eq!(Refusal::from_number(0), None);
+    assert_eq!(Refusal::from_number(13), None);
+}
