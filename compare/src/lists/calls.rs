@@ -11,7 +11,7 @@ use crate::progress::facts;
 use crate::random::Random;
 use crate::reading::board::Board;
 use crate::reading::grid::Size;
-use crate::reading::record::encode;
+use crate::reading::record::{decode, encode};
 
 const FORMAT: [&str; 8] = [
     "Entries to the end of the file: u16 record length, the record, u16 number of calls, the calls.",
@@ -49,6 +49,7 @@ fn call_lists(
     for line in FORMAT {
         list.line(line);
     }
+    add_entry(&mut list, &strip(), &leaf_calls(finds))?;
     let mut random = Random::new(seed ^ u64::from(finds));
     for goal in goals(&mut random) {
         let wanted = length(&mut random, &goal);
@@ -56,6 +57,34 @@ fn call_lists(
         add_entry(&mut list, &goal, &calls)?;
     }
     Ok(list)
+}
+
+/// Strip S of document 01.
+fn strip() -> Decided {
+    let record = [0x00, 0x80, 0x08, 0x00, 0x00, 0x05, 0xE0];
+    Decided {
+        puzzle: decode(&record).expect("a record of document 01"),
+        decisions: Vec::new(),
+    }
+}
+
+/// The document's leaves on S: refusals 7 to 10, and with finds its reasons and refusal 11.
+fn leaf_calls(finds: bool) -> Vec<Call> {
+    let decide = |index, value| Call::Decide { index, value };
+    let mut calls = vec![
+        decide(3, 1),
+        decide(0, 1),
+        decide(0, 0),
+        decide(1, 2),
+        Call::Cells,
+    ];
+    if finds {
+        let find = |buffer| Call::Find { buffer };
+        calls.extend([find(9), find(10), decide(1, 1), find(10), Call::Undo]);
+        calls.extend([decide(2, 1), find(10), Call::Undo]);
+    }
+    calls.extend([Call::Undo, Call::Undo, Call::Cells]);
+    calls
 }
 
 /// Boards of every kind of size; few of the largest.
