@@ -90,7 +90,7 @@ impl fmt::Display for Refusal {
             Refusal::Decided => "the cell is decided already",
             Refusal::NothingDecided => "nothing to undo",
             Refusal::OutputShort => "the output is too short",
-            Refusal::Decision => "a decision's five bits are not zero, or a last byte is odd",
+            Refusal::Decision => "a decision's five bits are not zero, or a single byte is left over",
         };
         write!(f, "refused {}: {}", self.number(), what)
     }

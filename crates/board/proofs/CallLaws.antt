@@ -18,14 +18,14 @@ use Rattle.grid.proofs.ArrayLaws.{array-set, array-more, array-less, array-in}
 use Rattle.record.specs.Record.{Puzzle, Outcome, ok, refused, readRecord}
 use Rattle.record.specs.Valid.{Valid}
 use Rattle.record.specs.Write.{writeRecord}
-use Rattle.record.specs.Problem.{problemOf, puzzleOf, gridOf, numberOf}
+use Rattle.record.specs.Problem.{problemOf, puzzleOf, gridOf, numberOf, blank}
 use Rattle.record.specs.declared.Answer.the-variants.{Done}
 use Rattle.record.proofs.RecordLaws.{record-valid}
 use Rattle.record.proofs.WriteLaws.{round-trip, written-bytes}
 use Rattle.board.specs.declared.Board.{Board}
 use Rattle.board.specs.Board.{Literal, valueAt, cellsAfter, Call, decide, undo, find, decided, after, refusal, afterAll, SameCells, SameDecisions}
-use Rattle.board.specs.Kept.{boardOf, opening, openOf}
-use Rattle.board.specs.Form.{wellFormed}
+use Rattle.board.specs.Kept.{boardOf, opening, openOf, blankBoard}
+use Rattle.board.specs.Form.{wellFormed, problemFormed, sized}
 use Rattle.board.specs.Decide.{area, decideRefusal, undoRefusal, placed, removed, answered, decideOf, undoOf}
 use Rattle.board.specs.Calls.{left, leftAll, Leaves, standing, AfterCalls}
 use Rattle.board.proofs.Standing.{Standing, none, more, index, init-snoc, after-standing, standing-low, cell-value, calls-standing, standing-calls, same-board}
@@ -250,3 +250,8 @@ after-calls s p e cs ds =
       undoes = rw a (unfold undoOf in number-answered (undoRefusal (boardOf p (standing p cs))) (boardOf p (standing p cs)) (removed (boardOf p (standing p cs))) ∙ undo-number p v f);
       cells = rw (a, b) (same-shown p v f h);
     }
+
+-- the blank board beside a refused record is none: every later call on it is refused with 6
+pub blank-refused : wellFormed blankBoard ≡ false
+unfolding wellFormed problemFormed sized blankBoard blank gridOf
+blank-refused = refl

@@ -12,7 +12,7 @@ use Rattle.board.specs.Board.{Literal, Call, decide, undo, find, SameCel
 use Rattle.board.specs.Kept.{boardOf, openOf}
 use Rattle.board.specs.Decide.{decideOf, undoOf}
 
--- the board that a call leaves, refused or not; find changes nothing on it
+-- the board that a call leaves, refused or not; find takes the board by value, so it changes nothing on it
 unfoldable pub left : Board → Call → Board
 left b (decide i v) = decideOf b i v .board
 left b undo = undoOf b .board

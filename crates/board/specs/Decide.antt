@@ -13,7 +13,7 @@ use Rattle.board.specs.declared.Board.{Board}
 use Rattle.board.specs.declared.Decided.{Decided}
 use Rattle.board.specs.Form.{wellFormed}
 
--- the cells of a board
+-- how many cells a board has
 unfoldable pub area : Board → ℕ
 area b = size (gridOf (b .problem))
 

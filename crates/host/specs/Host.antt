@@ -23,7 +23,7 @@ use Rattle.reasons.specs.Find.{enough}
 unfoldable pub bytesOf : List ℕ → List ℕ
 bytesOf = flatMap (λ w. (w / 256) ∷ (w % 256) ∷ [])
 
--- the decisions that stand after those that were accepted, or the refusal k
+-- what comes next where k is 0, else the refusal k
 unfoldable pub acceptOr : ℕ → Outcome (List Literal) → Outcome (List Literal)
 acceptOr zero next = next
 acceptOr (suc k) next = refused (suc k)

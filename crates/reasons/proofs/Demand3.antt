@@ -32,7 +32,7 @@ use Rattle.board.proofs.CallLaws.{opened-left, after-calls}
 use Rattle.kinds.specs.Kinds.{word}
 use Rattle.reasons.specs.Reasons.{Found, findReason, findOn}
 use Rattle.reasons.specs.Find.{cellsOn, reasonOn, enough, findRefusal, findingBy, bufferBy, findOf, bufferAfter, literalOf, told, answerOn}
-use Rattle.reasons.specs.Demand3.{boardAfter, Demand3}
+use Rattle.reasons.specs.Demand3.{boardAfter, Demand3, Demand}
 use Rattle.reasons.proofs.OnMachine.{OnMachine, on-machine}
 
 -- a literal is read back from its number
@@ -87,6 +87,10 @@ module _ (p : Puzzle) (v : Valid p) {ds : List Literal} (s : Standing (p .grid) 
     unfolding answerOn findOf bufferAfter told findingBy bufferBy
     short-answer a h = rw (short (length a) h) refl
 
+    short-buffer : (a : List ℕ) → length a < enough (p .grid) → bufferAfter (boardOf p ds) a ≡ a
+    unfolding bufferAfter bufferBy
+    short-buffer a h = rw (short (length a) h) refl
+
     -- so a reason that is told is the one that applies
     told-reason : (a : List ℕ) (r : List Literal) → answerOn (boardOf p ds) a ≡ ok (some r) → findOn p ds ≡ some r
     told-reason a r e = go (decLe (enough (p .grid)) (length a))
@@ -96,12 +100,14 @@ module _ (p : Puzzle) (v : Valid p) {ds : List Literal} (s : Standing (p .grid) 
         go (no h) = let q = short-answer a (omega arith) in let z : _≡_ {A = ℕ} 0 1 = cc in absurd (omega arith)
 
 -- demand 3, for every accepted record and all lists of calls
-pub demand-3 : (s : List ℕ) (p : Puzzle) → readRecord s ≡ ok p → (cs ds : List Call) → Demand3 s p cs ds
+pub demand-3 : Demand
 demand-3 s p read cs ds = record {
   indexes = m .indexes;
   cells = after-calls s p read cs ds .cells;
   answer = λ same a b h k. reasons cs a h ∙ ap ok (m .answer same) ∙ sym (reasons ds b k);
   reasons = reasons cs;
+  short = λ a h.
+      rw (board cs) (short-answer p v (calls-standing (p .grid) cs) (low cs) a h, short-buffer p v (calls-standing (p .grid) cs) (low cs) a h);
   stands = λ a r e. m .stands r (reason cs a r e);
   refutes = λ a r e. m .refutes r (reason cs a r e);
   finds = λ full a h. full-board full a h;

@@ -1,22 +1,22 @@
 -- Demand 3: what holds after any two lists of calls on boards of one accepted record.
--- A list may hold finds with buffers of any length, and calls that are refused. The boards are those that the definitions leave
--- which the contracts of open, decide, undo and find cite; the plain machine stands on the other side and sees only the calls.
+-- A list may hold finds with buffers of any length, and calls that are refused. The boards are those that `openOf`, `decideOf` and `undoOf` leave, which
+-- the contracts cite; find takes its board by value. The plain machine stands on the other side and sees only the calls.
 -- Assumes nothing.
-use Prim.Native.Nat.{ℕ, _≤_}
+use Prim.Native.Nat.{ℕ, _≤_, _<_}
 use mathlib.Core.Logic.{_↔_}
 use mathlib.Core.Path.{_≡_}
 use mathlib.Core.List.{List, map, List·Memᴰ}
 use mathlib.Core.Option.{none, some}
 use lib.ListN.{length}
 use Rattle.grid.specs.Lists.{Distinct}
-use Rattle.record.specs.Record.{Puzzle, ok}
+use Rattle.record.specs.Record.{Puzzle, ok, refused, readRecord}
 use Rattle.board.specs.Board.{Literal, Call, SameCells, SameDecisions, Full, Agrees}
 use Rattle.board.specs.Kept.{openOf}
 use Rattle.board.specs.Calls.{leftAll, standing}
 use Rattle.board.specs.declared.Board.{Board}
 use Rattle.groups.specs.Rules.{BlockRules}
 use Rattle.reasons.specs.Reasons.{findOn}
-use Rattle.reasons.specs.Find.{cellsOn, enough, answerOn}
+use Rattle.reasons.specs.Find.{cellsOn, enough, bufferAfter, answerOn}
 
 -- the board that the calls cs leave, the first of them on the board that the record s opens
 abbrev pub boardAfter : List ℕ → List Call → Board
@@ -33,6 +33,8 @@ pub record Demand3 (s : List ℕ) (p : Puzzle) (cs ds : List Call) : Type 0 wher
       → answerOn (boardAfter s cs) a ≡ answerOn (boardAfter s ds) b
   -- and it is the one of Reasons
   pub reasons : (a : List ℕ) → enough (p .grid) ≤ length a → answerOn (boardAfter s cs) a ≡ ok (findOn p (standing p cs))
+  -- a shorter buffer is refused with 11, and is unchanged
+  pub short : (a : List ℕ) → length a < enough (p .grid) → (answerOn (boardAfter s cs) a ≡ refused 11) × (bufferAfter (boardAfter s cs) a ≡ a)
   -- each literal of a reason is a standing decision
   pub stands : (a : List ℕ) (r : List Literal) → answerOn (boardAfter s cs) a ≡ ok (some r) → (l : Literal) → List·Memᴰ l r → List·Memᴰ l (standing p cs)
   -- no fully decided board that agrees with all of them meets the block rules
@@ -41,3 +43,7 @@ pub record Demand3 (s : List ℕ) (p : Puzzle) (cs ds : List Call) : Type 0 wher
   -- if every cell is decided, find gives none exactly when the block rules are met
   pub finds : Full (p .grid) (cellsOn (boardAfter s cs)) → (a : List ℕ) → enough (p .grid) ≤ length a
       → (answerOn (boardAfter s cs) a ≡ ok none) ↔ BlockRules (p .grid) (p .arrows) (cellsOn (boardAfter s cs))
+
+-- the demand: it holds for every accepted record and all lists of calls
+abbrev pub Demand : Type 0
+Demand = (s : List ℕ) (p : Puzzle) → readRecord s ≡ ok p → (cs ds : List Call) → Demand3 s p cs ds
