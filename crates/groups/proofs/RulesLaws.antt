@@ -15,6 +15,7 @@ use Rattle.grid.proofs.GridLaws.{dec-adjacent}
 use Rattle.grid.proofs.ListLaws.{dec-so, only-one, single, in-single, of-single, distinct-filter, mem-upto, and-true, true-and, filter-mem, mem-filter, flatMap-mem, mem-flatMap, any-mem, all-mem, mem-all}
 use Rattle.grid.specs.Link.{linked-end}
 use Rattle.grid.specs.Lists.{upto, filter, any, all, flatMap}
+use Rattle.record.specs.Record.{Puzzle}
 use Rattle.board.specs.Board.{square}
 use Rattle.board.proofs.BoardLaws.{sq-below}
 use Rattle.groups.proofs.GroupLaws.{group-distinct, label-own, group-linked, linked-group, names-own, own-names}
@@ -24,7 +25,13 @@ use Rattle.groups.specs.Arrows.{onArrow, Pair, pairs}
 use Rattle.groups.specs.Rules.{fits, SameBlock, OneArrowCell, Grown, Next, BlockRules, oneTest, grownTest, rulesTest}
 use Rattle.groups.proofs.ArrowLaws.{pairs-parted, parted-pairs}
 
-module _ (g : Grid) (arrows : List (List ℕ)) (cells : List ℕ) (n : length cells ≡ size g) where
+module _ (p : Puzzle) (cells : List ℕ) (n : length cells ≡ size (p .grid)) where
+  abbrev g : Grid
+  g = p .grid
+
+  abbrev arrows : List (List ℕ)
+  arrows = p .arrows
+
   on-board : (i : ℕ) → So (square cells i) → i < size g
   on-board i h = omega (arith, sq-below cells i h)
 
@@ -56,7 +63,7 @@ module _ (g : Grid) (arrows : List (List ℕ)) (cells : List ℕ) (n : length ce
       (λ x l t. in-block i x h (mem-filter (λ k. square cells k && eqb (getD lab k 0) (getD lab i 0)) (upto (size g)) (mem-upto (size g) l) t))
       (λ x l t. filter-mem (λ k. square cells k && eqb (getD lab k 0) (getD lab i 0)) (upto (size g)) (block-in i x h t) .1)
 
-  test-one : (i : ℕ) → square cells i ≡ true → oneTest g arrows cells lab (getD lab i 0) ≡ true → OneArrowCell g arrows cells i
+  test-one : (i : ℕ) → square cells i ≡ true → oneTest p cells lab (getD lab i 0) ≡ true → OneArrowCell p cells i
   unfolding oneTest blockOf
   test-one i h t =
       let s = single (filter (onArrow arrows) (blockOf i)) (eqb-true _ 1 t) in
@@ -68,20 +75,20 @@ module _ (g : Grid) (arrows : List (List ℕ)) (cells : List ℕ) (n : length ce
         unique = λ j r k. of-single (s .1) (mem-filter (onArrow arrows) (blockOf i) (block-in i j h r) k);
       }
 
-  one-test : (i : ℕ) → square cells i ≡ true → OneArrowCell g arrows cells i → oneTest g arrows cells lab (getD lab i 0) ≡ true
+  one-test : (i : ℕ) → square cells i ≡ true → OneArrowCell p cells i → oneTest p cells lab (getD lab i 0) ≡ true
   unfolding oneTest blockOf
   one-test i h c =
       eq-eqb (length (filter (onArrow arrows) (blockOf i))) 1
       (only-one (filter (onArrow arrows) (blockOf i)) (distinct-filter (onArrow arrows) (blockOf i) (group-distinct g (square cells) lab (getD lab i 0))) (c .cell) (mem-filter (onArrow arrows) (blockOf i) (block-in i (c .cell) h (c .within)) (c .arrow))
       (λ y m. let k = filter-mem (onArrow arrows) (blockOf i) m in c .unique y (in-block i y h (k .0)) (k .1)))
 
-  next-pair : (p : Pair) → List·Memᴰ p (flatMap (pairs cells) arrows) → Next g arrows cells (p .last) (p .cur)
-  next-pair p m =
+  next-pair : (e : Pair) → List·Memᴰ e (flatMap (pairs cells) arrows) → Next p cells (e .last) (e .cur)
+  next-pair e m =
       let r = flatMap-mem (pairs cells) arrows m in
-      let q = pairs-parted cells (r .0) p (r .2) in
+      let q = pairs-parted cells (r .0) e (r .2) in
       record {
         before = q .before;
-        between = p .between;
+        between = e .between;
         behind = q .behind;
         arrow = rw (← q .whole) (r .1);
         first = q .first;
@@ -89,7 +96,7 @@ module _ (g : Grid) (arrows : List (List ℕ)) (cells : List ℕ) (n : length ce
         none = q .none;
       }
 
-  pair-next : (i j : ℕ) (c : Next g arrows cells i j) → List·Memᴰ (record { last = i; between = c .between; cur = j }) (flatMap (pairs cells) arrows)
+  pair-next : (i j : ℕ) (c : Next p cells i j) → List·Memᴰ (record { last = i; between = c .between; cur = j }) (flatMap (pairs cells) arrows)
   pair-next i j c =
       mem-flatMap (pairs cells) arrows (c .arrow)
       (parted-pairs cells (c .before ++ (i ∷ (c .between ++ (j ∷ c .behind)))) (record { last = i; between = c .between; cur = j })
@@ -99,36 +106,36 @@ module _ (g : Grid) (arrows : List (List ℕ)) (cells : List ℕ) (n : length ce
   larger i j si sj r = omega (arith, block-size i si, block-size j sj, grown-size g (dec-block i) (dec-block j) (below i) (below j) r)
 
   -- where the rules hold the test passes
-  pub rules-test : BlockRules g arrows cells → rulesTest g arrows cells ≡ true
+  pub rules-test : BlockRules p cells → rulesTest p cells ≡ true
   unfolding rulesTest lab grownTest blockOf
-  rules-test c = true-and (mem-all (oneTest g arrows cells lab) (names g (square cells) lab) one) (mem-all (grownTest g arrows cells lab) (flatMap (pairs cells) arrows) grow)
+  rules-test c = true-and (mem-all (oneTest p cells lab) (names g (square cells) lab) one) (mem-all (grownTest p cells lab) (flatMap (pairs cells) arrows) grow)
     where
-      one : (f : ℕ) → List·Memᴰ f (names g (square cells) lab) → oneTest g arrows cells lab f ≡ true
+      one : (f : ℕ) → List·Memᴰ f (names g (square cells) lab) → oneTest p cells lab f ≡ true
       one f m =
           let r = names-own g (square cells) f m in
           rw (r .2) at (one-test f (r .1) (c .one f (r .0) (r .1)))
 
-      grow : (p : Pair) → List·Memᴰ p (flatMap (pairs cells) arrows) → grownTest g arrows cells lab p ≡ true
-      grow p m =
-          let q = next-pair p m in
-          let r = c .grown (p .last) (p .cur) q in
-          true-and (eq-eqb (length (blockOf (p .cur))) (length (blockOf (p .last)) + 1) (larger (p .last) (p .cur) (q .first) (q .second) r))
-          (contains-fits g (blockOf (p .last)) (blockOf (p .cur)) (getD lab (p .last) 0)
-          (block-in (p .last) (getD lab (p .last) 0) (q .first) (label-own g (square cells) (p .last) (on-board (p .last) (q .first)) (q .first))) (r .shift)
-          (contains-map g (r .shift) (SameBlock g cells (p .last)) (SameBlock g cells (p .cur)) (λ x. List·Memᴰ x (blockOf (p .last))) (λ x. List·Memᴰ x (blockOf (p .cur)))
-          (λ x. in-block (p .last) x (q .first)) (λ x. block-in (p .cur) x (q .second)) (r .copy)))
+      grow : (e : Pair) → List·Memᴰ e (flatMap (pairs cells) arrows) → grownTest p cells lab e ≡ true
+      grow e m =
+          let q = next-pair e m in
+          let r = c .grown (e .last) (e .cur) q in
+          true-and (eq-eqb (length (blockOf (e .cur))) (length (blockOf (e .last)) + 1) (larger (e .last) (e .cur) (q .first) (q .second) r))
+          (contains-fits g (blockOf (e .last)) (blockOf (e .cur)) (getD lab (e .last) 0)
+          (block-in (e .last) (getD lab (e .last) 0) (q .first) (label-own g (square cells) (e .last) (on-board (e .last) (q .first)) (q .first))) (r .shift)
+          (contains-map g (r .shift) (SameBlock g cells (e .last)) (SameBlock g cells (e .cur)) (λ x. List·Memᴰ x (blockOf (e .last))) (λ x. List·Memᴰ x (blockOf (e .cur)))
+          (λ x. in-block (e .last) x (q .first)) (λ x. block-in (e .cur) x (q .second)) (r .copy)))
 
   -- where the test passes the rules hold
-  pub test-rules : rulesTest g arrows cells ≡ true → BlockRules g arrows cells
+  pub test-rules : rulesTest p cells ≡ true → BlockRules p cells
   unfolding rulesTest lab grownTest blockOf
   test-rules t =
-      let s = and-true (all (oneTest g arrows cells lab) (names g (square cells) lab)) (all (grownTest g arrows cells lab) (flatMap (pairs cells) arrows)) t in
+      let s = and-true (all (oneTest p cells lab) (names g (square cells) lab)) (all (grownTest p cells lab) (flatMap (pairs cells) arrows)) t in
       record {
-        one = λ i h q. test-one i q (all-mem (oneTest g arrows cells lab) (names g (square cells) lab) (s .0) (getD lab i 0) (own-names g (square cells) i h q));
-        grown = λ i j c. grow i j c (all-mem (grownTest g arrows cells lab) (flatMap (pairs cells) arrows) (s .1) (record { last = i; between = c .between; cur = j }) (pair-next i j c));
+        one = λ i h q. test-one i q (all-mem (oneTest p cells lab) (names g (square cells) lab) (s .0) (getD lab i 0) (own-names g (square cells) i h q));
+        grown = λ i j c. grow i j c (all-mem (grownTest p cells lab) (flatMap (pairs cells) arrows) (s .1) (record { last = i; between = c .between; cur = j }) (pair-next i j c));
       }
     where
-      grow : (i j : ℕ) (c : Next g arrows cells i j) → grownTest g arrows cells lab (record { last = i; between = c .between; cur = j }) ≡ true → Grown g (SameBlock g cells i) (SameBlock g cells j)
+      grow : (i j : ℕ) (c : Next p cells i j) → grownTest p cells lab (record { last = i; between = c .between; cur = j }) ≡ true → Grown g (SameBlock g cells i) (SameBlock g cells j)
       grow i j c t =
           let k = and-true (eqb (length (blockOf j)) (length (blockOf i) + 1)) (any (fits g (blockOf i) (blockOf j) (getD lab i 0)) (blockOf j)) t in
           let u = any-mem (fits g (blockOf i) (blockOf j) (getD lab i 0)) (blockOf j) (k .1) in

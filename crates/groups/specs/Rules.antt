@@ -8,6 +8,7 @@ use lib.Dec.{eqb}
 use lib.ListN.{length, getD}
 use Rattle.grid.specs.Lists.{any, all, filter, flatMap}
 use Rattle.grid.specs.Grid.{Grid, size, cellsOf, row, col}
+use Rattle.record.specs.Record.{Puzzle}
 use Rattle.board.specs.Board.{square}
 use Rattle.groups.specs.Groups.{Joined, labels, group, names}
 use Rattle.groups.specs.Arrows.{onArrow, Pair, pairs}
@@ -37,20 +38,20 @@ pub record Grown (g : Grid) (P Q : ℕ → Type 0) : Type 0 where
 abbrev pub SameBlock : Grid → List ℕ → ℕ → ℕ → Type 0
 SameBlock g cells i j = Joined g (square cells) i j
 
-module _ (g : Grid) (arrows : List (List ℕ)) (cells : List ℕ) where
+module _ (p : Puzzle) (cells : List ℕ) where
   -- the block of i has exactly one arrow cell
   pub record OneArrowCell (i : ℕ) : Type 0 where
     pub cell : ℕ
-    pub within : SameBlock g cells i cell
-    pub arrow : onArrow arrows cell ≡ true
-    pub unique : (j : ℕ) → SameBlock g cells i j → onArrow arrows j ≡ true → j ≡ cell
+    pub within : SameBlock (p .grid) cells i cell
+    pub arrow : onArrow (p .arrows) cell ≡ true
+    pub unique : (j : ℕ) → SameBlock (p .grid) cells i j → onArrow (p .arrows) j ≡ true → j ≡ cell
 
   -- i and j are squares of one arrow, i before j, with no square between
   pub record Next (i j : ℕ) : Type 0 where
     pub before : List ℕ
     pub between : List ℕ
     pub behind : List ℕ
-    pub arrow : List·Memᴰ (before ++ (i ∷ (between ++ (j ∷ behind)))) arrows
+    pub arrow : List·Memᴰ (before ++ (i ∷ (between ++ (j ∷ behind)))) (p .arrows)
     pub first : square cells i ≡ true
     pub second : square cells j ≡ true
     pub none : (k : ℕ) → List·Memᴰ k between → square cells k ≡ false
@@ -58,9 +59,9 @@ module _ (g : Grid) (arrows : List (List ℕ)) (cells : List ℕ) where
   -- the block rules, for a fully decided board
   pub record BlockRules : Type 0 where
     -- each block has exactly one arrow cell
-    pub one : (i : ℕ) → i < size g → square cells i ≡ true → OneArrowCell i
+    pub one : (i : ℕ) → i < size (p .grid) → square cells i ≡ true → OneArrowCell i
     -- for two squares on one arrow with none between them, the later cell's block is the earlier cell's block, grown
-    pub grown : (i j : ℕ) → Next i j → Grown g (SameBlock g cells i) (SameBlock g cells j)
+    pub grown : (i j : ℕ) → Next i j → Grown (p .grid) (SameBlock (p .grid) cells i) (SameBlock (p .grid) cells j)
 
 -- the same as tests
 
@@ -69,21 +70,21 @@ unfoldable pub fits : Grid → List ℕ → List ℕ → ℕ → ℕ → Bool
 fits g b r f t =
     all (λ c. any (λ d. eqb (row g d + row g f) (row g c + row g t) && eqb (col g d + col g f) (col g c + col g t)) r) b
 
-module _ (g : Grid) (arrows : List (List ℕ)) (cells : List ℕ) where
+module _ (p : Puzzle) (cells : List ℕ) where
   -- the block named f has exactly one arrow cell
   unfoldable pub oneTest : List ℕ → ℕ → Bool
-  oneTest l f = eqb (length (filter (onArrow arrows) (group g (square cells) l f))) 1
+  oneTest l f = eqb (length (filter (onArrow (p .arrows)) (group (p .grid) (square cells) l f))) 1
 
   -- the second block of the pair is the first, grown by one square
   unfoldable pub grownTest : List ℕ → Pair → Bool
-  grownTest l p =
-      let f = getD l (p .last) 0 in
-      let b = group g (square cells) l f in
-      let c = group g (square cells) l (getD l (p .cur) 0) in
-      eqb (length c) (length b + 1) && any (fits g b c f) c
+  grownTest l pair =
+      let f = getD l (pair .last) 0 in
+      let b = group (p .grid) (square cells) l f in
+      let c = group (p .grid) (square cells) l (getD l (pair .cur) 0) in
+      eqb (length c) (length b + 1) && any (fits (p .grid) b c f) c
 
   -- the block rules, computed
   unfoldable pub rulesTest : Bool
   rulesTest =
-      let l = labels g (square cells) in
-      all (oneTest l) (names g (square cells) l) && all (grownTest l) (flatMap (pairs cells) arrows)
+      let l = labels (p .grid) (square cells) in
+      all (oneTest l) (names (p .grid) (square cells) l) && all (grownTest l) (flatMap (pairs cells) (p .arrows))
