@@ -15,6 +15,7 @@ use Rattle.grid.proofs.GridLaws.{dec-adjacent, adj-sym}
 use Rattle.grid.specs.Lists.{upto, filter}
 use Rattle.grid.specs.Grid.{Grid, size, cellsOf, neighbours, Adjacent}
 use Rattle.grid.specs.Link.{linked-end, linked-start, linked-trans}
+use Rattle.record.specs.Record.{Puzzle}
 use Rattle.record.proofs.LineLaws.{ValidArrows}
 use Rattle.board.proofs.BoardLaws.{un-not-em, sq-not-un, sq-not-em, un-below, sq-below, cell-cases, ValidCells}
 use Rattle.board.specs.Board.{empty, square, undecided}
@@ -68,16 +69,21 @@ vacant-of false false a m [] h = absurd (let z : _≡_ {A = ℕ} 0 1 = cc in ome
 vacant-of false false a m (x ∷ []) h = absurd (let z : _≡_ {A = ℕ} 0 1 = cc in omega arith)
 vacant-of false false a m (x ∷ y ∷ l) h = absurd (let z : _≡_ {A = ℕ} 0 1 = cc in omega arith)
 
--- a grid with the arrows of a record, and the cells of a board
+-- a puzzle with the arrows of a record, and the cells of a board
 pub record Setting : Type 0 where
-  pub grid : Grid
-  pub arrows : List (List ℕ)
-  pub lines : ValidArrows grid arrows
+  pub puzzle : Puzzle
+  pub lines : ValidArrows (puzzle .grid) (puzzle .arrows)
   pub cells : List ℕ
-  pub valid : ValidCells grid cells
+  pub valid : ValidCells (puzzle .grid) cells
 
 module _ (set : Setting) where
-  open Setting set using (grid, arrows, cells, valid)
+  open Setting set using (puzzle, cells, valid)
+
+  abbrev grid : Grid
+  grid = puzzle .grid
+
+  abbrev arrows : List (List ℕ)
+  arrows = puzzle .arrows
 
   -- the board as Confine takes it
   abbrev pub boardOf : PartialBoard
@@ -104,15 +110,15 @@ module _ (set : Setting) where
 
   -- the kinds of all cells
   abbrev pub kinds : List Kind
-  kinds = kindsOf grid arrows cells (labels grid (square cells))
+  kinds = kindsOf puzzle cells (labels grid (square cells))
 
   -- the kind of a cell
   abbrev pub kind : ℕ → Kind
-  kind = kindAt grid arrows cells (labels grid (square cells))
+  kind = kindAt puzzle cells (labels grid (square cells))
 
   -- the block named f has an arrow cell
   abbrev pub arrowed : ℕ → Bool
-  arrowed = arrowBlock grid arrows cells (labels grid (square cells))
+  arrowed = arrowBlock puzzle cells (labels grid (square cells))
 
   -- the arrow blocks around a cell, with repetitions
   abbrev pub around : ℕ → List ℕ
@@ -120,7 +126,7 @@ module _ (set : Setting) where
 
   -- the arrow blocks around a cell, each once
   abbrev pub listed : ℕ → List ℕ
-  listed = blocksBeside grid arrows cells (labels grid (square cells))
+  listed = blocksBeside puzzle cells (labels grid (square cells))
 
   -- the kind of a cell of the grid
   pub kind-get : (i : ℕ) → i < size grid → getD kinds i vacant ≡ kind i

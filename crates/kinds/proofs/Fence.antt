@@ -11,7 +11,7 @@ use lib.ListN.{length, getD}
 use borrow.Author.Tests.{eqb-true, eq-eqb}
 use Rattle.grid.proofs.GridLaws.{adjacent-touches, adj-sym}
 use Rattle.grid.proofs.ListLaws.{filter-mem, mem-filter, mem-upto, mem-flatMap, so-false, or-so, so-orl, so-orr, and-true, true-and, so-not, any-mem, mem-any}
-use Rattle.grid.specs.Grid.{size, cellsOf, neighbours, Adjacent}
+use Rattle.grid.specs.Grid.{Grid, size, cellsOf, neighbours, Adjacent}
 use Rattle.grid.specs.Link.{Linked, linked-end, linked-start, linked-map}
 use Rattle.grid.proofs.Count.{count, length-filter}
 use Rattle.board.specs.Board.{Agrees, empty, square, undecided}
@@ -24,7 +24,13 @@ use Rattle.kinds.specs.Meaning.{PartialBoard, Block, InArrow, Touch, Flo
 use Rattle.kinds.proofs.Confine.{Fenced}
 
 module _ (set : Setting) where
-  open Setting set using (grid, arrows, cells, valid)
+  open Setting set using (puzzle, cells)
+
+  abbrev grid : Grid
+  grid = puzzle .grid
+
+  abbrev arrows : List (List ℕ)
+  arrows = puzzle .arrows
 
   -- the board as Confine takes it
   abbrev B : PartialBoard
@@ -32,7 +38,7 @@ module _ (set : Setting) where
 
   -- the view of the board
   abbrev pub v : View
-  v = view grid arrows cells
+  v = view puzzle cells
 
   -- the name of the block of a square
   abbrev name : ℕ → ℕ

@@ -17,10 +17,11 @@ use Rattle.grid.specs.Grid.{Grid, size, cellsOf, neighbours, touches}
 use Rattle.grid.specs.Side.{sized}
 use Rattle.grid.proofs.ListLaws.{so-false, and-true, true-and, any-mem, mem-any, upto-mem, mem-upto, filter-mem, mem-filter, member-mem, mem-member, getD-map-range}
 use Rattle.grid.proofs.GridLaws.{beside as side, on-grid, adj-sym}
+use Rattle.record.specs.Record.{Puzzle}
 use Rattle.board.specs.Board.{Literal, empty, square, undecided}
 use Rattle.groups.specs.Groups.{labels}
 use Rattle.kinds.specs.Kinds.{Kind, vacant, barrier, floating, inBlock, beside, kindBeside, blocksBeside, kindAt, kindsOf, isIn, has, View, view, viewWith, inReach, reach, rival, fenceAt, fence, word, kindCode, ownerBy, reachMask}
-use Rattle.kinds.specs.Inside.{Held, litAt, Ordered, ofBlock, rivals, touched, adds, addsAmong, Fenced}
+use Rattle.kinds.specs.Inside.{puzzleWith, Held, litAt, Ordered, ofBlock, rivals, touched, adds, addsAmong, Fenced}
 use Rattle.kinds.proofs.Filled.{mask-at, mark-test}
 use Rattle.kinds.proofs.Views.{any-same}
 use Rattle.kinds.proofs.Reaches.{filter-same, in-by, code-get, owner-get}
@@ -111,13 +112,16 @@ module _ (v : View) (f : ℕ) (r : List ℕ) where
   fenced-says x m (beside a) s = absurd (false≢true s)
 
 -- ---- the cells that are inserted. values is the array of the cells
-module _ (g : Grid) (small : size g ≤ 1024) (arrows : List (List ℕ)) (values K O marks : List ℕ) (f : ℕ)
-    (H : Held (view g arrows (take (size g) values)) K O) (M : marks ≡ reachMask (view g arrows (take (size g) values)) f) where
+module _ (p : Puzzle) (small : size (p .grid) ≤ 1024) (values K O marks : List ℕ) (f : ℕ)
+    (H : Held (view p (take (size (p .grid)) values)) K O) (M : marks ≡ reachMask (view p (take (size (p .grid)) values)) f) where
+  abbrev g : Grid
+  g = p .grid
+
   abbrev cells : List ℕ
   cells = take (size g) values
 
   abbrev v : View
-  v = view g arrows cells
+  v = view p cells
 
   -- the reach
   abbrev R : List ℕ
@@ -130,10 +134,10 @@ module _ (g : Grid) (small : size g ≤ 1024) (arrows : List (List ℕ)) (values
   float i = getD (v .floats) i 0
 
   code : (i : ℕ) → i < size g → getD K i 0 ≡ kindCode (kind i)
-  code = code-get g small arrows cells K O H
+  code = code-get p small cells K O H
 
   owner : (i : ℕ) → i < size g → getD O i 0 ≡ ownerBy (float i) (kind i)
-  owner = owner-get g small arrows cells K O H
+  owner = owner-get p small cells K O H
 
   marked-is : (j : ℕ) → j < size g → eqb (getD marks j 0) 1 ≡ member j R
   unfolding reachMask reach cellsOf view viewWith
@@ -153,9 +157,9 @@ module _ (g : Grid) (small : size g ≤ 1024) (arrows : List (List ℕ)) (values
   open-code : (i : ℕ) → i < size g → getD cells i 0 ≡ 2 → getD K i 0 ≡ 0 → ⊥
   unfolding kindsOf kindAt cellsOf upto empty square view viewWith
   open-code i l e z =
-      let k : kind i ≡ kindBeside (blocksBeside g arrows cells (labels g (square cells)) i) =
-      getD-map-range (kindAt g arrows cells (labels g (square cells))) 0 (size g) i vacant l ∙ ap (kindAt g arrows cells (labels g (square cells))) (zero-add i) ∙ rw e in
-      beside-code (blocksBeside g arrows cells (labels g (square cells)) i) (sym (ap kindCode k) ∙ sym (code i l) ∙ z)
+      let k : kind i ≡ kindBeside (blocksBeside p cells (labels g (square cells)) i) =
+      getD-map-range (kindAt p cells (labels g (square cells))) 0 (size g) i vacant l ∙ ap (kindAt p cells (labels g (square cells))) (zero-add i) ∙ rw e in
+      beside-code (blocksBeside p cells (labels g (square cells)) i) (sym (ap kindCode k) ∙ sym (code i l) ∙ z)
 
   -- a cell of the arrow block e, by the arrays and by the kinds
   in-is : (j e : ℕ) → j < size g → (eqb (getD K j 0) 1 && eqb (getD O j 0) e) ≡ isIn e (kind j)
@@ -236,14 +240,14 @@ length-lit K (x ∷ l) = ap (λ (n : ℕ). suc n) (length-lit K l)
 
 -- what the pass leaves
 pub fence-computed : (h w : ℕ) → (values K O marks : List ℕ) (f : ℕ) (before after : List ℕ) (c : ℕ) → Ordered K (h * w) before (addsAmong values K O marks (sized h w) f (h * w)) after c
-    → (arrows : List (List ℕ)) → Held (view (sized h w) arrows (take (h * w) values)) K O → marks ≡ reachMask (view (sized h w) arrows (take (h * w) values)) f
-    → Fenced (view (sized h w) arrows (take (h * w) values)) f before after c
+    → (arrows : List (List ℕ)) → Held (view (puzzleWith (sized h w) arrows) (take (h * w) values)) K O → marks ≡ reachMask (view (puzzleWith (sized h w) arrows) (take (h * w) values)) f
+    → Fenced (view (puzzleWith (sized h w) arrows) (take (h * w) values)) f before after c
 unfolding size
 fence-computed h w values K O marks f before after c Q arrows H M =
-    let same = fence-list (sized h w) (Q .small) arrows values K O marks f H M in
+    let same = fence-list (puzzleWith (sized h w) arrows) (Q .small) values K O marks f H M in
     record {
       list = Q .list ∙ same;
-      number = Q .number ∙ sym (length-lit K (filter (addsAmong values K O marks (sized h w) f (h * w)) (upto (h * w)))) ∙ ap length same ∙ length-word (fence (view (sized h w) arrows (take (h * w) values)) f);
+      number = Q .number ∙ sym (length-lit K (filter (addsAmong values K O marks (sized h w) f (h * w)) (upto (h * w)))) ∙ ap length same ∙ length-word (fence (view (puzzleWith (sized h w) arrows) (take (h * w) values)) f);
       rest = Q .rest;
       long = Q .long;
     }

@@ -11,7 +11,7 @@ use lib.Dec.{eqb}
 use lib.ListN.{getD}
 use borrow.Author.Tests.{eqb-true, eq-eqb}
 use Rattle.grid.specs.Lists.{flatMap, member}
-use Rattle.grid.specs.Grid.{size, cellsOf, neighbours, touches, Adjacent}
+use Rattle.grid.specs.Grid.{Grid, size, cellsOf, neighbours, touches, Adjacent}
 use Rattle.grid.specs.Link.{linked-start, linked-end}
 use Rattle.grid.proofs.ListLaws.{and-true, true-and, any-mem, mem-any, member-mem, flatMap-mem, mem-flatMap, upto-mem, not-so, so-not}
 use Rattle.grid.proofs.GridLaws.{adj-sym, adjacent-touches, in-cells}
@@ -73,7 +73,13 @@ fence-rising w f = rising-flat (λ i. fenceAt w f (reach w f) i (getD (w .kinds)
     one i (beside e) = inl refl
 
 module _ (set : Setting) where
-  open Setting set using (grid, arrows, cells)
+  open Setting set using (puzzle, cells)
+
+  abbrev grid : Grid
+  grid = puzzle .grid
+
+  abbrev arrows : List (List ℕ)
+  arrows = puzzle .arrows
 
   -- the board in terms of Meaning
   abbrev B : PartialBoard

@@ -7,7 +7,7 @@ use mathlib.Core.Bool.{Bool, true, false, cond}
 use mathlib.Core.List.{List, [], _∷_, List·Memᴰ, List·Memᴰ·head, List·Memᴰ·tail, List·Memᴰ·not-nil, List·Memᴰ·eq-of-singleton}
 use native.Mathlib.Omega.{arith}
 use Rattle.grid.specs.Lists.{Distinct, member, once}
-use Rattle.grid.specs.Grid.{size}
+use Rattle.grid.specs.Grid.{Grid, size}
 use Rattle.grid.specs.Link.{linked-start}
 use Rattle.grid.proofs.ListLaws.{dec-so, so-false, mem-member, once-mem}
 use Rattle.board.specs.Board.{empty, square}
@@ -44,7 +44,10 @@ two-barrier (f ∷ []) x y m n d = absurd (d (List·Memᴰ·eq-of-singleton m �
 two-barrier (f ∷ e ∷ es) x y m n d = refl
 
 module _ (set : Setting) where
-  open Setting set using (grid, cells)
+  open Setting set using (puzzle, cells)
+
+  abbrev grid : Grid
+  grid = puzzle .grid
 
   -- the kind of a cell of the grid is barrier
   barrier-so : (i : ℕ) → i < size grid → kind set i ≡ barrier → Barrier (boardOf set) i

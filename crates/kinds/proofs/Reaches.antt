@@ -14,10 +14,11 @@ use Rattle.grid.specs.Side.{sized}
 use Rattle.grid.specs.Link.{here}
 use Rattle.grid.proofs.ListLaws.{so-false, and-true, any-mem, upto-mem}
 use Rattle.grid.proofs.GridLaws.{beside as side, on-grid}
+use Rattle.record.specs.Record.{Puzzle}
 use Rattle.groups.specs.Groups.{maskOf}
 use Rattle.groups.proofs.GroupLaws.{label-least}
 use Rattle.kinds.specs.Kinds.{Kind, vacant, barrier, floating, inBlock, beside, isFloating, isIn, isBeside, has, View, view, viewWith, floatNear, inReach, reach, kindCode, ownerBy, kindArray, ownerArray, reachMask}
-use Rattle.kinds.specs.Inside.{Held, Marks, nearAt, nearAmong, reaches, reachesAt, Reached, Reach}
+use Rattle.kinds.specs.Inside.{puzzleWith, Held, Marks, nearAt, nearAmong, reaches, reachesAt, Reached, Reach}
 use Rattle.kinds.proofs.Filled.{marks-same, marks-mask, mark-test, filled-at, filled-same}
 use Rattle.kinds.proofs.Views.{any-same}
 
@@ -67,9 +68,12 @@ reaches-by (beside x) m f near b l e = or-false (eqb x f)
 
 -- ---- what the arrays of a view hold
 
-module _ (g : Grid) (small : size g ≤ 1024) (arrows : List (List ℕ)) (cells K O : List ℕ) (H : Held (view g arrows cells) K O) where
+module _ (p : Puzzle) (small : size (p .grid) ≤ 1024) (cells K O : List ℕ) (H : Held (view p cells) K O) where
+  abbrev g : Grid
+  g = p .grid
+
   abbrev v : View
-  v = view g arrows cells
+  v = view p cells
 
   -- the kind of a cell, and the name of its floating group
   abbrev kind : ℕ → Kind
@@ -135,6 +139,6 @@ module _ (g : Grid) (small : size g ≤ 1024) (arrows : List (List ℕ)) (cells 
 
 -- what the two passes leave
 pub reach-computed : (h w : ℕ) → h * w ≤ 1024 → (K O : List ℕ) (f : ℕ) (near marks : List ℕ) (r : ℕ) → Marks near (nearAmong K O (sized h w) f (h * w)) → Reached K O near f (h * w) marks r
-    → (arrows : List (List ℕ)) (cells : List ℕ) → Held (view (sized h w) arrows cells) K O → Reach (view (sized h w) arrows cells) f near marks r
+    → (arrows : List (List ℕ)) (cells : List ℕ) → Held (view (puzzleWith (sized h w) arrows) cells) K O → Reach (view (puzzleWith (sized h w) arrows) cells) f near marks r
 unfolding size
-reach-computed h w small K O f near marks r m R arrows cells H = reach-is (sized h w) small arrows cells K O H f near m marks r R
+reach-computed h w small K O f near marks r m R arrows cells H = reach-is (puzzleWith (sized h w) arrows) small cells K O H f near m marks r R

@@ -18,12 +18,13 @@ use Rattle.grid.specs.Side.{sized}
 use Rattle.grid.specs.Link.{here}
 use Rattle.grid.proofs.ListLaws.{split, so-false, and-true, any-mem, upto-mem, length-map-range, getD-map-range}
 use Rattle.grid.proofs.GridLaws.{beside as side, on-grid}
+use Rattle.record.specs.Record.{Puzzle}
 use Rattle.board.specs.Board.{empty, square}
 use Rattle.groups.specs.Groups.{labels, labelAt, labelArray, maskOf}
 use Rattle.groups.specs.Arrows.{onArrow}
 use Rattle.groups.proofs.GroupLaws.{label-least}
 use Rattle.kinds.specs.Kinds.{Kind, vacant, barrier, floating, inBlock, beside, isFloating, kindBeside, arrowBlock, blocksBeside, kindAt, kindsOf, has, view, viewWith, kindCode, ownerBy, kindArray, ownerArray}
-use Rattle.kinds.specs.Inside.{Marks, arrowAmong, arrowAt, arrowsAt, kindIn, codesIn, ownersIn, floats, Given, Detailed, Unnamed, Sofar}
+use Rattle.kinds.specs.Inside.{puzzleWith, Marks, arrowAmong, arrowAt, arrowsAt, kindIn, codesIn, ownersIn, floats, Given, Detailed, Unnamed, Sofar}
 use Rattle.kinds.proofs.Filled.{marks-same, marks-mask, mask-at, mark-test, filled-at, filled-past, filled-is, filled-length, filled-same, owners-length}
 use Rattle.kinds.proofs.Traversal.{sofar-labels}
 
@@ -33,14 +34,20 @@ unfolding any
 any-same t u [] h = refl
 any-same t u (x ∷ l) h = rw (h x (List·Memᴰ·head refl), any-same t u l (λ y m. h y (List·Memᴰ·tail m)))
 
-module _ (g : Grid) (small : size g ≤ 1024) (arrows : List (List ℕ)) (cells blocks ons : List ℕ) (given : Given g arrows cells blocks ons) where
+module _ (p : Puzzle) (small : size (p .grid) ≤ 1024) (cells blocks ons : List ℕ) (given : Given p cells blocks ons) where
+  abbrev g : Grid
+  g = p .grid
+
+  abbrev arrows : List (List ℕ)
+  arrows = p .arrows
+
   -- the name of the block of a square
   abbrev label : ℕ → ℕ
   label i = getD (labels g (square cells)) i 0
 
   -- the block named f has an arrow cell
   abbrev arrowed : ℕ → Bool
-  arrowed = arrowBlock g arrows cells (labels g (square cells))
+  arrowed = arrowBlock p cells (labels g (square cells))
 
   -- a square's name is a cell of the grid
   label-below : (i : ℕ) → i < size g → So (square cells i) → label i < size g
@@ -187,29 +194,32 @@ module _ (blocks A : List ℕ) (g : Grid) (values : List ℕ) (n : ℕ) (small :
   none-named K L e q = rw (e, q) unnamed
 
 -- ---- the view, from the arrays of the kinds and owners of its cells. values is the array of the cells
-module _ (g : Grid) (small : size g ≤ 1024) (arrows : List (List ℕ)) (values blocks ons A : List ℕ)
-    (given : Given g arrows (take (size g) values) blocks ons) (marks : Marks A (arrowAmong blocks ons (size g))) where
+module _ (p : Puzzle) (small : size (p .grid) ≤ 1024) (values blocks ons A : List ℕ)
+    (given : Given p (take (size (p .grid)) values) blocks ons) (marks : Marks A (arrowAmong blocks ons (size (p .grid)))) where
+  abbrev grid : Grid
+  grid = p .grid
+
   abbrev cells : List ℕ
-  cells = take (size g) values
+  cells = take (size grid) values
 
   -- the kind of a cell
   abbrev kind : ℕ → Kind
-  kind = kindAt g arrows cells (labels g (square cells))
+  kind = kindAt p cells (labels grid (square cells))
 
   -- the kinds of all cells
   abbrev kinds : List Kind
-  kinds = kindsOf g arrows cells (labels g (square cells))
+  kinds = kindsOf p cells (labels grid (square cells))
 
-  kind-square : (i : ℕ) → i < size g → So (square cells i) → cond (ltb (arrowAt blocks A i) 1024) (inBlock (arrowAt blocks A i)) floating ≡ cond (arrowBlock g arrows cells (labels g (square cells)) (getD (labels g (square cells)) i 0)) (inBlock (getD (labels g (square cells)) i 0)) floating
+  kind-square : (i : ℕ) → i < size grid → So (square cells i) → cond (ltb (arrowAt blocks A i) 1024) (inBlock (arrowAt blocks A i)) floating ≡ cond (arrowBlock p cells (labels grid (square cells)) (getD (labels grid (square cells)) i 0)) (inBlock (getD (labels grid (square cells)) i 0)) floating
   kind-square i l q =
       let e : (square cells i && F) ≡ F = rw q in
-      rw (in-arrow-low g small arrows cells blocks ons given A marks i l, arrow-at g small arrows cells blocks ons given A marks i l, e) (by F)
+      rw (in-arrow-low p small cells blocks ons given A marks i l, arrow-at p small cells blocks ons given A marks i l, e) (by F)
     where
       m : ℕ
-      m = getD (labels g (square cells)) i 0
+      m = getD (labels grid (square cells)) i 0
 
       F : Bool
-      F = arrowBlock g arrows cells (labels g (square cells)) m
+      F = arrowBlock p cells (labels grid (square cells)) m
 
       by : (b : Bool) → cond b (inBlock (cond b m 1024)) floating ≡ cond b (inBlock m) floating
       by true = refl
@@ -220,92 +230,92 @@ module _ (g : Grid) (small : size g ≤ 1024) (arrows : List (List ℕ)) (values
   kind-pick false true a b c d f q = f refl
   kind-pick false false a b c d f q = q
 
-  kind-is : (i : ℕ) → i < size g → kindIn blocks A g values i ≡ kind i
+  kind-is : (i : ℕ) → i < size grid → kindIn blocks A grid values i ≡ kind i
   unfolding kindIn kindAt blocksBeside empty square
   kind-is i l =
-      rw (← (getD-take (size g) values i 0 l)) (kind-pick (empty cells i) (square cells i) _ _ _ _ (kind-square i l)
-      (ap (λ (t : List ℕ). kindBeside (once t)) (arrows-at g small arrows cells blocks ons given A marks (neighbours g i) (λ x m. on-grid g l (side g i m)))))
+      rw (← (getD-take (size grid) values i 0 l)) (kind-pick (empty cells i) (square cells i) _ _ _ _ (kind-square i l)
+      (ap (λ (t : List ℕ). kindBeside (once t)) (arrows-at p small cells blocks ons given A marks (neighbours grid i) (λ x m. on-grid grid l (side grid i m)))))
 
   -- the list of kinds
-  kind-get : (i : ℕ) → i < size g → getD kinds i vacant ≡ kind i
+  kind-get : (i : ℕ) → i < size grid → getD kinds i vacant ≡ kind i
   unfolding kindsOf cellsOf upto
-  kind-get i l = getD-map-range kind 0 (size g) i vacant l ∙ ap kind (zero-add i)
+  kind-get i l = getD-map-range kind 0 (size grid) i vacant l ∙ ap kind (zero-add i)
 
-  kind-past : (i : ℕ) → size g ≤ i → getD kinds i vacant ≡ vacant
+  kind-past : (i : ℕ) → size grid ≤ i → getD kinds i vacant ≡ vacant
   unfolding kindsOf cellsOf upto
-  kind-past i l = List·getD-eq-default kinds vacant {n = i} (omega (arith, length-map-range kind 0 (size g)))
+  kind-past i l = List·getD-eq-default kinds vacant {n = i} (omega (arith, length-map-range kind 0 (size grid)))
 
   abbrev K : List ℕ
-  K = codesIn blocks A g values (size g)
+  K = codesIn blocks A grid values (size grid)
 
-  code-at : (i : ℕ) → i < size g → getD K i 0 ≡ kindCode (kind i)
+  code-at : (i : ℕ) → i < size grid → getD K i 0 ≡ kindCode (kind i)
   unfolding codesIn
-  code-at i l = filled-at 0 (λ j. kindCode (kindIn blocks A g values j)) (size g) i l ∙ ap kindCode (kind-is i l)
+  code-at i l = filled-at 0 (λ j. kindCode (kindIn blocks A grid values j)) (size grid) i l ∙ ap kindCode (kind-is i l)
 
-  owner-at : (i : ℕ) → i < size g → getD (ownersIn blocks A g values (size g)) i 0 ≡ ownerBy 1024 (kind i)
+  owner-at : (i : ℕ) → i < size grid → getD (ownersIn blocks A grid values (size grid)) i 0 ≡ ownerBy 1024 (kind i)
   unfolding ownersIn
-  owner-at i l = filled-at 1024 (λ j. ownerBy 1024 (kindIn blocks A g values j)) (size g) i l ∙ ap (ownerBy 1024) (kind-is i l)
+  owner-at i l = filled-at 1024 (λ j. ownerBy 1024 (kindIn blocks A grid values j)) (size grid) i l ∙ ap (ownerBy 1024) (kind-is i l)
 
-  owner-past : (i : ℕ) → size g ≤ i → i < 1024 → getD (ownersIn blocks A g values (size g)) i 0 ≡ 1024
+  owner-past : (i : ℕ) → size grid ≤ i → i < 1024 → getD (ownersIn blocks A grid values (size grid)) i 0 ≡ 1024
   unfolding ownersIn
-  owner-past i l h = filled-past 1024 (λ j. ownerBy 1024 (kindIn blocks A g values j)) (size g) i l h
+  owner-past i l h = filled-past 1024 (λ j. ownerBy 1024 (kindIn blocks A grid values j)) (size grid) i l h
 
   -- the floating cells
-  float-in : (i : ℕ) → i < size g → floats K i ≡ isFloating (kind i)
+  float-in : (i : ℕ) → i < size grid → floats K i ≡ isFloating (kind i)
   unfolding floats
   float-in i l = ap (λ (x : ℕ). eqb x 4) (code-at i l) ∙ code-floating (kind i)
 
-  float-out : (i : ℕ) → size g ≤ i → floats K i ≡ false
+  float-out : (i : ℕ) → size grid ≤ i → floats K i ≡ false
   unfolding floats
-  float-out i l = ap (λ (x : ℕ). eqb x 4) (code-past blocks A g values (size g) small i l)
+  float-out i l = ap (λ (x : ℕ). eqb x 4) (code-past blocks A grid values (size grid) small i l)
 
   float-is : (i : ℕ) → floats K i ≡ has isFloating kinds i
   unfolding has isFloating
-  float-is i = by (decLt i (size g))
+  float-is i = by (decLt i (size grid))
     where
-      by : Dec (i < size g) → floats K i ≡ isFloating (getD kinds i vacant)
+      by : Dec (i < size grid) → floats K i ≡ isFloating (getD kinds i vacant)
       by (yes l) = float-in i l ∙ ap isFloating (sym (kind-get i l))
       by (no l) = float-out i (omega arith) ∙ sym (ap isFloating (kind-past i (omega arith)))
 
-  float-on : (i : ℕ) → So (floats K i) → i < size g
-  float-on i h = by (decLt i (size g))
+  float-on : (i : ℕ) → So (floats K i) → i < size grid
+  float-on i h = by (decLt i (size grid))
     where
-      by : Dec (i < size g) → i < size g
+      by : Dec (i < size grid) → i < size grid
       by (yes l) = l
       by (no l) = absurd (false≢true (sym (float-out i (omega arith)) ∙ h))
 
   -- the array of kinds
-  kinds-are : K ≡ kindArray (view g arrows cells)
+  kinds-are : K ≡ kindArray (view p cells)
   unfolding kindArray view viewWith codesIn cellsOf
-  kinds-are = filled-same 0 (λ i. kindCode (kindIn blocks A g values i)) (λ i. kindCode (getD kinds i vacant)) (size g) small (λ i l. ap kindCode (kind-is i l ∙ sym (kind-get i l)))
+  kinds-are = filled-same 0 (λ i. kindCode (kindIn blocks A grid values i)) (λ i. kindCode (getD kinds i vacant)) (size grid) small (λ i l. ap kindCode (kind-is i l ∙ sym (kind-get i l)))
 
   -- the array of owners, after the walks
-  owners-are : (L : List ℕ) → Sofar g (floats K) (ownersIn blocks A g values (size g)) (size g) L → L ≡ ownerArray (view g arrows cells)
+  owners-are : (L : List ℕ) → Sofar grid (floats K) (ownersIn blocks A grid values (size grid)) (size grid) L → L ≡ ownerArray (view p cells)
   unfolding ownerArray view viewWith cellsOf
-  owners-are L S = filled-is 1024 (λ i. ownerBy (getD (labels g (has isFloating kinds)) i 0) (getD kinds i vacant)) (size g) L small (S .long ∙ long) front back
+  owners-are L S = filled-is 1024 (λ i. ownerBy (getD (labels grid (has isFloating kinds)) i 0) (getD kinds i vacant)) (size grid) L small (S .long ∙ long) front back
     where
-      long : length (ownersIn blocks A g values (size g)) ≡ 1024
-      long = owners-length blocks A g values (size g) small
+      long : length (ownersIn blocks A grid values (size grid)) ≡ 1024
+      long = owners-length blocks A grid values (size grid) small
 
-      by : (i : ℕ) → i < size g → (floats K i ≡ true) ⊎ (floats K i ≡ false) → getD L i 0 ≡ ownerBy (getD (labels g (has isFloating kinds)) i 0) (kind i)
+      by : (i : ℕ) → i < size grid → (floats K i ≡ true) ⊎ (floats K i ≡ false) → getD L i 0 ≡ ownerBy (getD (labels grid (has isFloating kinds)) i 0) (kind i)
       by i l (inl h) = sofar-labels float-on S (has isFloating kinds) float-is i h ∙ owner-floating (kind i) _ (sym (float-in i l) ∙ h)
       by i l (inr h) = S .others i h ∙ owner-at i l ∙ owner-other (kind i) _ (sym (float-in i l) ∙ h)
 
-      front : (i : ℕ) → i < size g → getD L i 0 ≡ ownerBy (getD (labels g (has isFloating kinds)) i 0) (getD kinds i vacant)
-      front i l = by i l (split (floats K i)) ∙ ap (ownerBy (getD (labels g (has isFloating kinds)) i 0)) (sym (kind-get i l))
+      front : (i : ℕ) → i < size grid → getD L i 0 ≡ ownerBy (getD (labels grid (has isFloating kinds)) i 0) (getD kinds i vacant)
+      front i l = by i l (split (floats K i)) ∙ ap (ownerBy (getD (labels grid (has isFloating kinds)) i 0)) (sym (kind-get i l))
 
-      back : (i : ℕ) → size g ≤ i → i < 1024 → getD L i 0 ≡ 1024
+      back : (i : ℕ) → size grid ≤ i → i < 1024 → getD L i 0 ≡ 1024
       back i l h = S .others i (float-out i l) ∙ owner-past i l h
 
 -- what the three passes leave
 pub detailed : (h w : ℕ) → h * w ≤ 1024 → (values blocks ons A K L₀ L : List ℕ) → Marks A (arrowAmong blocks ons (h * w))
     → K ≡ codesIn blocks A (sized h w) values (h * w) → L₀ ≡ ownersIn blocks A (sized h w) values (h * w) → Sofar (sized h w) (floats K) L₀ (h * w) L
-    → (arrows : List (List ℕ)) → Given (sized h w) arrows (take (h * w) values) blocks ons → Detailed (sized h w) arrows (take (h * w) values) A K L
+    → (arrows : List (List ℕ)) → Given (puzzleWith (sized h w) arrows) (take (h * w) values) blocks ons → Detailed (puzzleWith (sized h w) arrows) (take (h * w) values) A K L
 unfolding size
 detailed h w small values blocks ons A K L₀ L m k o S arrows given = record {
-  arrow-blocks = arrow-mask (sized h w) small arrows (take (h * w) values) blocks ons given A m;
+  arrow-blocks = arrow-mask (puzzleWith (sized h w) arrows) small (take (h * w) values) blocks ons given A m;
   held = record {
-    kind = k ∙ kinds-are (sized h w) small arrows values blocks ons A given m;
-    owner = owners-are (sized h w) small arrows values blocks ons A given m L (rw (k, o) at S);
+    kind = k ∙ kinds-are (puzzleWith (sized h w) arrows) small values blocks ons A given m;
+    owner = owners-are (puzzleWith (sized h w) arrows) small values blocks ons A given m L (rw (k, o) at S);
   };
 }

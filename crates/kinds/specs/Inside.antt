@@ -9,6 +9,7 @@ use lib.ListN.{length, getD, set, take, drop}
 use Rattle.grid.specs.Lists.{upto, any, filter, once, arrayOf}
 use Rattle.grid.specs.Grid.{Grid, neighbours, Adjacent}
 use Rattle.grid.specs.Side.{InGrid}
+use Rattle.record.specs.Record.{Puzzle}
 use Rattle.board.specs.Board.{square}
 use Rattle.groups.specs.Groups.{Joined, labels, noGroup, labelArray, maskOf}
 use Rattle.groups.specs.Arrows.{onArrow}
@@ -28,10 +29,15 @@ pub record Marks (marks : List ℕ) (test : ℕ → Bool) : Type 0 where
   pub long : length marks ≡ 1024
   pub at : (m : ℕ) → m < 1024 → getD marks m 0 ≡ cond (test m) 1 0
 
+-- a puzzle with this grid and these arrows. The codes of its cells do not matter here: kinds, reach, fence and reasons go by the grid and the arrows alone,
+-- which are all that the inner functions are lent of a puzzle
+abbrev pub puzzleWith : Grid → List (List ℕ) → Puzzle
+puzzleWith g arrows = record { grid = g; given = []; arrows = arrows }
+
 -- what the arrays hold: the names of the blocks and the arrow cells of a board
-pub record Given (g : Grid) (arrows : List (List ℕ)) (cells blocks onArrows : List ℕ) : Type 0 where
-  pub named : blocks ≡ labelArray g (square cells)
-  pub marked : onArrows ≡ maskOf g (onArrow arrows)
+pub record Given (p : Puzzle) (cells blocks onArrows : List ℕ) : Type 0 where
+  pub named : blocks ≡ labelArray (p .grid) (square cells)
+  pub marked : onArrows ≡ maskOf (p .grid) (onArrow (p .arrows))
 
 -- the arrays hold the kinds and the owners of a view
 pub record Held (v : View) (kinds owners : List ℕ) : Type 0 where
@@ -39,9 +45,9 @@ pub record Held (v : View) (kinds owners : List ℕ) : Type 0 where
   pub owner : owners ≡ ownerArray v
 
 -- what is computed of them: the names of the arrow blocks, the kinds and the owners
-pub record Detailed (g : Grid) (arrows : List (List ℕ)) (cells arrowed kinds owners : List ℕ) : Type 0 where
-  pub arrow-blocks : arrowed ≡ maskOf g (arrowBlock g arrows cells (labels g (square cells)))
-  pub held : Held (view g arrows cells) kinds owners
+pub record Detailed (p : Puzzle) (cells arrowed kinds owners : List ℕ) : Type 0 where
+  pub arrow-blocks : arrowed ≡ maskOf (p .grid) (arrowBlock p cells (labels (p .grid) (square cells)))
+  pub held : Held (view p cells) kinds owners
 
 -- among the first k cells one of the block named f is marked as an arrow cell
 unfoldable pub arrowAmong : List ℕ → List ℕ → ℕ → ℕ → Bool

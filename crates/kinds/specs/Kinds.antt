@@ -7,6 +7,7 @@ use lib.Dec.{eqb}
 use lib.ListN.{getD}
 use Rattle.grid.specs.Lists.{any, filter, once, flatMap, arrayOf}
 use Rattle.grid.specs.Grid.{Grid, cellsOf, neighbours, touches}
+use Rattle.record.specs.Record.{Puzzle}
 use Rattle.board.specs.Board.{Literal, empty, square, undecided}
 use Rattle.groups.specs.Groups.{labels, noGroup, maskOf}
 use Rattle.groups.specs.Arrows.{onArrow}
@@ -47,14 +48,14 @@ kindBeside (f ∷ []) = beside f
 kindBeside (f ∷ e ∷ es) = barrier
 
 -- blocks: the name of each square's block
-module _ (g : Grid) (arrows : List (List ℕ)) (cells blocks : List ℕ) where
+module _ (p : Puzzle) (cells blocks : List ℕ) where
   -- the block named f has an arrow cell
   unfoldable pub arrowBlock : ℕ → Bool
-  arrowBlock f = any (λ i. square cells i && eqb (getD blocks i 0) f && onArrow arrows i) (cellsOf g)
+  arrowBlock f = any (λ i. square cells i && eqb (getD blocks i 0) f && onArrow (p .arrows) i) (cellsOf (p .grid))
 
   -- the arrow blocks that cell i touches, each once
   unfoldable pub blocksBeside : ℕ → List ℕ
-  blocksBeside i = once (map (λ j. getD blocks j 0) (filter (λ j. square cells j && arrowBlock (getD blocks j 0)) (neighbours g i)))
+  blocksBeside i = once (map (λ j. getD blocks j 0) (filter (λ j. square cells j && arrowBlock (getD blocks j 0)) (neighbours (p .grid) i)))
 
   -- the kind of cell i
   unfoldable pub kindAt : ℕ → Kind
@@ -65,7 +66,7 @@ module _ (g : Grid) (arrows : List (List ℕ)) (cells blocks : List ℕ) where
 
   -- the kinds of all cells
   unfoldable pub kindsOf : List Kind
-  kindsOf = map kindAt (cellsOf g)
+  kindsOf = map kindAt (cellsOf (p .grid))
 
 -- a test on the kind of a cell
 unfoldable pub has : (Kind → Bool) → List Kind → ℕ → Bool
@@ -81,15 +82,15 @@ pub record View : Type 0 where
   pub floats : List ℕ
 
 -- a view from its blocks and kinds
-unfoldable pub viewWith : Grid → List (List ℕ) → List ℕ → List ℕ → List Kind → View
-viewWith g arrows cells blocks kinds =
-    record { grid = g; arrows = arrows; cells = cells; blocks = blocks; kinds = kinds; floats = labels g (has isFloating kinds) }
+unfoldable pub viewWith : Puzzle → List ℕ → List ℕ → List Kind → View
+viewWith p cells blocks kinds =
+    record { grid = p .grid; arrows = p .arrows; cells = cells; blocks = blocks; kinds = kinds; floats = labels (p .grid) (has isFloating kinds) }
 
 -- the view of a board
-unfoldable pub view : Grid → List (List ℕ) → List ℕ → View
-view g arrows cells =
-    let blocks = labels g (square cells) in
-    viewWith g arrows cells blocks (kindsOf g arrows cells blocks)
+unfoldable pub view : Puzzle → List ℕ → View
+view p cells =
+    let blocks = labels (p .grid) (square cells) in
+    viewWith p cells blocks (kindsOf p cells blocks)
 
 module _ (v : View) where
   -- the cells of the arrow block f

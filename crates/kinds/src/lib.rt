@@ -9,7 +9,7 @@ ghost use Rattle.grid.specs.Lists.{any};
 ghost use Rattle.grid.specs.Grid.{neighbours};
 ghost use Rattle.grid.specs.Side.{sized, InGrid};
 ghost use Rattle.kinds.specs.Kinds.{view, kindCode, ownerBy, reachMask};
-ghost use Rattle.kinds.specs.Inside.{Limits, Given, Held, Detailed, Marks, arrowAmong, kindFrom, meetOf, Owned, arrowAt, arrowsAt, kindIn, codesIn, ownersIn, floats, Walked, Walkable, Unnamed, Sofar, nearAt, nearAmong, reaches, Counted, Reached, Reach, Place, Shifted, Inserted, Ordered, Room, Whole, ofBlock, rivals, touched, adds, Fenced};
+ghost use Rattle.kinds.specs.Inside.{Limits, puzzleWith, Given, Held, Detailed, Marks, arrowAmong, kindFrom, meetOf, Owned, arrowAt, arrowsAt, kindIn, codesIn, ownersIn, floats, Walked, Walkable, Unnamed, Sofar, nearAt, nearAmong, reaches, Counted, Reached, Reach, Place, Shifted, Inserted, Ordered, Room, Whole, ofBlock, rivals, touched, adds, Fenced};
 
 // No mark is set.
 fn clear(marks: &mut [u8; 1024])
@@ -274,7 +274,7 @@ pub fn compute_board_info_detailed(
     owners: &mut [u16; 1024],
 )
     requires { ⌜ Limits h w ⌝ }
-    ensures { λ _. ⌜ ((arrows : List (List ℕ)) → Given (sized h w) arrows (take (h * w) (now (cells .entry))) (now (blocks .entry)) (now («on_arrow» .entry)) → Detailed (sized h w) arrows (take (h * w) (now (cells .entry))) (now (arrowed .exit)) (now (kinds .exit)) (now (owners .exit))) ⌝ }
+    ensures { λ _. ⌜ ((arrows : List (List ℕ)) → Given (puzzleWith (sized h w) arrows) (take (h * w) (now (cells .entry))) (now (blocks .entry)) (now («on_arrow» .entry)) → Detailed (puzzleWith (sized h w) arrows) (take (h * w) (now (cells .entry))) (now (arrowed .exit)) (now (kinds .exit)) (now (owners .exit))) ⌝ }
 {
     mark_arrow_blocks(blocks, on_arrow, h * w, arrowed);
     compute_cell_kinds(cells, blocks, arrowed, h, w, kinds, owners);
@@ -397,7 +397,7 @@ pub fn compute_reach(
     marks: &mut [u8; 1024],
 ) -> usize
     requires { ⌜ Limits h w ⌝ }
-    ensures { λ r. ⌜ ((arrows : List (List ℕ)) (cells : List ℕ) → Held (view (sized h w) arrows cells) (now (kinds .entry)) (now (owners .entry)) → Reach (view (sized h w) arrows cells) f (now (near .exit)) (now (marks .exit)) r) ⌝ }
+    ensures { λ r. ⌜ ((arrows : List (List ℕ)) (cells : List ℕ) → Held (view (puzzleWith (sized h w) arrows) cells) (now (kinds .entry)) (now (owners .entry)) → Reach (view (puzzleWith (sized h w) arrows) cells) f (now (near .exit)) (now (marks .exit)) r) ⌝ }
 {
     mark_near_floats(kinds, owners, h, w, f, near);
     mark_reach(kinds, owners, near, h * w, f, marks)
@@ -613,7 +613,7 @@ pub fn reason_for_adjacent_floating_boundary(
     part: &mut [u16],
 ) -> usize
     requires { ⌜ Limits h w × (h * w < length (now part)) ⌝ }
-    ensures { λ r. ⌜ ((arrows : List (List ℕ)) → Held (view (sized h w) arrows (take (h * w) (now (cells .entry)))) (now (kinds .entry)) (now (owners .entry)) → now (marks .entry) ≡ reachMask (view (sized h w) arrows (take (h * w) (now (cells .entry)))) f → Fenced (view (sized h w) arrows (take (h * w) (now (cells .entry)))) f (now (part .entry)) (now (part .exit)) r) ⌝ }
+    ensures { λ r. ⌜ ((arrows : List (List ℕ)) → Held (view (puzzleWith (sized h w) arrows) (take (h * w) (now (cells .entry)))) (now (kinds .entry)) (now (owners .entry)) → now (marks .entry) ≡ reachMask (view (puzzleWith (sized h w) arrows) (take (h * w) (now (cells .entry)))) f → Fenced (view (puzzleWith (sized h w) arrows) (take (h * w) (now (cells .entry)))) f (now (part .entry)) (now (part .exit)) r) ⌝ }
 {
     let n = h * w;
     let mut count: usize = 0;
