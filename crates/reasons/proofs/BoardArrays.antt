@@ -26,9 +26,11 @@ use Rattle.board.specs.Form.{rises, ended, behind, wellFormed}
 use Rattle.board.specs.declared.Board.{Board}
 use Rattle.board.proofs.BoardForm.{whole-is}
 use Rattle.board.proofs.ProblemForm.{Formed, valid-formed, formed-valid, formed-again, size-most, rises-last}
+use Rattle.kinds.specs.Kinds.{arrowBlock, blocksBeside, kindAt, kindsOf, view, viewWith}
+use Rattle.kinds.specs.Inside.{puzzleWith}
 use Rattle.reasons.specs.declared.Finding.{Finding}
 use Rattle.reasons.specs.declared.Finding.the-variants.{Refused}
-use Rattle.reasons.specs.Reasons.{findReason}
+use Rattle.reasons.specs.Reasons.{Found, reason1At, reason1, reason2, findReason}
 use Rattle.reasons.specs.Arrays.{CellArray, linesOf, ArrowArrays}
 use Rattle.reasons.specs.Pairs.{FoundAs}
 use Rattle.reasons.specs.Find.{cellsOn, reasonOn, enough, findRefusal, findingBy, bufferBy, findOf, bufferAfter}
@@ -143,10 +145,16 @@ find-short b buffer h l =
     let t = lt-ltb (length buffer) (3 * (b .problem .height * b .problem .width) + 1) l in
     (rw (h, t) refl, rw (h, t) refl)
 
+-- a reason goes by the grid and the arrows alone
+codes-aside : (p : Puzzle) (cells : List ℕ) → findReason (puzzleWith (p .grid) (p .arrows)) cells ≡ findReason p cells
+unfolding findReason reason1 reason1At reason2 view viewWith kindsOf kindAt blocksBeside arrowBlock
+codes-aside p cells = refl
+
 pub find-found : (b : Board) (buffer : List ℕ) {after : List ℕ} {r : Finding} → wellFormed b ≡ true → 3 * (b .problem .height * b .problem .width) + 1 ≤ length buffer
-    → FoundAs (findReason (sized (b .problem .height) (b .problem .width)) (linesOf (b .problem .arrows) (b .problem .ends) (b .problem .count)) (take (b .problem .height * b .problem .width) (b .cells))) buffer after r
+    → FoundAs (findReason (puzzleWith (sized (b .problem .height) (b .problem .width)) (linesOf (b .problem .arrows) (b .problem .ends) (b .problem .count))) (take (b .problem .height * b .problem .width) (b .cells))) buffer after r
     → (r ≡ findOf b buffer) × (after ≡ bufferAfter b buffer)
 unfolding findOf bufferAfter findRefusal enough gridOf size reasonOn cellsOn puzzleOf
 find-found b buffer h l x =
     let t = le-ltb (length buffer) (3 * (b .problem .height * b .problem .width) + 1) l in
-    (x .answer ∙ rw (h, t) refl, x .buffer ∙ rw (h, t) refl)
+    let same = codes-aside (puzzleOf (b .problem)) (cellsOn b) in
+    (x .answer ∙ ap (findingBy 0) same ∙ rw (h, t) refl, x .buffer ∙ ap (λ (f : Found). bufferBy 0 f buffer) same ∙ rw (h, t) refl)

@@ -15,8 +15,8 @@ use borrow.Author.Tests.{eq-eqb, ne-eqb, eqb-true, eqb-false}
 use Rattle.grid.specs.Lists.{any}
 use Rattle.grid.specs.Grid.{Grid, size}
 use Rattle.grid.proofs.ListLaws.{split}
-use Rattle.board.specs.Board.{Literal, square}
-use Rattle.reasons.specs.Reasons.{breadthFirst, parent, path}
+use Rattle.board.specs.Board.{square}
+use Rattle.reasons.specs.Reasons.{Entry, breadthFirst, parent, path}
 use Rattle.reasons.specs.Search.{seen, appended, parentMark, Listing, Room}
 use Rattle.reasons.specs.BreadthFirst.{Listed}
 use Rattle.reasons.proofs.Walk.{so-seen, Tree, root, tree-square, tree-length, tree-step}
@@ -40,13 +40,13 @@ fill-at l n x i h = List·getD-append (replicate n x) (drop n l) 0 i (rw (length
 
 -- ---- the list, place by place
 
-module _ {n : ℕ} {order from : List ℕ} {count : ℕ} {cs : List Literal} (L : Listing n order from count cs) where
+module _ {n : ℕ} {order from : List ℕ} {count : ℕ} {cs : List Entry} (L : Listing n order from count cs) where
   -- the cell at place t
   pub order-at : (t : ℕ) → t < count → getD order t 0 ≡ getD cs t (0, 0) .0
-  order-at t h = sym (getD-take count order t 0 h) ∙ ap (λ (l : List ℕ). getD l t 0) (L .cells-are) ∙ List·getD-map (λ (c : Literal). c .0) cs t (0, 0)
+  order-at t h = sym (getD-take count order t 0 h) ∙ ap (λ (l : List ℕ). getD l t 0) (L .cells-are) ∙ List·getD-map (λ (c : Entry). c .0) cs t (0, 0)
 
 -- it is listed
-pub listed-at : (cs : List Literal) (t : ℕ) → t < length cs → Listed cs (getD cs t (0, 0) .0)
+pub listed-at : (cs : List Entry) (t : ℕ) → t < length cs → Listed cs (getD cs t (0, 0) .0)
 listed-at [] t h = absurd (omega arith)
 listed-at (c ∷ cs) zero h = (c .1, List·Memᴰ·head refl)
 listed-at (c ∷ cs) (suc t) h = let r = listed-at cs t (omega arith) in (r .0, List·Memᴰ·tail (r .1))
@@ -64,7 +64,7 @@ listing-first n order from b h k l s f = record {
   parents-low = λ c m. low c m;
 }
   where
-    low : (c : Literal) → List·Memᴰ c ((b, b) ∷ []) → c .1 < 1024
+    low : (c : Entry) → List·Memᴰ c ((b, b) ∷ []) → c .1 < 1024
     low c (List·Memᴰ·head e) = rw e (omega arith)
     low c (List·Memᴰ·tail m) = absurd (List·Memᴰ·not-nil m)
 
@@ -74,26 +74,26 @@ listing-first n order from b h k l s f = record {
 
 module _ (g : Grid) (cells : List ℕ) where
   -- all were taken in turn
-  pub breadth-done : (k : ℕ) (cs : List Literal) → breadthFirst g cells k cs [] ≡ cs
+  pub breadth-done : (k : ℕ) (cs : List Entry) → breadthFirst g cells k cs [] ≡ cs
   unfolding breadthFirst
   breadth-done zero cs = append-nil cs
   breadth-done (suc k) cs = refl
 
   -- the cell at place t is taken
-  pub breadth-more : (k t : ℕ) (cs : List Literal) → t < length cs
+  pub breadth-more : (k t : ℕ) (cs : List Entry) → t < length cs
       → breadthFirst g cells (suc k) (take t cs) (drop t cs)
       ≡ breadthFirst g cells k (take (t + 1) (cs ++ appended g cells cs (getD cs t (0, 0) .0))) (drop (t + 1) (cs ++ appended g cells cs (getD cs t (0, 0) .0)))
   unfolding breadthFirst appended
   breadth-more k t cs h = rw (drop-cons cs t (0, 0) h, whole, ← take-suc cs t (0, 0) h, add-one t, take-append-le (suc t) cs new h, drop-append-le (suc t) cs new h) refl
     where
-      x : Literal
+      x : Entry
       x = getD cs t (0, 0)
 
-      new : List Literal
+      new : List Entry
       new = appended g cells cs (x .0)
 
       whole : take t cs ++ (x ∷ drop (suc t) cs) ≡ cs
-      whole = ap (λ (l : List Literal). take t cs ++ l) (sym (drop-cons cs t (0, 0) h)) ∙ take-append-drop t cs
+      whole = ap (λ (l : List Entry). take t cs ++ l) (sym (drop-cons cs t (0, 0) h)) ∙ take-append-drop t cs
 
 -- only cells of the grid are squares
 pub square-below : (g : Grid) (cells : List ℕ) (c : ℕ) → So (square (take (size g) cells) c) → c < size g
@@ -112,7 +112,7 @@ square-below g cells c h = go (decLt c (size g))
 -- the arrays hold the first cells of the breadth-first list from b; those before place t were taken in turn, and what is left to do makes
 -- the whole list of them
 pub record Run (g : Grid) (cells : List ℕ) (b : ℕ) (order from : List ℕ) (count t : ℕ) : Type 0 where
-  pub cs : List Literal
+  pub cs : List Entry
   pub listing : Listing (size g) order from count cs
   pub room : Room order from count
   pub start : So (square (take (size g) cells) b)
@@ -146,7 +146,7 @@ module _ (g : Grid) (cells : List ℕ) (b : ℕ) where
 
     -- it is taken
     pub run-more : {order′ from′ : List ℕ} {r : ℕ}
-        → ((cs : List Literal) → Listing (size g) order from count cs → Listing (size g) order′ from′ r (cs ++ appended g (take (size g) cells) cs (getD order t 0)))
+        → ((cs : List Entry) → Listing (size g) order from count cs → Listing (size g) order′ from′ r (cs ++ appended g (take (size g) cells) cs (getD order t 0)))
         → Room order′ from′ r → count ≤ r → Run g cells b order′ from′ r (t + 1)
     run-more f m l =
         let e = order-at (R .listing) t h in
@@ -169,7 +169,7 @@ module _ (g : Grid) (cells : List ℕ) (b : ℕ) where
 
 -- ---- the path, cell by cell
 
-mark-seen : (cs : List Literal) (i : ℕ) → seen cs i ≡ true → parentMark cs i ≡ parent cs i
+mark-seen : (cs : List Entry) (i : ℕ) → seen cs i ≡ true → parentMark cs i ≡ parent cs i
 unfolding parentMark parent any
 mark-seen [] i h = let z : _≡_ {A = ℕ} 0 1 = cc in absurd (omega arith)
 mark-seen (c ∷ cs) i h = go (eqb (c .0) i) h (λ k. mark-seen cs i k)
@@ -179,16 +179,16 @@ mark-seen (c ∷ cs) i h = go (eqb (c .0) i) h (λ k. mark-seen cs i k)
     go false h ih = ih h
 
 -- the mark of a listed cell is its parent
-pub mark-parent : (cs : List Literal) (i : ℕ) → Listed cs i → parentMark cs i ≡ parent cs i
+pub mark-parent : (cs : List Entry) (i : ℕ) → Listed cs i → parentMark cs i ≡ parent cs i
 mark-parent cs i l = mark-seen cs i (so-seen cs i l)
 
 -- it ends at b
-pub path-end : (k : ℕ) (cs : List Literal) (b : ℕ) → path k cs b b ≡ b ∷ []
+pub path-end : (k : ℕ) (cs : List Entry) (b : ℕ) → path k cs b b ≡ b ∷ []
 unfolding path
 path-end zero cs b = refl
 path-end (suc k) cs b = rw (eq-eqb b b refl) refl
 
 -- it goes on with the parent
-pub path-on : (k : ℕ) (cs : List Literal) (a b : ℕ) → (a ≡ b → ⊥) → path (suc k) cs a b ≡ a ∷ path k cs (parent cs a) b
+pub path-on : (k : ℕ) (cs : List Entry) (a b : ℕ) → (a ≡ b → ⊥) → path (suc k) cs a b ≡ a ∷ path k cs (parent cs a) b
 unfolding path
 path-on k cs a b h = rw (ne-eqb a b h) refl

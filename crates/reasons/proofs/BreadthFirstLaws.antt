@@ -19,7 +19,7 @@ use Rattle.grid.proofs.GridLaws.{apart}
 use Rattle.board.specs.Board.{Literal, square}
 use Rattle.kinds.specs.Meaning.{Block}
 use Rattle.kinds.proofs.Bridge.{Setting, boardOf, sq<}
-use Rattle.reasons.specs.Reasons.{each, breadthFirst, parent, path, reason2}
+use Rattle.reasons.specs.Reasons.{Entry, each, breadthFirst, parent, path, reason2}
 use Rattle.reasons.specs.Search.{seen, appended}
 use Rattle.reasons.specs.BreadthFirst.{Listed, Appends, through, append, pass, Builds, built, turn, BreadthFirst, Runs, arrived, onward, ByParents}
 use Rattle.reasons.proofs.Sound2.{two-of}
@@ -28,7 +28,7 @@ use Rattle.reasons.proofs.Walk.{seen-so, so-seen, listed-left, listed-c
 -- ---- what a cell appends
 
 -- the square neighbours that are not in the list from before its turn: no neighbour comes twice
-appends : (cells : List ℕ) (base : List Literal) (c : ℕ) (js : List ℕ) (l : List Literal) → Distinct js
+appends : (cells : List ℕ) (base : List Entry) (c : ℕ) (js : List ℕ) (l : List Entry) → Distinct js
     → ((j : ℕ) → List·Memᴰ j js → Listed l j → Listed base j) → ((j : ℕ) → List·Memᴰ j js → Listed base j → Listed l j)
     → Appends cells c js l (map (λ j. (j, c)) (filter (λ j. square cells j && not (seen base j)) js))
 unfolding filter
@@ -39,11 +39,11 @@ appends cells base c (j ∷ js) l d f h =
     test : ℕ → Bool
     test k = square cells k && not (seen base k)
 
-    new : List Literal
+    new : List Entry
     new = map (λ k. (k, c)) (filter test js)
 
     IH : Type 0
-    IH = (l : List Literal) → ((k : ℕ) → List·Memᴰ k js → Listed l k → Listed base k) → ((k : ℕ) → List·Memᴰ k js → Listed base k → Listed l k) → Appends cells c js l new
+    IH = (l : List Entry) → ((k : ℕ) → List·Memᴰ k js → Listed l k → Listed base k) → ((k : ℕ) → List·Memᴰ k js → Listed base k → Listed l k) → Appends cells c js l new
 
     still : (k : ℕ) → List·Memᴰ k js → Listed l k ⊎ Listed ((j, c) ∷ []) k → Listed base k
     still k m (inl q) = f k (List·Memᴰ·tail m) q
@@ -59,21 +59,21 @@ appends cells base c (j ∷ js) l d f h =
         (ih l (λ k m. f k (List·Memᴰ·tail m)) (λ k m. h k (List·Memᴰ·tail m))))
 
 -- it appends nothing else
-appends-only : {cells : List ℕ} {c : ℕ} {js : List ℕ} {l new other : List Literal} → Appends cells c js l new → Appends cells c js l other → new ≡ other
+appends-only : {cells : List ℕ} {c : ℕ} {js : List ℕ} {l new other : List Entry} → Appends cells c js l new → Appends cells c js l other → new ≡ other
 appends-only through through = refl
 appends-only {c} (append {j} s n r) (append s′ n′ r′) = ap (λ z. (j, c) ∷ z) (appends-only r r′)
 appends-only (append s n r) (pass h r′) = absurd (h (s, n))
 appends-only (pass h r) (append s n r′) = absurd (h (s, n))
 appends-only (pass h r) (pass h′ r′) = appends-only r r′
 
-builds-only : {g : Grid} {cells : List ℕ} {done todo l other : List Literal} → Builds g cells done todo l → Builds g cells done todo other → l ≡ other
+builds-only : {g : Grid} {cells : List ℕ} {done todo l other : List Entry} → Builds g cells done todo l → Builds g cells done todo other → l ≡ other
 builds-only built built = refl
 builds-only {g} {cells} {other = other} (turn {c} {done} {todo} r b) (turn r′ b′) =
     builds-only b (subst (λ z. Builds g cells (done ++ (c ∷ [])) (todo ++ z) other) (appends-only r′ r) b′)
 
 -- ---- the parent of a listed cell
 
-parent-mem : (cs : List Literal) (x : ℕ) → Listed cs x → List·Memᴰ (x, parent cs x) cs
+parent-mem : (cs : List Entry) (x : ℕ) → Listed cs x → List·Memᴰ (x, parent cs x) cs
 unfolding parent
 parent-mem [] x (p, m) = absurd (List·Memᴰ·not-nil m)
 parent-mem (c ∷ cs) x (p, m) = go (dec-so (eqb (c .0) x)) m (λ k. parent-mem cs x (p, k))
@@ -86,10 +86,10 @@ parent-mem (c ∷ cs) x (p, m) = go (dec-so (eqb (c .0) x)) m (λ k. parent-mem 
 module _ (g : Grid) (cells : List ℕ)
     (sq< : (c : ℕ) → So (square cells c) → c < size g) (b : ℕ) (sb : So (square cells b)) where
   -- the breadth-first list from b, as it is computed
-  abbrev whole : List Literal
+  abbrev whole : List Entry
   whole = breadthFirst g cells (size g) [] ((b, b) ∷ [])
 
-  builds : (k : ℕ) (done todo : List Literal) → k + length done ≡ size g → Tree g cells sq< b sb (done ++ todo) → Builds g cells done todo (breadthFirst g cells k done todo)
+  builds : (k : ℕ) (done todo : List Entry) → k + length done ≡ size g → Tree g cells sq< b sb (done ++ todo) → Builds g cells done todo (breadthFirst g cells k done todo)
   unfolding breadthFirst appended
   builds zero done [] e t = subst (Builds g cells done []) (sym (append-nil done)) built
   builds zero done (x ∷ xs) e t = absurd (omega (arith, tree-length g cells sq< b sb t, length-append done (x ∷ xs)))
@@ -98,10 +98,10 @@ module _ (g : Grid) (cells : List ℕ)
       turn (appends cells base (x .0) (neighbours g (x .0)) base (apart g (x .0) x<) (λ j m q. q) (λ j m q. q))
       (builds k (done ++ (x ∷ [])) (todo ++ new) (omega (arith, length-append done (x ∷ []))) (subst (Tree g cells sq< b sb) joined (tree-step g cells sq< b sb base (x .0) t lx)))
     where
-      base : List Literal
+      base : List Entry
       base = done ++ (x ∷ todo)
 
-      new : List Literal
+      new : List Entry
       new = appended g cells base (x .0)
 
       lx : Listed base (x .0)
@@ -118,15 +118,15 @@ module _ (g : Grid) (cells : List ℕ)
   breadth-first = builds (size g) [] ((b, b) ∷ []) (omega arith) root
 
   -- it is the only breadth-first list from b
-  pub breadth-first-only : (l : List Literal) → BreadthFirst g cells b l → l ≡ whole
+  pub breadth-first-only : (l : List Entry) → BreadthFirst g cells b l → l ≡ whole
   breadth-first-only l r = builds-only r breadth-first
 
   -- a listed cell has one parent
-  one-parent : {cs : List Literal} → Tree g cells sq< b sb cs → (x p q : ℕ) → List·Memᴰ (x, p) cs → List·Memᴰ (x, q) cs → p ≡ q
+  one-parent : {cs : List Entry} → Tree g cells sq< b sb cs → (x p q : ℕ) → List·Memᴰ (x, p) cs → List·Memᴰ (x, q) cs → p ≡ q
   one-parent root x p q m n = ap (λ z. z .1) (List·Memᴰ·eq-of-singleton m ∙ sym (List·Memᴰ·eq-of-singleton n))
   one-parent (grow {cs} j r t lr ad s new) x p q m n = go (List·Memᴰ·append-cases cs m) (List·Memᴰ·append-cases cs n) (λ m n. one-parent t x p q m n)
     where
-      final : List Literal
+      final : List Entry
       final = (j, r) ∷ []
 
       at-j : (y z : ℕ) → List·Memᴰ (y, z) final → (y ≡ j) × (z ≡ r)
@@ -142,7 +142,7 @@ module _ (g : Grid) (cells : List ℕ)
   unfolding path
   way zero x w = absurd (none (w .cs) (w .few) (w .listed))
     where
-      none : (cs : List Literal) → length cs ≤ 0 → Listed cs x → ⊥
+      none : (cs : List Entry) → length cs ≤ 0 → Listed cs x → ⊥
       none [] l q = List·Memᴰ·not-nil (q .1)
       none (c ∷ cs) l q = omega arith
   way (suc k) x w = go (dec-so (eqb x b)) (λ y v. way k y v)
@@ -175,23 +175,23 @@ module _ (g : Grid) (cells : List ℕ)
   path-runs-only a l r q = runs-same q (path-runs a l)
 
 -- what reason 2 found runs from a by parents to b
-pub found-by-parents : (set : Setting) (r : List Literal) (e : reason2 (set .grid) (set .arrows) (set .cells) ≡ some r)
-    → ByParents (set .grid) (set .cells) (two-of set r e .a) (two-of set r e .b) r
+pub found-by-parents : (set : Setting) (r : List Literal) (e : reason2 (set .puzzle) (set .cells) ≡ some r)
+    → ByParents (set .puzzle .grid) (set .cells) (two-of set r e .a) (two-of set r e .b) r
 found-by-parents set r e =
     let w = two-of set r e in
     let sb = linked-start (w .joined) in
     record {
-      list = breadthFirst (set .grid) (set .cells) (size (set .grid)) [] ((w .b, w .b) ∷ []);
-      breadth = breadth-first (set .grid) (set .cells) (sq< set) (w .b) sb;
-      way = path (size (set .grid)) (breadthFirst (set .grid) (set .cells) (size (set .grid)) [] ((w .b, w .b) ∷ [])) (w .a) (w .b);
-      runs = path-runs (set .grid) (set .cells) (sq< set) (w .b) sb (w .a) (w .joined);
+      list = breadthFirst (set .puzzle .grid) (set .cells) (size (set .puzzle .grid)) [] ((w .b, w .b) ∷ []);
+      breadth = breadth-first (set .puzzle .grid) (set .cells) (sq< set) (w .b) sb;
+      way = path (size (set .puzzle .grid)) (breadthFirst (set .puzzle .grid) (set .cells) (size (set .puzzle .grid)) [] ((w .b, w .b) ∷ [])) (w .a) (w .b);
+      runs = path-runs (set .puzzle .grid) (set .cells) (sq< set) (w .b) sb (w .a) (w .joined);
       ones = w .is;
     }
 
 -- nothing else does
-pub by-parents-only : (set : Setting) (a b : ℕ) → Block (boardOf set) b a → (r : List Literal) → ByParents (set .grid) (set .cells) a b r → r ≡ each 1 (path (size (set .grid)) (breadthFirst (set .grid) (set .cells) (size (set .grid)) [] ((b, b) ∷ [])) a b)
+pub by-parents-only : (set : Setting) (a b : ℕ) → Block (boardOf set) b a → (r : List Literal) → ByParents (set .puzzle .grid) (set .cells) a b r → r ≡ each 1 (path (size (set .puzzle .grid)) (breadthFirst (set .puzzle .grid) (set .cells) (size (set .puzzle .grid)) [] ((b, b) ∷ [])) a b)
 by-parents-only set a b l r w =
-    let g = set .grid in
+    let g = set .puzzle .grid in
     let sb = linked-start l in
     w .ones ∙ ap (each 1) (path-runs-only g (set .cells) (sq< set) b sb a l (w .way)
     (subst (λ z. Runs z b a (w .way)) (breadth-first-only g (set .cells) (sq< set) b sb (w .list) (w .breadth)) (w .runs)))

@@ -9,16 +9,17 @@ use mathlib.Core.Option.{none, some}
 use lib.ListN.{length, getD, take}
 use lib.Seq.{take-suc}
 use Rattle.grid.specs.Lists.{last}
-use Rattle.grid.specs.Grid.{Grid, size}
+use Rattle.grid.specs.Grid.{size}
 use Rattle.grid.specs.Side.{sized}
 use Rattle.grid.proofs.SideLaws.{area}
 use Rattle.grid.proofs.ListLaws.{flatMap-mem}
+use Rattle.record.specs.Record.{Puzzle}
 use Rattle.record.specs.Problem.{arrowCells}
 use Rattle.groups.specs.Groups.{marksOf, maskOf, labelArray, counts}
 use Rattle.groups.specs.Arrows.{onArrow, Line}
 use Rattle.groups.proofs.MarkLaws.{arrow-marks}
 use Rattle.groups.proofs.LabelLaws.{labels-potential, labels-blocks}
-use Rattle.kinds.specs.Inside.{Held, Given}
+use Rattle.kinds.specs.Inside.{puzzleWith, Held, Given}
 use Rattle.kinds.specs.Kinds.{view}
 use Rattle.board.specs.Board.{Literal}
 use Rattle.reasons.specs.declared.Name.{Name}
@@ -48,7 +49,7 @@ pub nobody-found : {f : Found} (r : ℕ → List Literal) {name : Name} (a : Lis
 unfolding foundAt
 nobody-found r a e n = rw (e, n) (found-none a)
 
-module _ (h w : ℕ) (arrows : List (List ℕ)) (cells : List ℕ) {ends : Ends} (c : Crossing (sized h w) arrows cells ends) where
+module _ (h w : ℕ) (arrows : List (List ℕ)) (cells : List ℕ) {ends : Ends} (c : Crossing (puzzleWith (sized h w) arrows) cells ends) where
   -- the ends of a path are squares of one block
   pub crossing-ends : {a b : ℕ} → ends ≡ Between a b → h ≤ 32 → w ≤ 32 → PathEnds h w cells a b
   unfolding SameBlock
@@ -56,12 +57,12 @@ module _ (h w : ℕ) (arrows : List (List ℕ)) (cells : List ℕ) {ends : Ends}
 
   -- the path is the reason
   pub crossing-found : {a b k : ℕ} {before after : List ℕ} → ends ≡ Between a b → Wrote (each 1 (path (size (sized h w)) (listFrom h w cells b) a b)) before after k
-      → FoundAs (reason2 (sized h w) arrows cells) before after (Reason k)
+      → FoundAs (reason2 (puzzleWith (sized h w) arrows) cells) before after (Reason k)
   unfolding foundWay
   crossing-found e x = rw (c .reason, e) (wrote-found x)
 
   -- without ends there is none
-  pub crossing-none : (before : List ℕ) → ends ≡ Nowhere → FoundAs (reason2 (sized h w) arrows cells) before before Nothing
+  pub crossing-none : (before : List ℕ) → ends ≡ Nowhere → FoundAs (reason2 (puzzleWith (sized h w) arrows) cells) before before Nothing
   unfolding foundWay
   crossing-none before e = rw (c .reason, e) (found-none before)
 
@@ -97,14 +98,14 @@ module _ (h w : ℕ) (tall : h ≤ 32) (wide : w ≤ 32) {arrows ends : List ℕ
 
   -- the potential groups and the blocks that were labelled
   pub potentials-held : (cells : List ℕ) {labels onarrow : List ℕ} → labels ≡ labelArray (sized h w) (counts true (take (h * w) cells)) → onarrow ≡ marksOf (take total arrows)
-      → PotentialArrays (sized h w) (linesOf arrows ends number) (take (h * w) cells) labels onarrow
+      → PotentialArrays (puzzleWith (sized h w) (linesOf arrows ends number)) (take (h * w) cells) labels onarrow
   potentials-held cells l m = record {
     groups-are = l ∙ labels-potential (sized h w) (take (h * w) cells) (rw (← sized-size h w) (area h w tall wide));
     arrows-are = m ∙ marks-are;
   }
 
   pub blocks-held : (cells : List ℕ) {labels onarrow : List ℕ} → labels ≡ labelArray (sized h w) (counts false (take (h * w) cells)) → onarrow ≡ marksOf (take total arrows)
-      → Given (sized h w) (linesOf arrows ends number) (take (h * w) cells) labels onarrow
+      → Given (puzzleWith (sized h w) (linesOf arrows ends number)) (take (h * w) cells) labels onarrow
   blocks-held cells l m = record {
     named = l ∙ labels-blocks (sized h w) (take (h * w) cells) (rw (← sized-size h w) (area h w tall wide));
     marked = m ∙ marks-are;
@@ -137,23 +138,23 @@ never-refused f {a} {b} x e = not-refused f (subst (FoundAs f a b) e x)
 pub fit-after : {h w : ℕ} {a b : List ℕ} → Fit h w a → b ≡ a → Fit h w b
 fit-after f e = record { tall = f .tall; wide = f .wide; room = rw e (f .room) }
 
-module _ (g : Grid) (lines : List (List ℕ)) (cells : List ℕ) {a b : List ℕ} {r : Finding} (x : FoundAs (reason1 g lines cells) a b r) where
+module _ (p : Puzzle) (cells : List ℕ) {a b : List ℕ} {r : Finding} (x : FoundAs (reason1 p cells) a b r) where
   -- reason 1 applies
-  pub first-found : {k : ℕ} → r ≡ Reason k → FoundAs (findReason g lines cells) a b (Reason k)
+  pub first-found : {k : ℕ} → r ≡ Reason k → FoundAs (findReason p cells) a b (Reason k)
   unfolding findReason
-  first-found e = found-first (reason1 g lines cells) _ (subst (FoundAs (reason1 g lines cells) a b) e x)
+  first-found e = found-first (reason1 p cells) _ (subst (FoundAs (reason1 p cells) a b) e x)
 
-  module _ (e : r ≡ Nothing) {c : List ℕ} {q : Finding} (y : FoundAs (reason2 g lines cells) b c q) where
+  module _ (e : r ≡ Nothing) {c : List ℕ} {q : Finding} (y : FoundAs (reason2 p cells) b c q) where
     -- reason 2 applies
-    pub second-found : {k : ℕ} → q ≡ Reason k → FoundAs (findReason g lines cells) a c (Reason k)
+    pub second-found : {k : ℕ} → q ≡ Reason k → FoundAs (findReason p cells) a c (Reason k)
     unfolding findReason
     second-found d =
-        found-next (reason1 g lines cells) _ (subst (FoundAs (reason1 g lines cells) a b) e x)
-        (found-first (reason2 g lines cells) _ (subst (FoundAs (reason2 g lines cells) b c) d y))
+        found-next (reason1 p cells) _ (subst (FoundAs (reason1 p cells) a b) e x)
+        (found-first (reason2 p cells) _ (subst (FoundAs (reason2 p cells) b c) d y))
 
     -- neither applies
-    pub rest-found : q ≡ Nothing → {t : List ℕ} {r′ : Finding} → FoundAs (reason34 (view g lines cells)) c t r′ → FoundAs (findReason g lines cells) a t r′
+    pub rest-found : q ≡ Nothing → {t : List ℕ} {r′ : Finding} → FoundAs (reason34 (view p cells)) c t r′ → FoundAs (findReason p cells) a t r′
     unfolding findReason
     rest-found d z =
-        found-next (reason1 g lines cells) _ (subst (FoundAs (reason1 g lines cells) a b) e x)
-        (found-next (reason2 g lines cells) _ (subst (FoundAs (reason2 g lines cells) b c) d y) z)
+        found-next (reason1 p cells) _ (subst (FoundAs (reason1 p cells) a b) e x)
+        (found-next (reason2 p cells) _ (subst (FoundAs (reason2 p cells) b c) d y) z)

@@ -13,6 +13,7 @@ use borrow.Author.Tests.{eqb-true, eqb-false, eq-eqb, ne-eqb}
 use Rattle.grid.specs.Lists.{range, upto, filter}
 use Rattle.grid.specs.Grid.{Grid, size, cellsOf}
 use Rattle.grid.proofs.ListLaws.{split, upto-mem, filter-mem}
+use Rattle.record.specs.Record.{Puzzle}
 use Rattle.board.specs.Board.{square}
 use Rattle.groups.specs.Groups.{Joined, labels, labelArray, maskOf, group, names}
 use Rattle.groups.specs.Arrows.{onArrow}
@@ -167,7 +168,7 @@ first-mem t (x ∷ xs) f e = go (t x) e (λ k. first-mem t xs f k)
 pub first-below : (t : ℕ → Bool) (n f : ℕ) → firstName t (upto n) ≡ At f → f < n
 first-below t n f e = upto-mem n (first-mem t (upto n) f e)
 
-module _ (g : Grid) (arrows : List (List ℕ)) (cells first second : List ℕ) (L : ℕ → List ℕ) (q : ℕ → Bool) where
+module _ (g : Grid) (cells first second : List ℕ) (L : ℕ → List ℕ) (q : ℕ → Bool) where
   -- two arrow cells of one block
   record Two (f : ℕ) : Type 0 where
     first-is : getD first f 0 ≡ getD (L f) 0 1024
@@ -180,14 +181,14 @@ module _ (g : Grid) (arrows : List (List ℕ)) (cells first second : List ℕ) (
 
   -- a block with fewer than two, or two
   one-block : (x : ℕ) (l : List ℕ) → l ≡ L x → Two x → (xs : List ℕ)
-      → firstOf (λ f. reason2At g arrows cells (L f)) (filter q xs) ≡ foundWay g cells (endsAt first second (firstName test xs)) → SameBlock g cells (endsAt first second (firstName test xs))
-      → (firstOf (λ f. reason2At g arrows cells (L f)) (cond (q x) (x ∷ filter q xs) (filter q xs)) ≡ foundWay g cells (endsAt first second (cond (test x) (At x) (firstName test xs))))
+      → firstOf (λ f. reason2At g cells (L f)) (filter q xs) ≡ foundWay g cells (endsAt first second (firstName test xs)) → SameBlock g cells (endsAt first second (firstName test xs))
+      → (firstOf (λ f. reason2At g cells (L f)) (cond (q x) (x ∷ filter q xs) (filter q xs)) ≡ foundWay g cells (endsAt first second (cond (test x) (At x) (firstName test xs))))
       × SameBlock g cells (endsAt first second (cond (test x) (At x) (firstName test xs)))
   unfolding test firstOf reason2At orElse foundWay SameBlock
   one-block x l e T xs ih jh = go (q x) l e
     where
       F : ℕ → Found
-      F f = reason2At g arrows cells (L f)
+      F f = reason2At g cells (L f)
 
       go : (b : Bool) (l : List ℕ) → l ≡ L x
           → (firstOf F (cond b (x ∷ filter q xs) (filter q xs)) ≡ foundWay g cells (endsAt first second (cond (b && not (eqb (getD second x 0) 1024)) (At x) (firstName test xs))))
@@ -200,22 +201,28 @@ module _ (g : Grid) (arrows : List (List ℕ)) (cells first second : List ℕ) (
           rw (T .second-is, ← e, ne-eqb b 1024 (λ z. omega (arith, z)), T .first-is, T .second-is, ← e) (refl, T .joined a b (rw (← e) (List·Memᴰ·head refl)) (rw (← e) (List·Memᴰ·tail (List·Memᴰ·head refl))))
 
   all-blocks : (xs : List ℕ) → ((f : ℕ) → List·Memᴰ f xs → Two f)
-      → (firstOf (λ f. reason2At g arrows cells (L f)) (filter q xs) ≡ foundWay g cells (endsAt first second (firstName test xs))) × SameBlock g cells (endsAt first second (firstName test xs))
+      → (firstOf (λ f. reason2At g cells (L f)) (filter q xs) ≡ foundWay g cells (endsAt first second (firstName test xs))) × SameBlock g cells (endsAt first second (firstName test xs))
   unfolding firstName filter firstOf foundWay SameBlock
   all-blocks [] h = (refl, tt)
   all-blocks (x ∷ xs) h = let r = all-blocks xs (λ f m. h f (List·Memᴰ·tail m)) in one-block x (L x) refl (h x (List·Memᴰ·head refl)) xs (r .0) (r .1)
 
 -- reason 2 by the first name that has a second arrow cell
-pub crossing-is : (g : Grid) (arrows : List (List ℕ)) (cells blocks onarrow : List ℕ) (n : ℕ) (first second : List ℕ) → n ≤ 1024 → n ≡ size g → Given g arrows cells blocks onarrow
+pub crossing-is : (puzzle : Puzzle) (cells blocks onarrow : List ℕ) (n : ℕ) (first second : List ℕ) → n ≤ 1024 → n ≡ size (puzzle .grid) → Given puzzle cells blocks onarrow
     → Firsts blocks onarrow n n first second
-    → Crossing g arrows cells (endsAt first second (firstName (λ f. eqb (getD blocks f 0) f && not (eqb (getD second f 0) 1024)) (upto n)))
+    → Crossing puzzle cells (endsAt first second (firstName (λ f. eqb (getD blocks f 0) f && not (eqb (getD second f 0) 1024)) (upto n)))
 unfolding reason2 names cellsOf test
-crossing-is g arrows cells blocks onarrow n first second s e B F =
-    let r = all-blocks g arrows cells first second L q (upto (size g)) (λ f m. two f (upto-mem (size g) m)) in
+crossing-is puzzle cells blocks onarrow n first second s e B F =
+    let r = all-blocks g cells first second L q (upto (size g)) (λ f m. two f (upto-mem (size g) m)) in
     let same : firstName (λ f. eqb (getD blocks f 0) f && not (eqb (getD second f 0) 1024)) (upto n) ≡ firstName (λ f. q f && not (eqb (getD second f 0) 1024)) (upto (size g))
     = ap (λ (m : ℕ). firstName (λ f. eqb (getD blocks f 0) f && not (eqb (getD second f 0) 1024)) (upto m)) e ∙ first-upto _ _ (size g) (λ f h. rw (own f h) refl) in
     record { reason = rw same (r .0); joined = rw same (r .1) }
   where
+    g : Grid
+    g = puzzle .grid
+
+    arrows : List (List ℕ)
+    arrows = puzzle .arrows
+
     p : ℕ → Bool
     p = square cells
 
@@ -246,7 +253,7 @@ crossing-is g arrows cells blocks onarrow n first second s e B F =
         ∙ sym (filter-filter (onArrow arrows) (λ i. eqb (getD (labelArray g p) i 0) f) (upto (size g)))
         ∙ ap (filter (onArrow arrows)) (label-group g p f h)
 
-    two : (f : ℕ) → f < size g → Two g arrows cells first second L q f
+    two : (f : ℕ) → f < size g → Two g cells first second L q f
     two f h = record {
       first-is = F .first-are f (omega arith) ∙ ap (λ (l : List ℕ). getD l 0 1024) (list f (omega arith));
       second-is = F .second-are f (omega arith) ∙ ap (λ (l : List ℕ). getD l 1 1024) (list f (omega arith));

@@ -63,7 +63,7 @@ module _ (p : Puzzle) (v : Valid p) {ds : List Literal} (s : Standing (p .grid) 
   -- and so is the reason that applies
   pub reason-on : reasonOn (boardOf p ds) ≡ findOn p ds
   unfolding reasonOn findOn boardOf
-  reason-on = rw (cells-on, problem-puzzle p v) (unfold gridOf problemOf in refl)
+  reason-on = rw (cells-on, problem-puzzle p v) refl
 
   well : wellFormed (boardOf p ds) ≡ true
   well = is-whole (boardOf p ds) (standing-whole p v s)
@@ -133,7 +133,7 @@ demand-3 s p read cs ds = record {
     reason cs a r e = told-reason p v (calls-standing (p .grid) cs) (low cs) a r (rw (board cs) at e)
 
     full-board : Full (p .grid) (cellsOn (boardAfter s cs)) → (a : List ℕ) → enough (p .grid) ≤ length a
-        → (answerOn (boardAfter s cs) a ≡ ok none) ↔ BlockRules (p .grid) (p .arrows) (cellsOn (boardAfter s cs))
+        → (answerOn (boardAfter s cs) a ≡ ok none) ↔ BlockRules p (cellsOn (boardAfter s cs))
     full-board full a h =
         let shown : cellsOn (boardAfter s cs) ≡ cellsAfter (p .grid) (standing p cs) = rw (board cs) (cells-on p v (calls-standing (p .grid) cs)) in
         let q = m .finds (rw shown at full) in

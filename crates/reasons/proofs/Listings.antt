@@ -14,8 +14,9 @@ use borrow.Author.Tests.{eqb-true, eqb-false, eq-eqb, ne-eqb}
 use Rattle.grid.specs.Lists.{any, filter, Distinct}
 use Rattle.grid.specs.Grid.{Grid, size, neighbours}
 use Rattle.grid.proofs.ListLaws.{split, so-false, at-mem}
-use Rattle.board.specs.Board.{Literal, square}
+use Rattle.board.specs.Board.{square}
 use Rattle.reasons.proofs.Pass.{filter-more}
+use Rattle.reasons.specs.Reasons.{Entry}
 use Rattle.reasons.specs.Search.{seen, appended, parentMark, unlisted, Listing, wanted, Offered, Room}
 
 -- ---- room
@@ -100,7 +101,7 @@ module _ {cells from order : List ℕ} {count j p : ℕ} {from′ order′ : Lis
       go false = omega arith
 
 -- a cell is marked as not listed exactly where it is not
-unseen : (cs : List Literal) → ((c : Literal) → List·Memᴰ c cs → c .1 < 1024) → (i : ℕ) → eqb (parentMark cs i) 1024 ≡ not (seen cs i)
+unseen : (cs : List Entry) → ((c : Entry) → List·Memᴰ c cs → c .1 < 1024) → (i : ℕ) → eqb (parentMark cs i) 1024 ≡ not (seen cs i)
 unfolding parentMark any
 unseen [] h i = refl
 unseen (c ∷ cs) h i = go (eqb (c .0) i) (unseen cs (λ d m. h d (List·Memᴰ·tail m)) i)
@@ -110,7 +111,7 @@ unseen (c ∷ cs) h i = go (eqb (c .0) i) (unseen cs (λ d m. h d (List·Memᴰ�
     go false e = e
 
 -- the parents of a list with one cell more, which was not listed
-mark-more : (cs : List Literal) (j p i : ℕ) → parentMark (cs ++ ((j, p) ∷ [])) i ≡ cond (seen cs i) (parentMark cs i) (cond (eqb j i) p 1024)
+mark-more : (cs : List Entry) (j p i : ℕ) → parentMark (cs ++ ((j, p) ∷ [])) i ≡ cond (seen cs i) (parentMark cs i) (cond (eqb j i) p 1024)
 unfolding parentMark any
 mark-more [] j p i = refl
 mark-more (c ∷ cs) j p i = go (eqb (c .0) i) (mark-more cs j p i)
@@ -120,7 +121,7 @@ mark-more (c ∷ cs) j p i = go (eqb (c .0) i) (mark-more cs j p i)
     go true e = refl
     go false e = e
 
-mark-unseen : (cs : List Literal) (i : ℕ) → seen cs i ≡ false → parentMark cs i ≡ 1024
+mark-unseen : (cs : List Entry) (i : ℕ) → seen cs i ≡ false → parentMark cs i ≡ 1024
 unfolding parentMark any
 mark-unseen [] i h = refl
 mark-unseen (c ∷ cs) i h = go (eqb (c .0) i) h (λ k. mark-unseen cs i k)
@@ -129,7 +130,7 @@ mark-unseen (c ∷ cs) i h = go (eqb (c .0) i) h (λ k. mark-unseen cs i k)
     go true h ih = let z : _≡_ {A = ℕ} 0 1 = cc in absurd (omega arith)
     go false h ih = ih h
 
-module _ {n : ℕ} {order from : List ℕ} {count : ℕ} {cs : List Literal} (L : Listing n order from count cs) (cells : List ℕ) where
+module _ {n : ℕ} {order from : List ℕ} {count : ℕ} {cs : List Entry} (L : Listing n order from count cs) (cells : List ℕ) where
   -- the code's test is the list's
   pub wanted-is : (j : ℕ) → j < n → wanted cells from j ≡ (square cells j && not (seen cs j))
   unfolding wanted square
@@ -141,12 +142,12 @@ module _ {n : ℕ} {order from : List ℕ} {count : ℕ} {cs : List Literal} (L 
     order-long = length-set order count j ∙ L .order-long;
     from-long = length-set from j p ∙ L .from-long;
     many = simp length-append (omega (arith, L .many));
-    cells-are = rw (add-one count) (take-suc-set order count j (omega (arith, L .order-long)) ∙ rw (L .cells-are) (sym (map-append (λ (c : Literal). c .0) cs ((j, p) ∷ []))));
+    cells-are = rw (add-one count) (take-suc-set order count j (omega (arith, L .order-long)) ∙ rw (L .cells-are) (sym (map-append (λ (c : Entry). c .0) cs ((j, p) ∷ []))));
     parents-are = λ i i<. go i i< (split (eqb j i));
     parents-low = λ c x. low c (List·Memᴰ·append-cases cs x);
   }
     where
-      low : (c : Literal) → List·Memᴰ c cs ⊎ List·Memᴰ c ((j, p) ∷ []) → c .1 < 1024
+      low : (c : Entry) → List·Memᴰ c cs ⊎ List·Memᴰ c ((j, p) ∷ []) → c .1 < 1024
       low c (inl x) = L .parents-low c x
       low c (inr x) = rw (List·Memᴰ·eq-of-singleton x) l
 
@@ -186,7 +187,7 @@ offered-take n {cells} {from} {order} {count} {j} h o =
     record { number = rw e (o .number); parents = rw e (o .parents); listed = rw e (o .listed) }
 
 -- a cell that is none of those appended is listed if it was before
-seen-other : (cs : List Literal) (c j : ℕ) (t : ℕ → Bool) (l : List ℕ) → ¬ List·Memᴰ j l → seen (cs ++ map (λ i. (i, c)) (filter t l)) j ≡ seen cs j
+seen-other : (cs : List Entry) (c j : ℕ) (t : ℕ → Bool) (l : List ℕ) → ¬ List·Memᴰ j l → seen (cs ++ map (λ i. (i, c)) (filter t l)) j ≡ seen cs j
 unfolding any filter
 seen-other [] c j t l n = so-false _ (λ h. none l n h)
   where
@@ -209,9 +210,9 @@ distinct-before (x ∷ xs) zero d h m = List·Memᴰ·not-nil m
 distinct-before (x ∷ xs) (suc k) d h (List·Memᴰ·head e) = d .0 (subst (λ (y : ℕ). List·Memᴰ y xs) e (at-mem xs k (omega arith)))
 distinct-before (x ∷ xs) (suc k) d h (List·Memᴰ·tail m) = distinct-before xs k (d .1) (omega arith) m
 
-module _ (g : Grid) (cells : List ℕ) (cs : List Literal) (c : ℕ) where
+module _ (g : Grid) (cells : List ℕ) (cs : List Entry) (c : ℕ) where
   -- the square neighbours that are not listed yet, among the first k
-  abbrev pub news : ℕ → List Literal
+  abbrev pub news : ℕ → List Entry
   news k = map (λ j. (j, c)) (filter (λ j. square cells j && not (seen cs j)) (take k (neighbours g c)))
 
   -- the first k neighbours were offered, and one more is
@@ -233,12 +234,12 @@ module _ (g : Grid) (cells : List ℕ) (cs : List Literal) (c : ℕ) where
       old : seen (cs ++ news k) j ≡ seen cs j
       old = seen-other cs c j t (take k nb) (distinct-before nb k d h)
 
-      only : (b : Bool) → map {B = Literal} (λ (i : ℕ). (i, c)) (cond b (j ∷ []) []) ≡ cond b ((j, c) ∷ []) []
+      only : (b : Bool) → map {B = Entry} (λ (i : ℕ). (i, c)) (cond b (j ∷ []) []) ≡ cond b ((j, c) ∷ []) []
       only true = refl
       only false = refl
 
       more : news (k + 1) ≡ news k ++ cond (t j) ((j, c) ∷ []) []
-      more = rw (add-one k, take-suc nb k 0 h, filter-more t (take k nb) j, map-append {B = Literal} (λ (i : ℕ). (i, c)) (filter t (take k nb)) (cond (t j) (j ∷ []) []), only (t j)) refl
+      more = rw (add-one k, take-suc nb k 0 h, filter-more t (take k nb) j, map-append {B = Entry} (λ (i : ℕ). (i, c)) (filter t (take k nb)) (cond (t j) (j ∷ []) []), only (t j)) refl
 
       same : (cs ++ news k) ++ cond (square cells j && not (seen (cs ++ news k) j)) ((j, c) ∷ []) [] ≡ cs ++ news (k + 1)
       same = rw (old, more) (append-assoc cs (news k) (cond (t j) ((j, c) ∷ []) []))

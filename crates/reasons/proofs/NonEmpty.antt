@@ -10,11 +10,12 @@ use lib.Dec.{eqb}
 use lib.ListN.{length, length-append}
 use Rattle.grid.specs.Lists.{filter}
 use Rattle.grid.specs.Grid.{Grid}
+use Rattle.record.specs.Record.{Puzzle}
 use Rattle.board.specs.Board.{Literal, square, filled}
 use Rattle.groups.specs.Groups.{labels, group, names}
 use Rattle.groups.specs.Arrows.{Pair, onArrow}
 use Rattle.kinds.specs.Kinds.{View, view}
-use Rattle.reasons.specs.Reasons.{Found, orElse, given, firstOf, parent, path, reason1At, reason1, reason2At, reason2, reasonGrow, reason3At, reasonShrink, reason4At, reason34, findReason}
+use Rattle.reasons.specs.Reasons.{Entry, Found, orElse, given, firstOf, parent, path, reason1At, reason1, reason2At, reason2, reasonGrow, reason3At, reasonShrink, reason4At, reason34, findReason}
 use Rattle.reasons.proofs.Pass.{each-length}
 
 -- a reason with a literal, or none
@@ -45,7 +46,7 @@ given-literate true s h = some-literate s h
 given-literate false s h = none-literate
 
 -- a path has its first cell
-path-some : (k : ℕ) (cs : List Literal) (a b : ℕ) → 0 < length (path k cs a b)
+path-some : (k : ℕ) (cs : List Entry) (a b : ℕ) → 0 < length (path k cs a b)
 unfolding path
 path-some zero cs a b = omega arith
 path-some (suc k) cs a b = go (eqb a b)
@@ -54,47 +55,53 @@ path-some (suc k) cs a b = go (eqb a b)
     go true = omega arith
     go false = omega arith
 
-module _ (g : Grid) (arrows : List (List ℕ)) (cells : List ℕ) where
+module _ (p : Puzzle) (cells : List ℕ) where
+  abbrev g : Grid
+  g = p .grid
+
+  abbrev arrows : List (List ℕ)
+  arrows = p .arrows
+
   -- reason 1 has a square of its group
-  literate1 : Literate (reason1 g arrows cells)
+  literate1 : Literate (reason1 p cells)
   unfolding reason1 reason1At
   literate1 = firstOf-literate _ (names g (filled cells) (labels g (filled cells))) λ f. at (group g (filled cells) (labels g (filled cells)) f)
     where
-      at : (c : List ℕ) → Literate (reason1At g arrows cells c)
+      at : (c : List ℕ) → Literate (reason1At p cells c)
       at c = given-literate _ _ (simp (length-append, each-length) (omega arith))
 
   -- reason 2 has a
-  literate2 : Literate (reason2 g arrows cells)
+  literate2 : Literate (reason2 p cells)
   unfolding reason2 reason2At
   literate2 = firstOf-literate _ (names g (square cells) (labels g (square cells))) λ f. at (filter (onArrow arrows) (group g (square cells) (labels g (square cells)) f))
     where
-      at : (c : List ℕ) → Literate (reason2At g arrows cells c)
+      at : (c : List ℕ) → Literate (reason2At g cells c)
       at [] = none-literate
       at (a ∷ []) = none-literate
       at (a ∷ b ∷ c) = some-literate _ (rw each-length (path-some _ _ a b))
 
-module _ (v : View) (p : Pair) where
+module _ (v : View) (e : Pair) where
   -- reasons 3 and 4 have the arrow cell of cur or of last
-  grow-some : 0 < length (reasonGrow v p)
+  grow-some : 0 < length (reasonGrow v e)
   unfolding reasonGrow
   grow-some = simp (length-append, each-length) (omega arith)
 
-  shrink-some : 0 < length (reasonShrink v p)
+  shrink-some : 0 < length (reasonShrink v e)
   unfolding reasonShrink
   shrink-some = simp (length-append, each-length) (omega arith)
 
-  literate3 : Literate (reason3At v p)
+  literate3 : Literate (reason3At v e)
   unfolding reason3At
-  literate3 = given-literate _ (reasonGrow v p) grow-some
+  literate3 = given-literate _ (reasonGrow v e) grow-some
 
-  literate4 : Literate (reason4At v p)
+  literate4 : Literate (reason4At v e)
   unfolding reason4At
-  literate4 = orElse-literate _ _ (given-literate _ (reasonGrow v p) grow-some) (given-literate _ (reasonShrink v p) shrink-some)
+  literate4 = orElse-literate _ _ (given-literate _ (reasonGrow v e) grow-some) (given-literate _ (reasonShrink v e) shrink-some)
 
 -- a reason has a literal
-pub reason-some : (g : Grid) (arrows : List (List ℕ)) (cells : List ℕ) (r : List Literal) → findReason g arrows cells ≡ some r → 0 < length r
+pub reason-some : (p : Puzzle) (cells : List ℕ) (r : List Literal) → findReason p cells ≡ some r → 0 < length r
 unfolding findReason reason34 Literate
-reason-some g arrows cells =
-    let v : View = view g arrows cells in
-    orElse-literate _ _ (literate1 g arrows cells) (orElse-literate _ _ (literate2 g arrows cells)
+reason-some p cells =
+    let v : View = view p cells in
+    orElse-literate _ _ (literate1 p cells) (orElse-literate _ _ (literate2 p cells)
     (orElse-literate _ _ (firstOf-literate (reason3At v) _ (literate3 v)) (firstOf-literate (reason4At v) _ (literate4 v))))

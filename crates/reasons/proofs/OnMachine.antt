@@ -48,9 +48,9 @@ pub record OnMachine (p : Puzzle) (cs ds : List Call) : Type 0 where
   -- 3. every literal of a reason is a standing decision
   pub stands : (r : List Literal) → found p cs ≡ some r → (l : Literal) → List·Memᴰ l r → List·Memᴰ l (standing p cs)
   -- 4. no fully decided board that agrees with all literals of a reason meets the block rules
-  pub refutes : (r : List Literal) → found p cs ≡ some r → (full : List ℕ) → Full (p .grid) full → Agrees full r → ¬ BlockRules (p .grid) (p .arrows) full
+  pub refutes : (r : List Literal) → found p cs ≡ some r → (full : List ℕ) → Full (p .grid) full → Agrees full r → ¬ BlockRules p full
   -- 5. where every cell is decided, none exactly when the block rules hold
-  pub finds : Full (p .grid) (board p cs) → (found p cs ≡ none) ↔ BlockRules (p .grid) (p .arrows) (board p cs)
+  pub finds : Full (p .grid) (board p cs) → (found p cs ≡ none) ↔ BlockRules p (board p cs)
 
 -- a cell of a fully decided board is not undecided
 decided-all : (g : Grid) (cells : List ℕ) → Full g cells → (c : ℕ) → ¬ So (undecided cells c)
@@ -63,7 +63,7 @@ unfolding findOn
 on-machine s p read cs ds = record {
   indexes = standing-distinct (stand cs);
   cells = same-board (stand cs) (stand ds);
-  answer = λ same. ap (findReason (p .grid) (p .arrows)) (cells-equal (p .grid) (standing p cs) (standing p ds) (same-board (stand cs) (stand ds) .1 same));
+  answer = λ same. ap (findReason p) (cells-equal (p .grid) (standing p cs) (standing p ds) (same-board (stand cs) (stand ds) .1 same));
   stands = λ r e l m. let h = find-stands setting r e (l .0) (l .1) m in
       cell-stands (p .grid) (standing p cs) (l .0) (l .1) (h .0) (h .1) (h .2);
   refutes = λ r e full f. sound setting r e full (f .long);
@@ -74,4 +74,4 @@ on-machine s p read cs ds = record {
     stand cs = calls-standing (p .grid) cs
 
     setting : Setting
-    setting = record { grid = p .grid; arrows = p .arrows; lines = valid-arrows p (record-valid s read); cells = board p cs; valid = cells-valid (stand cs) }
+    setting = record { puzzle = p; lines = valid-arrows p (record-valid s read); cells = board p cs; valid = cells-valid (stand cs) }

@@ -45,20 +45,20 @@ module _ (v : View) (p : Pair) (f e : ℕ) (last : f ≡ getD (v .blocks) (p .la
   growth-some h = rw (← last, ← cur, lt-ltb (length (reach v e)) (length (block v f) + 1) h) refl
 
   -- last's reach with the gap is large enough, or not
-  pub gap-none : length (block v e) ≤ length (reach v f) + 1 + mostApart (v .cells) false (gap v p) → reason4bAt v p ≡ none
+  pub gap-none : length (block v e) ≤ length (reach v f) + 1 + mostApart (v .cells) false (gap p) → reason4bAt v p ≡ none
   unfolding reason4bAt blockName given
-  gap-none h = rw (← last, ← cur, le-ltb (length (reach v f) + 1 + mostApart (v .cells) false (gap v p)) (length (block v e)) h) refl
+  gap-none h = rw (← last, ← cur, le-ltb (length (reach v f) + 1 + mostApart (v .cells) false (gap p)) (length (block v e)) h) refl
 
-  pub gap-some : length (reach v f) + 1 + mostApart (v .cells) false (gap v p) < length (block v e)
-      → reason4bAt v p ≡ some (blockCellFence v e (p .last) f ++ each 0 (filter (empty (v .cells)) (gap v p)))
+  pub gap-some : length (reach v f) + 1 + mostApart (v .cells) false (gap p) < length (block v e)
+      → reason4bAt v p ≡ some (blockCellFence v e (p .last) f ++ each 0 (filter (empty (v .cells)) (gap p)))
   unfolding reason4bAt reasonShrink blockName given blockCellFence
-  gap-some h = rw (← last, ← cur, lt-ltb (length (reach v f) + 1 + mostApart (v .cells) false (gap v p)) (length (block v e)) h) refl
+  gap-some h = rw (← last, ← cur, lt-ltb (length (reach v f) + 1 + mostApart (v .cells) false (gap p)) (length (block v e)) h) refl
 
 -- ---- the gap, by places and in the array of cells
 
-pub gap-places : (v : View) (arrows : List ℕ) (last cur : ℕ) → last < cur → cur ≤ length arrows → gap v (pairAt arrows last cur) ≡ slice (last + 2) (cur - 1) arrows
+pub gap-places : (arrows : List ℕ) (last cur : ℕ) → last < cur → cur ≤ length arrows → gap (pairAt arrows last cur) ≡ slice (last + 2) (cur - 1) arrows
 unfolding gap pairAt
-gap-places v arrows last cur h long =
+gap-places arrows last cur h long =
     let back : cur - 1 + 1 ≡ cur = omega arith in
     let next : suc (last + 1) ≡ last + 2 = omega arith in
     ap tail (ap (λ (k : ℕ). init (slice (last + 1) k arrows)) (sym back) ∙ slice-init arrows (last + 1) (cur - 1) (omega arith))

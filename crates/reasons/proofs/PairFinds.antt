@@ -90,14 +90,14 @@ module _ {h w : ℕ} {lines : List (List ℕ)} {cells arrows kinds owners : List
         let k = slice-mem arrows (last + 2) (cur - 1) (omega (arith, places .long)) m in
         rw (k .3) at (s .inside (k .0) (omega (arith, k .1)) (omega (arith, k .2)))
 
-    gap-is : gap board both ≡ between
-    gap-is = gap-places board arrows last cur order (omega (arith, places .long))
+    gap-is : gap both ≡ between
+    gap-is = gap-places arrows last cur order (omega (arith, places .long))
 
-    count-is : mostApart (board .cells) false (gap board both) ≡ mostApart cells false between
+    count-is : mostApart (board .cells) false (gap both) ≡ mostApart cells false between
     unfolding view viewWith
     count-is = rw gap-is (most-taken cells (h * w) false between between-inside)
 
-    empties-are : filter (empty (board .cells)) (gap board both) ≡ filter (empty cells) between
+    empties-are : filter (empty (board .cells)) (gap both) ≡ filter (empty cells) between
     unfolding view viewWith
     empties-are = rw gap-is (empty-agree cells (h * w) between between-inside)
 

@@ -13,11 +13,13 @@ use Rattle.grid.specs.Grid.{Grid, size, cellsOf}
 use Rattle.grid.specs.Side.{sized}
 use Rattle.grid.proofs.ListLaws.{true-and, mem-any, getD-map-range}
 use Rattle.grid.proofs.GridLaws.{in-cells}
+use Rattle.record.specs.Record.{Puzzle}
 use Rattle.board.specs.Board.{empty, square}
 use Rattle.groups.specs.Groups.{labels}
 use Rattle.groups.specs.Arrows.{onArrow}
 use Rattle.groups.proofs.GroupLaws.{linked-size, label-own}
 use Rattle.kinds.specs.Kinds.{view, viewWith, vacant, inBlock, arrowBlock, kindAt, kindsOf, ownerBy, ownerArray}
+use Rattle.kinds.specs.Inside.{puzzleWith}
 use Rattle.reasons.specs.Pairs.{NextSquare, viewOn, Scene}
 use Rattle.reasons.proofs.Views.{array-at}
 
@@ -36,7 +38,10 @@ next-taken {cells} {arrows} {from} {to} {r} n x inside = record {
 }
 
 -- a square of an arrow
-module _ (g : Grid) (lines : List (List ℕ)) (cells : List ℕ) (i : ℕ) (on : i < size g) (sq : square cells i ≡ true) (arrow : onArrow lines i ≡ true) where
+module _ (p : Puzzle) (cells : List ℕ) (i : ℕ) (on : i < size (p .grid)) (sq : square cells i ≡ true) (arrow : onArrow (p .arrows) i ≡ true) where
+  abbrev g : Grid
+  g = p .grid
+
   abbrev blocks : List ℕ
   blocks = labels g (square cells)
 
@@ -44,25 +49,25 @@ module _ (g : Grid) (lines : List (List ℕ)) (cells : List ℕ) (i : ℕ) (on :
   unfolding empty square
   not-empty = rw (eqb-true (getD cells i 0) 1 sq) refl
 
-  in-arrow-block : arrowBlock g lines cells blocks (getD blocks i 0) ≡ true
+  in-arrow-block : arrowBlock p cells blocks (getD blocks i 0) ≡ true
   unfolding arrowBlock
   in-arrow-block = mem-any _ (cellsOf g) (in-cells g i on) (true-and (true-and sq (eq-eqb (getD blocks i 0) (getD blocks i 0) refl)) arrow)
 
-  kind-is : getD (kindsOf g lines cells blocks) i vacant ≡ inBlock (getD blocks i 0)
+  kind-is : getD (kindsOf p cells blocks) i vacant ≡ inBlock (getD blocks i 0)
   unfolding kindsOf kindAt cellsOf upto
   kind-is =
       let z : 0 + i ≡ i = omega arith in
-      getD-map-range (kindAt g lines cells blocks) 0 (size g) i vacant on
-      ∙ ap (kindAt g lines cells blocks) z
+      getD-map-range (kindAt p cells blocks) 0 (size g) i vacant on
+      ∙ ap (kindAt p cells blocks) z
       ∙ rw (not-empty, sq, in-arrow-block) refl
 
   -- the name of its block stands in the array
-  pub owner-is : getD (ownerArray (view g lines cells)) i 0 ≡ getD (view g lines cells .blocks) i 0
+  pub owner-is : getD (ownerArray (view p cells)) i 0 ≡ getD (view p cells .blocks) i 0
   unfolding ownerArray view viewWith ownerBy
-  owner-is = array-at g _ (λ j. ownerBy (getD (view g lines cells .floats) j 0) (getD (kindsOf g lines cells blocks) j vacant)) 0 i on ∙ rw kind-is refl
+  owner-is = array-at g _ (λ j. ownerBy (getD (view p cells .floats) j 0) (getD (kindsOf p cells blocks) j vacant)) 0 i on ∙ rw kind-is refl
 
   -- .. and is a cell of the grid
-  pub name-inside : getD (view g lines cells .blocks) i 0 < size g
+  pub name-inside : getD (view p cells .blocks) i 0 < size g
   unfolding view viewWith
   name-inside = linked-size g (square cells) on (label-own g (square cells) i on sq)
 
@@ -82,10 +87,10 @@ module _ {h w : ℕ} {lines : List (List ℕ)} {cells arrows kinds owners : List
     unfolding size
     scene-owner =
         rw (s .held .owner)
-        (owner-is (sized h w) lines (take (h * w) cells) (getD arrows k 0) (s .inside k p q) (square-taken cells (h * w) (getD arrows k 0) (s .inside k p q) ∙ sq) (s .on-arrow k p q))
+        (owner-is (puzzleWith (sized h w) lines) (take (h * w) cells) (getD arrows k 0) (s .inside k p q) (square-taken cells (h * w) (getD arrows k 0) (s .inside k p q) ∙ sq) (s .on-arrow k p q))
 
     pub scene-name : getD owners (getD arrows k 0) 0 < h * w
     unfolding size
     scene-name =
         rw scene-owner
-        (name-inside (sized h w) lines (take (h * w) cells) (getD arrows k 0) (s .inside k p q) (square-taken cells (h * w) (getD arrows k 0) (s .inside k p q) ∙ sq) (s .on-arrow k p q))
+        (name-inside (puzzleWith (sized h w) lines) (take (h * w) cells) (getD arrows k 0) (s .inside k p q) (square-taken cells (h * w) (getD arrows k 0) (s .inside k p q) ∙ sq) (s .on-arrow k p q))

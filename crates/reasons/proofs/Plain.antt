@@ -12,6 +12,7 @@ use Rattle.grid.specs.Lists.{member, last}
 use Rattle.grid.proofs.ListLaws.{mem-any, mem-member, at-mem, so-false}
 use Rattle.grid.specs.Grid.{Grid, size, Adjacent}
 use Rattle.grid.specs.Link.{linked-start, linked-trans, linked-sym}
+use Rattle.record.specs.Record.{Puzzle}
 use Rattle.board.specs.Board.{square}
 use Rattle.board.proofs.BoardLaws.{sq-below}
 use Rattle.groups.specs.Arrows.{onArrow, Pair}
@@ -38,10 +39,16 @@ unfolding onArrow
 on-line arrows t k l = mem-any (member (lineAt arrows t k)) arrows (t .1) (mem-member (lineAt arrows t k) (t .0) (at-mem (t .0) k l))
 
 -- the block rules of a full board, by positions
-abbrev pub RulesAt : Grid → List (List ℕ) → List ℕ → Type 0
-RulesAt g arrows full = Rules (Adjacent g) (λ c. So (onArrow arrows c)) g (Which arrows) (lineLen arrows) (lineAt arrows) (λ c. So (square full c))
+abbrev pub RulesAt : Puzzle → List ℕ → Type 0
+RulesAt p full = Rules (Adjacent (p .grid)) (λ c. So (onArrow (p .arrows) c)) (p .grid) (Which (p .arrows)) (lineLen (p .arrows)) (lineAt (p .arrows)) (λ c. So (square full c))
 
-module _ (g : Grid) (arrows : List (List ℕ)) (full : List ℕ) (long : length full ≡ size g) where
+module _ (p : Puzzle) (full : List ℕ) (long : length full ≡ size (p .grid)) where
+  abbrev g : Grid
+  g = p .grid
+
+  abbrev arrows : List (List ℕ)
+  arrows = p .arrows
+
   -- the squares of the full board
   abbrev S : ℕ → Type 0
   S c = So (square full c)
@@ -50,7 +57,7 @@ module _ (g : Grid) (arrows : List (List ℕ)) (full : List ℕ) (long : length 
   low c s = omega (arith, sq-below full c s, long)
 
   -- from the rules as stated to positions
-  pub plain-rules : BlockRules g arrows full → RulesAt g arrows full
+  pub plain-rules : BlockRules p full → RulesAt p full
   plain-rules r = record {
     has = λ c s. let o = r .one c (low c s) s in (o .cell, o .arrow, o .within);
     one = λ d e ad ae l. let o = r .one d (low d (linked-start l)) (linked-start l) in
@@ -58,7 +65,7 @@ module _ (g : Grid) (arrows : List (List ℕ)) (full : List ℕ) (long : length 
     grow = λ t i j jl pr. r .grown (lineAt arrows t i) (lineAt arrows t j) (next t i j jl pr);
   }
     where
-      next : (t : Which arrows) (i j : ℕ) → j < lineLen arrows t → NextAt S (lineAt arrows t) i j → Next g arrows full (lineAt arrows t i) (lineAt arrows t j)
+      next : (t : Which arrows) (i j : ℕ) → j < lineLen arrows t → NextAt S (lineAt arrows t) i j → Next p full (lineAt arrows t i) (lineAt arrows t j)
       next t i j jl pr = record {
         before = take i (t .0);
         between = mid S (t .0) i j jl pr;
@@ -70,7 +77,7 @@ module _ (g : Grid) (arrows : List (List ℕ)) (full : List ℕ) (long : length 
       }
 
   -- and back
-  pub rules-plain : RulesAt g arrows full → BlockRules g arrows full
+  pub rules-plain : RulesAt p full → BlockRules p full
   rules-plain r = record {
     one = λ i l s. let w = r .has i s in record {
       cell = w .0;
@@ -81,11 +88,11 @@ module _ (g : Grid) (arrows : List (List ℕ)) (full : List ℕ) (long : length 
     grown = grown;
   }
     where
-      grown : (i j : ℕ) → Next g arrows full i j → Grown g (SameBlock g full i) (SameBlock g full j)
+      grown : (i j : ℕ) → Next p full i j → Grown g (SameBlock g full i) (SameBlock g full j)
       grown i j n =
-          let p : Pair = record { last = i; between = n .between; cur = j } in
+          let e : Pair = record { last = i; between = n .between; cur = j } in
           let arrow : List ℕ = n .before ++ (i ∷ (n .between ++ (j ∷ n .behind))) in
-          let q : Parted full arrow p = record { before = n .before; behind = n .behind; whole = refl; first = n .first; second = n .second; none = n .none } in
-          subst (λ z. Grown g (SameBlock g full z) (SameBlock g full j)) (at-last full arrow p q)
-          (subst (λ z. Grown g (SameBlock g full (getD arrow (posLast full arrow p q) 0)) (SameBlock g full z)) (at-cur full arrow p q)
-          (r .grow (arrow, n .arrow) (posLast full arrow p q) (posCur full arrow p q) (pos-below full arrow p q) (position full arrow p q)))
+          let q : Parted full arrow e = record { before = n .before; behind = n .behind; whole = refl; first = n .first; second = n .second; none = n .none } in
+          subst (λ z. Grown g (SameBlock g full z) (SameBlock g full j)) (at-last full arrow e q)
+          (subst (λ z. Grown g (SameBlock g full (getD arrow (posLast full arrow e q) 0)) (SameBlock g full z)) (at-cur full arrow e q)
+          (r .grow (arrow, n .arrow) (posLast full arrow e q) (posCur full arrow e q) (pos-below full arrow e q) (position full arrow e q)))

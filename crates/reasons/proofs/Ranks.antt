@@ -14,6 +14,7 @@ use borrow.Author.Tests.{eqb-true, eqb-false, eq-eqb, ne-eqb}
 use Rattle.grid.specs.Lists.{range, upto, any, filter}
 use Rattle.grid.specs.Grid.{Grid, size, cellsOf}
 use Rattle.grid.proofs.ListLaws.{split, upto-mem, filter-mem}
+use Rattle.record.specs.Record.{Puzzle}
 use Rattle.board.specs.Board.{Literal, filled, square}
 use Rattle.groups.specs.Groups.{labels, labelAt, labelArray, maskOf, noGroup, group, names}
 use Rattle.groups.specs.Arrows.{onArrow}
@@ -175,14 +176,20 @@ unfolding group cellsOf
 group-below g p f i m = upto-mem (size g) (filter-mem (λ i. p i && eqb (getD (labels g p) i 0) f) (upto (size g)) m .0)
 
 -- reason 1 by the first name that is marked 1
-pub stranded-is : (g : Grid) (arrows : List (List ℕ)) (cells groups onarrow : List ℕ) (n : ℕ) (marks : List ℕ) → n ≤ 1024 → n ≡ size g → PotentialArrays g arrows (take n cells) groups onarrow
+pub stranded-is : (puzzle : Puzzle) (cells groups onarrow : List ℕ) (n : ℕ) (marks : List ℕ) → n ≤ 1024 → n ≡ size (puzzle .grid) → PotentialArrays puzzle (take n cells) groups onarrow
     → Ranked cells groups onarrow n n marks
-    → reason1 g arrows (take n cells) ≡ foundAt (boundaryOf g (take n cells)) (firstName (λ f. eqb (getD groups f 0) f && eqb (getD marks f 0) 1) (upto n))
+    → reason1 puzzle (take n cells) ≡ foundAt (boundaryOf (puzzle .grid) (take n cells)) (firstName (λ f. eqb (getD groups f 0) f && eqb (getD marks f 0) 1) (upto n))
 unfolding reason1 reason1At names cellsOf
-stranded-is g arrows cells groups onarrow n marks s e P R =
+stranded-is puzzle cells groups onarrow n marks s e P R =
     first-found q t (boundaryOf g now) (upto (size g))
     ∙ ap (foundAt (boundaryOf g now)) (sym (ap (λ (m : ℕ). firstName T (upto m)) e ∙ first-upto T (λ f. q f && t f) (size g) (λ f h. test f h)))
   where
+    g : Grid
+    g = puzzle .grid
+
+    arrows : List (List ℕ)
+    arrows = puzzle .arrows
+
     now : List ℕ
     now = take n cells
 

@@ -21,7 +21,7 @@ use Rattle.groups.specs.Groups.{labels, group, names}
 use Rattle.groups.specs.Arrows.{onArrow, Pair, pairs}
 use Rattle.kinds.specs.Kinds.{View, Kind, view, viewWith, block, reach, fence, fenceAt, vacant, barrier, floating, inBlock, beside, rival, has, isIn}
 use Rattle.reasons.proofs.Pass.{each-length}
-use Rattle.reasons.specs.Reasons.{Found, orElse, given, firstOf, each, reason1At, reason1, reason2At, reason2, path, parent, breadthFirst, blockName, reasonGrow, reason3At, gap, reasonShrink, reason4At, reason34, findReason}
+use Rattle.reasons.specs.Reasons.{Entry, Found, orElse, given, firstOf, each, reason1At, reason1, reason2At, reason2, path, parent, breadthFirst, blockName, reasonGrow, reason3At, gap, reasonShrink, reason4At, reason34, findReason}
 
 -- a reason of this length at most
 Short : ℕ → Found → Type 0
@@ -50,7 +50,7 @@ unfolding given
 given-short n true r h = some-short n r h
 given-short n false r h = none-short n
 
-path-length : (k : ℕ) (cs : List Literal) (a b : ℕ) → length (path k cs a b) ≤ suc k
+path-length : (k : ℕ) (cs : List Entry) (a b : ℕ) → length (path k cs a b) ≤ suc k
 unfolding path
 path-length zero cs a b = omega arith
 path-length (suc k) cs a b = go (eqb a b) (path k cs (parent cs a) b) (path-length k cs (parent cs a) b)
@@ -63,22 +63,28 @@ path-length (suc k) cs a b = go (eqb a b) (path k cs (parent cs a) b) (path-leng
 abbrev bound : Grid → ℕ
 bound g = 3 * size g + 1
 
-module _ (g : Grid) (arrows : List (List ℕ)) (cells : List ℕ) where
+module _ (p : Puzzle) (cells : List ℕ) where
+  abbrev g : Grid
+  g = p .grid
+
+  abbrev arrows : List (List ℕ)
+  arrows = p .arrows
+
   length1 : (c : List ℕ) → length (each 0 (filter (λ i. empty cells i && touches g c i) (cellsOf g)) ++ each 1 (last 0 (filter (square cells) c) ∷ [])) ≤ bound g
   length1 c = rw (length-append, each-length, each-length) (omega (arith, filter-length (λ i. empty cells i && touches g c i) (cellsOf g), cells-length g))
 
-  short1 : Short (bound g) (reason1 g arrows cells)
+  short1 : Short (bound g) (reason1 p cells)
   unfolding reason1 reason1At
   short1 = firstOf-short (bound g) _ (names g (filled cells) (labels g (filled cells))) λ f m. at (group g (filled cells) (labels g (filled cells)) f)
     where
-      at : (c : List ℕ) → Short (bound g) (reason1At g arrows cells c)
+      at : (c : List ℕ) → Short (bound g) (reason1At p cells c)
       at c = given-short (bound g) (any (square cells) c && not (any (onArrow arrows) c)) _ (length1 c)
 
-  short2 : Short (bound g) (reason2 g arrows cells)
+  short2 : Short (bound g) (reason2 p cells)
   unfolding reason2 reason2At
   short2 = firstOf-short (bound g) _ (names g (square cells) (labels g (square cells))) λ f m. at (filter (onArrow arrows) (group g (square cells) (labels g (square cells)) f))
     where
-      at : (c : List ℕ) → Short (bound g) (reason2At g arrows cells c)
+      at : (c : List ℕ) → Short (bound g) (reason2At g cells c)
       at [] = none-short (bound g)
       at (a ∷ []) = none-short (bound g)
       at (a ∷ b ∷ c) =
@@ -106,54 +112,54 @@ module _ (v : View) where
       one i (beside e) = omega arith
 
 -- a pair whose gap is no longer than the grid is large
-module _ (v : View) (p : Pair) (h : length (p .between) ≤ size (v .grid)) where
-  grow-length : length (reasonGrow v p) ≤ bound (v .grid)
+module _ (v : View) (e : Pair) (h : length (e .between) ≤ size (v .grid)) where
+  grow-length : length (reasonGrow v e) ≤ bound (v .grid)
   unfolding reasonGrow
-  grow-length = rw (length-append, length-append, each-length, each-length) (omega (arith, block-length v (blockName v p (p .last)), fence-length v (blockName v p (p .cur))))
+  grow-length = rw (length-append, length-append, each-length, each-length) (omega (arith, block-length v (blockName v (e .last)), fence-length v (blockName v (e .cur))))
 
-  short3 : Short (bound (v .grid)) (reason3At v p)
+  short3 : Short (bound (v .grid)) (reason3At v e)
   unfolding reason3At
-  short3 = given-short (bound (v .grid)) _ (reasonGrow v p) grow-length
+  short3 = given-short (bound (v .grid)) _ (reasonGrow v e) grow-length
 
-  shrink-length : length (reasonShrink v p) ≤ bound (v .grid)
+  shrink-length : length (reasonShrink v e) ≤ bound (v .grid)
   unfolding reasonShrink gap
   shrink-length =
       simp (length-append, each-length) (omega (
         arith,
-        block-length v (blockName v p (p .cur)),
-        fence-length v (blockName v p (p .last)),
-        filter-length (empty (v .cells)) (tail (init (p .between))),
-        length-tail (init (p .between)),
-        length-init (p .between),
+        block-length v (blockName v (e .cur)),
+        fence-length v (blockName v (e .last)),
+        filter-length (empty (v .cells)) (tail (init (e .between))),
+        length-tail (init (e .between)),
+        length-init (e .between),
       ))
 
-  short4 : Short (bound (v .grid)) (reason4At v p)
+  short4 : Short (bound (v .grid)) (reason4At v e)
   unfolding reason4At
-  short4 = orElse-short (bound (v .grid)) _ _ (given-short (bound (v .grid)) _ (reasonGrow v p) grow-length) (given-short (bound (v .grid)) _ (reasonShrink v p) shrink-length)
+  short4 = orElse-short (bound (v .grid)) _ _ (given-short (bound (v .grid)) _ (reasonGrow v e) grow-length) (given-short (bound (v .grid)) _ (reasonShrink v e) shrink-length)
 
 -- a pair's cells lie on an arrow
 pairs-length : (cells a : List ℕ) (p : Pair) → List·Memᴰ p (pairs cells a) → length (p .between) ≤ length a
 pairs-length cells a p m = omega (arith, pos-below cells a p (pairs-parted cells a p m))
 
 -- a reason is no longer than the bound, if no arrow is longer than the grid
-pub reason-length : (g : Grid) (arrows : List (List ℕ)) (cells : List ℕ) → ((a : List ℕ) → List·Memᴰ a arrows → length a ≤ size g)
-    → (r : List Literal) → findReason g arrows cells ≡ some r → length r ≤ 3 * size g + 1
+pub reason-length : (p : Puzzle) (cells : List ℕ) → ((a : List ℕ) → List·Memᴰ a (p .arrows) → length a ≤ size (p .grid))
+    → (r : List Literal) → findReason p cells ≡ some r → length r ≤ 3 * size (p .grid) + 1
 unfolding findReason reason34 Short view viewWith
-reason-length g arrows cells h =
-    orElse-short (bound g) _ _ (short1 g arrows cells) (orElse-short (bound g) _ _ (short2 g arrows cells)
-    (orElse-short (bound g) _ _ (firstOf-short (bound g) (reason3At v) ps (λ p m. short3 v p (fit p m))) (firstOf-short (bound g) (reason4At v) ps (λ p m. short4 v p (fit p m)))))
+reason-length p cells h =
+    orElse-short (bound (p .grid)) _ _ (short1 p cells) (orElse-short (bound (p .grid)) _ _ (short2 p cells)
+    (orElse-short (bound (p .grid)) _ _ (firstOf-short (bound (p .grid)) (reason3At v) ps (λ e m. short3 v e (fit e m))) (firstOf-short (bound (p .grid)) (reason4At v) ps (λ e m. short4 v e (fit e m)))))
   where
     v : View
-    v = view g arrows cells
+    v = view p cells
 
     ps : List Pair
-    ps = flatMap (pairs cells) arrows
+    ps = flatMap (pairs cells) (p .arrows)
 
-    fit : (p : Pair) → List·Memᴰ p ps → length (p .between) ≤ size g
-    fit p m = let r = flatMap-mem (pairs cells) arrows m in omega (arith, pairs-length cells (r .0) p (r .2), h (r .0) (r .1))
+    fit : (e : Pair) → List·Memᴰ e ps → length (e .between) ≤ size (p .grid)
+    fit e m = let r = flatMap-mem (pairs cells) (p .arrows) m in omega (arith, pairs-length cells (r .0) e (r .2), h (r .0) (r .1))
 
 -- a reason found on a record that is read fits the buffer
 pub found-length : (s : List ℕ) (p : Puzzle) → readRecord s ≡ ok p → (cells : List ℕ) (r : List Literal)
-    → findReason (p .grid) (p .arrows) cells ≡ some r → length r ≤ 3 * size (p .grid) + 1
+    → findReason p cells ≡ some r → length r ≤ 3 * size (p .grid) + 1
 found-length s p e cells r f =
-    reason-length (p .grid) (p .arrows) cells (λ a m. omega (arith, one-length (p .arrows) a m, arrows-length p (record-valid s e))) r f
+    reason-length p cells (λ a m. omega (arith, one-length (p .arrows) a m, arrows-length p (record-valid s e))) r f

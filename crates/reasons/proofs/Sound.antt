@@ -11,7 +11,7 @@ use lib.ListN.{length, getD}
 use borrow.Author.Tests.{lt-ltb}
 use Rattle.grid.specs.Lists.{filter, any, flatMap, last, init, tail}
 use Rattle.grid.proofs.ListLaws.{mem-filter, dec-so, true-and, so-not, any-mem, mem-any, mem-flatMap}
-use Rattle.grid.specs.Grid.{size, Adjacent}
+use Rattle.grid.specs.Grid.{Grid, size, Adjacent}
 use Rattle.grid.specs.Link.{Linked, linked-end, linked-map, here, linked-start}
 use Rattle.grid.proofs.Count.{count}
 use Rattle.board.specs.Board.{Literal, empty, square, undecided, filled, Agrees}
@@ -37,7 +37,13 @@ use Rattle.reasons.proofs.Quiet.{Quiet, quiet-rules}
 use Rattle.reasons.proofs.Gap.{most-full}
 
 module _ (set : Setting) where
-  open Setting set using (grid, arrows, cells, valid)
+  open Setting set using (puzzle, cells, valid)
+
+  abbrev grid : Grid
+  grid = puzzle .grid
+
+  abbrev arrows : List (List ℕ)
+  arrows = puzzle .arrows
 
   -- the board, as Confine takes it
   abbrev B : PartialBoard
@@ -49,24 +55,24 @@ module _ (set : Setting) where
 
   -- the view of the board
   abbrev v : View
-  v = view grid arrows cells
+  v = view puzzle cells
 
   -- the name of the block of a square
   abbrev nameOf : ℕ → ℕ
   nameOf = blockLabel set
 
   -- every reason is sound, with the rules by positions
-  pub find-sound : (r : List Literal) → findReason grid arrows cells ≡ some r → (full : List ℕ) → length full ≡ size grid → Agrees full r → ¬ RulesAt grid arrows full
+  pub find-sound : (r : List Literal) → findReason puzzle cells ≡ some r → (full : List ℕ) → length full ≡ size grid → Agrees full r → ¬ RulesAt puzzle full
   unfolding findReason
-  find-sound r e full long ag rules = go (or-else-some (reason1 grid arrows cells) _ r e)
+  find-sound r e full long ag rules = go (or-else-some (reason1 puzzle cells) _ r e)
     where
-      two : (reason2 grid arrows cells ≡ some r) ⊎ ((reason2 grid arrows cells ≡ none) × (reason34 v ≡ some r)) → ⊥
+      two : (reason2 puzzle cells ≡ some r) ⊎ ((reason2 puzzle cells ≡ none) × (reason34 v ≡ some r)) → ⊥
       two (inl k) = reason2-sound set r k full ag rules
       two (inr k) = reason34-sound set full long rules r (k .1) ag
 
-      go : (reason1 grid arrows cells ≡ some r) ⊎ ((reason1 grid arrows cells ≡ none) × (orElse (reason2 grid arrows cells) (reason34 v) ≡ some r)) → ⊥
+      go : (reason1 puzzle cells ≡ some r) ⊎ ((reason1 puzzle cells ≡ none) × (orElse (reason2 puzzle cells) (reason34 v) ≡ some r)) → ⊥
       go (inl k) = reason1-sound set full long rules r k ag
-      go (inr k) = two (or-else-some (reason2 grid arrows cells) (reason34 v) r (k .1))
+      go (inr k) = two (or-else-some (reason2 puzzle cells) (reason34 v) r (k .1))
 
   -- no reason applies
   abbrev Q : Type 0
@@ -74,13 +80,13 @@ module _ (set : Setting) where
 
   -- where no reason is given none applies
   module _ (full : (c : ℕ) → ¬ So (undecided cells c)) where
-    quiet-1 : reason1 grid arrows cells ≡ none → (s : ℕ) → So (square cells s) → ¬ ((c : ℕ) → Linked (Adjacent grid) (λ k. ¬ So (empty cells k)) s c → ¬ So (onArrow arrows c))
+    quiet-1 : reason1 puzzle cells ≡ none → (s : ℕ) → So (square cells s) → ¬ ((c : ℕ) → Linked (Adjacent grid) (λ k. ¬ So (empty cells k)) s c → ¬ So (onArrow arrows c))
     unfolding reason1 reason1At
     quiet-1 e s sq none-there =
         let fs : So (filled cells s) = filled-so set s (sq-not-em cells s sq) in
         let s< = filled< set s fs in
         let c : List ℕ = group grid (filled cells) l (getD l s 0) in
-        let k = first-none (λ f. reason1At grid arrows cells (group grid (filled cells) l f)) (names grid (filled cells) l) e (own-names grid (filled cells) s s< fs) in
+        let k = first-none (λ f. reason1At puzzle cells (group grid (filled cells) l f)) (names grid (filled cells) l) e (own-names grid (filled cells) s s< fs) in
         given-none (any (square cells) c && not (any (onArrow arrows) c)) _ k
         (true-and (mem-any (square cells) c (mem-group grid (filled cells) l (getD l s 0) s s< fs refl) sq)
         (so-not (any (onArrow arrows) c) (λ a.
@@ -90,18 +96,18 @@ module _ (set : Setting) where
         l : List ℕ
         l = labels grid (filled cells)
 
-    two-none : (a b : ℕ) (l : List ℕ) → List·Memᴰ a l → List·Memᴰ b l → a ≢ b → reason2At grid arrows cells l ≡ none → ⊥
+    two-none : (a b : ℕ) (l : List ℕ) → List·Memᴰ a l → List·Memᴰ b l → a ≢ b → reason2At grid cells l ≡ none → ⊥
     unfolding reason2At
     two-none a b [] ma mb ne e = List·Memᴰ·not-nil ma
     two-none a b (x ∷ []) ma mb ne e = ne (List·Memᴰ·eq-of-singleton ma ∙ sym (List·Memᴰ·eq-of-singleton mb))
     two-none a b (x ∷ y ∷ l) ma mb ne e = let z : _≡_ {A = ℕ} 0 1 = cc in omega arith
 
-    quiet-2 : reason2 grid arrows cells ≡ none → (a b : ℕ) → So (onArrow arrows a) → So (onArrow arrows b) → a ≢ b → ¬ Block B a b
+    quiet-2 : reason2 puzzle cells ≡ none → (a b : ℕ) → So (onArrow arrows a) → So (onArrow arrows b) → a ≢ b → ¬ Block B a b
     unfolding reason2
     quiet-2 e a b aa ab ne l =
         let a< = sq< set a (linked-start l) in
         let c : List ℕ = blockOf set (label a) in
-        let k = first-none (λ f. reason2At grid arrows cells (filter (onArrow arrows) (blockOf set f))) (names grid (square cells) (labels grid (square cells))) e (own-names grid (square cells) a a< (linked-start l)) in
+        let k = first-none (λ f. reason2At grid cells (filter (onArrow arrows) (blockOf set f))) (names grid (square cells) (labels grid (square cells))) e (own-names grid (square cells) a a< (linked-start l)) in
         two-none a b (filter (onArrow arrows) c)
         (mem-filter (onArrow arrows) c (linked-group grid (square cells) a a a< (here (linked-start l))) aa)
         (mem-filter (onArrow arrows) c (linked-group grid (square cells) a b a< l) ab) ne k
@@ -155,29 +161,29 @@ module _ (set : Setting) where
       quiet-4b h = tests .1 (lt-ltb (length (reach v (nameOf a₁)) + 1 + mostApart cells false (tail (init (both .0)))) (length (block v (nameOf c₁)))
           (omega (arith, size-reach i (omega (arith, pr .0)) (pr .1), size-block j jl (pr .2), most-full cells (tail (init (both .0))) full)))
 
-    quiet : findReason grid arrows cells ≡ none → Q
+    quiet : findReason puzzle cells ≡ none → Q
     unfolding findReason
     quiet e =
-        let w = or-else-none (reason1 grid arrows cells) (orElse (reason2 grid arrows cells) (reason34 v)) e in
-        let u = or-else-none (reason2 grid arrows cells) (reason34 v) (w .1) in
+        let w = or-else-none (reason1 puzzle cells) (orElse (reason2 puzzle cells) (reason34 v)) e in
+        let u = or-else-none (reason2 puzzle cells) (reason34 v) (w .1) in
         record { q1 = quiet-1 (w .0); q2 = quiet-2 (u .0); q3 = λ t i j jl pr. quiet-3 (u .1) t i j jl pr; q4a = λ t i j jl pr. quiet-4a (u .1) t i j jl pr; q4b = λ t i j jl pr. quiet-4b (u .1) t i j jl pr }
 
     -- on a full board none is given exactly when the block rules hold
-    pub find-full : (findReason grid arrows cells ≡ none) ↔ RulesAt grid arrows cells
-    find-full = (λ e. by-quiet (quiet e), λ r. given-up r (findReason grid arrows cells) refl)
+    pub find-full : (findReason puzzle cells ≡ none) ↔ RulesAt puzzle cells
+    find-full = (λ e. by-quiet (quiet e), λ r. given-up r (findReason puzzle cells) refl)
       where
-        by-quiet : Q → RulesAt grid arrows cells
+        by-quiet : Q → RulesAt puzzle cells
         by-quiet = quiet-rules B grid (A set) (decisions set) (dec-reach set)
             (λ c. dec-so (onArrow arrows c)) (sq< set) full
 
-        given-up : RulesAt grid arrows cells → (o : Found) → findReason grid arrows cells ≡ o → findReason grid arrows cells ≡ none
+        given-up : RulesAt puzzle cells → (o : Found) → findReason puzzle cells ≡ o → findReason puzzle cells ≡ none
         given-up r none e = e
         given-up r (some l) e = absurd (find-sound l e cells (valid .long) (λ i w m. find-stands set l e i w m .2) r)
 
   -- every reason is sound
-  pub sound : (r : List Literal) → findReason grid arrows cells ≡ some r → (full : List ℕ) → length full ≡ size grid → Agrees full r → ¬ BlockRules grid arrows full
-  sound r e full long ag rules = find-sound r e full long ag (plain-rules grid arrows full long rules)
+  pub sound : (r : List Literal) → findReason puzzle cells ≡ some r → (full : List ℕ) → length full ≡ size grid → Agrees full r → ¬ BlockRules puzzle full
+  sound r e full long ag rules = find-sound r e full long ag (plain-rules puzzle full long rules)
 
   -- on a full board none is given exactly when the block rules hold
-  pub complete : ((c : ℕ) → ¬ So (undecided cells c)) → (findReason grid arrows cells ≡ none) ↔ BlockRules grid arrows cells
-  complete full = let w = find-full full in (λ e. rules-plain grid arrows cells (valid .long) (w .0 e), λ r. w .1 (plain-rules grid arrows cells (valid .long) r))
+  pub complete : ((c : ℕ) → ¬ So (undecided cells c)) → (findReason puzzle cells ≡ none) ↔ BlockRules puzzle cells
+  complete full = let w = find-full full in (λ e. rules-plain puzzle cells (valid .long) (w .0 e), λ r. w .1 (plain-rules puzzle cells (valid .long) r))

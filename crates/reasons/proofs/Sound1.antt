@@ -12,7 +12,7 @@ use borrow.Author.Tests.{eqb-true, eq-eqb}
 use Rattle.grid.proofs.GridLaws.{in-cells, adjacent-touches, adj-sym}
 use Rattle.grid.specs.Lists.{filter, any, last}
 use Rattle.grid.proofs.ListLaws.{filter-mem, mem-filter, and-true, true-and, not-so, so-not, any-mem, mem-any, last-mem}
-use Rattle.grid.specs.Grid.{size, cellsOf, touches, Adjacent}
+use Rattle.grid.specs.Grid.{Grid, size, cellsOf, touches, Adjacent}
 use Rattle.grid.specs.Link.{Linked, linked-end, linked-map}
 use Rattle.board.specs.Board.{Literal, empty, square, undecided, filled, Agrees}
 use Rattle.board.proofs.BoardLaws.{sq-not-em}
@@ -28,7 +28,13 @@ use Rattle.reasons.proofs.Plain.{RulesAt}
 use Rattle.reasons.specs.Reasons.{each, reason1At, reason1}
 
 module _ (set : Setting) where
-  open Setting set using (grid, arrows, cells, valid)
+  open Setting set using (puzzle, cells, valid)
+
+  abbrev grid : Grid
+  grid = puzzle .grid
+
+  abbrev arrows : List (List ℕ)
+  arrows = puzzle .arrows
 
   -- the board, as Confine takes it
   abbrev B : PartialBoard
@@ -67,12 +73,12 @@ module _ (set : Setting) where
   abbrev pub bounds : List ℕ → List ℕ
   bounds c = filter (λ i. empty cells i && touches grid c i) (cellsOf grid)
 
-  module _ (full : List ℕ) (long : length full ≡ size grid) (rules : RulesAt grid arrows full) where
+  module _ (full : List ℕ) (long : length full ≡ size grid) (rules : RulesAt puzzle full) where
     -- reason 1 is sound
-    pub reason1-sound : (r : List Literal) → reason1 grid arrows cells ≡ some r → Agrees full r → ⊥
+    pub reason1-sound : (r : List Literal) → reason1 puzzle cells ≡ some r → Agrees full r → ⊥
     unfolding reason1 reason1At square
     reason1-sound r e ag =
-        let w = first-some (λ f. reason1At grid arrows cells (pot f)) (names grid (filled cells) (labels grid (filled cells))) r e in
+        let w = first-some (λ f. reason1At puzzle cells (pot f)) (names grid (filled cells) (labels grid (filled cells))) r e in
         let q = given-some (any (square cells) (pot (w .0)) && not (any (onArrow arrows) (pot (w .0)))) (each 0 (bounds (pot (w .0))) ++ each 1 (last 0 (filter (square cells) (pot (w .0))) ∷ [])) r (w .2) in
         go (w .0) (and-true (any (square cells) (pot (w .0))) _ (q .0)) (subst (Agrees full) (sym (q .1)) ag)
       where

@@ -10,7 +10,7 @@ use borrow.Author.Tests.{eq-eqb}
 use mathlib.Core.Logic.{_≢_}
 use Rattle.grid.specs.Lists.{Distinct, filter}
 use Rattle.grid.proofs.ListLaws.{filter-mem, distinct-filter}
-use Rattle.grid.specs.Grid.{size}
+use Rattle.grid.specs.Grid.{Grid, size}
 use Rattle.grid.specs.Link.{linked-start}
 use Rattle.board.specs.Board.{Literal, square, Agrees}
 use Rattle.groups.proofs.GroupLaws.{group-mem, group-distinct}
@@ -24,7 +24,13 @@ use Rattle.reasons.specs.Reasons.{each, reason2At, reason2, path, breadt
 use Rattle.reasons.proofs.Walk.{path-linked}
 
 module _ (set : Setting) where
-  open Setting set using (grid, arrows, cells, valid)
+  open Setting set using (puzzle, cells, valid)
+
+  abbrev grid : Grid
+  grid = puzzle .grid
+
+  abbrev arrows : List (List ℕ)
+  arrows = puzzle .arrows
 
   -- the board, as Confine takes it
   abbrev B : PartialBoard
@@ -48,26 +54,26 @@ module _ (set : Setting) where
     pub joined : Block B b a
     pub is : r ≡ each 1 (way a b)
 
-  none-two : {r : List Literal} → reason2At grid arrows cells [] ≡ some r → ⊥
+  none-two : {r : List Literal} → reason2At grid cells [] ≡ some r → ⊥
   unfolding reason2At
   none-two k = let z : _≡_ {A = ℕ} 0 1 = cc in omega arith
 
-  one-two : {r : List Literal} (a : ℕ) → reason2At grid arrows cells (a ∷ []) ≡ some r → ⊥
+  one-two : {r : List Literal} (a : ℕ) → reason2At grid cells (a ∷ []) ≡ some r → ⊥
   unfolding reason2At
   one-two a k = let z : _≡_ {A = ℕ} 0 1 = cc in omega arith
 
-  two-two : {r : List Literal} (a b : ℕ) (rest : List ℕ) → reason2At grid arrows cells (a ∷ b ∷ rest) ≡ some r → r ≡ each 1 (way a b)
+  two-two : {r : List Literal} (a b : ℕ) (rest : List ℕ) → reason2At grid cells (a ∷ b ∷ rest) ≡ some r → r ≡ each 1 (way a b)
   unfolding reason2At
   two-two a b rest k = cc
 
   -- what reason 2 found
-  pub two-of : (r : List Literal) → reason2 grid arrows cells ≡ some r → Two r
+  pub two-of : (r : List Literal) → reason2 puzzle cells ≡ some r → Two r
   unfolding reason2
   two-of r e =
-      let w = first-some (λ f. reason2At grid arrows cells (filter (onArrow arrows) (blockOf f))) (names grid (square cells) (labels grid (square cells))) r e in
+      let w = first-some (λ f. reason2At grid cells (filter (onArrow arrows) (blockOf f))) (names grid (square cells) (labels grid (square cells))) r e in
       go (w .0) (filter (onArrow arrows) (blockOf (w .0))) (λ x m. m) (distinct-filter (onArrow arrows) (blockOf (w .0)) (group-distinct grid (square cells) (labels grid (square cells)) (w .0))) (w .2)
     where
-      go : (f : ℕ) (l : List ℕ) → ((x : ℕ) → List·Memᴰ x l → List·Memᴰ x (filter (onArrow arrows) (blockOf f))) → Distinct l → reason2At grid arrows cells l ≡ some r → Two r
+      go : (f : ℕ) (l : List ℕ) → ((x : ℕ) → List·Memᴰ x l → List·Memᴰ x (filter (onArrow arrows) (blockOf f))) → Distinct l → reason2At grid cells l ≡ some r → Two r
       go f [] h d k = absurd (none-two k)
       go f (a ∷ []) h d k = absurd (one-two a k)
       go f (a ∷ b ∷ rest) h d k =
@@ -86,7 +92,7 @@ module _ (set : Setting) where
           }
 
   -- reason 2 is sound
-  pub reason2-sound : (r : List Literal) → reason2 grid arrows cells ≡ some r → (full : List ℕ) → Agrees full r → ¬ RulesAt grid arrows full
+  pub reason2-sound : (r : List Literal) → reason2 puzzle cells ≡ some r → (full : List ℕ) → Agrees full r → ¬ RulesAt puzzle full
   unfolding square
   reason2-sound r e full ag rules =
       let w = two-of r e in

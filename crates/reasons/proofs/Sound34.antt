@@ -12,7 +12,7 @@ use lib.ListN.{length, getD}
 use borrow.Author.Tests.{eqb-true, eq-eqb, ltb-true}
 use Rattle.grid.specs.Lists.{filter, any, flatMap, last, init, tail}
 use Rattle.grid.proofs.ListLaws.{mem-filter, flatMap-mem, dec-so, not-so, so-not, any-mem, at-mem}
-use Rattle.grid.specs.Grid.{size}
+use Rattle.grid.specs.Grid.{Grid, size}
 use Rattle.grid.proofs.Count.{count}
 use Rattle.board.specs.Board.{Literal, empty, square, undecided, Agrees}
 use Rattle.board.proofs.BoardLaws.{sq-below}
@@ -34,7 +34,13 @@ use Rattle.reasons.proofs.Gap.{Choice, most-bound}
 use Rattle.reasons.proofs.Refute.{Arrows, Filling, reason-3, reason-4a, reason-4b}
 
 module _ (set : Setting) where
-  open Setting set using (grid, arrows, lines, cells, valid)
+  open Setting set using (puzzle, lines, cells, valid)
+
+  abbrev grid : Grid
+  grid = puzzle .grid
+
+  abbrev arrows : List (List ℕ)
+  arrows = puzzle .arrows
 
   -- the board, as Confine takes it
   abbrev B : PartialBoard
@@ -57,7 +63,7 @@ module _ (set : Setting) where
 
   -- the view of the board
   abbrev pub v : View
-  v = view grid arrows cells
+  v = view puzzle cells
 
   -- the first cell of a block is in it
   pub home : (a : ℕ) → So (square cells a) → Block B a (name a)
@@ -147,7 +153,7 @@ module _ (set : Setting) where
     four-none e = let w = or-else-none (given tooFew (reasonGrow v pair)) (given tooMany shrinkLiterals) e in (given-none tooFew (reasonGrow v pair) (w .0), given-none tooMany shrinkLiterals (w .1))
 
     -- a filling that agrees and meets the rules
-    module _ (full : List ℕ) (long : length full ≡ size grid) (rules : RulesAt grid arrows full) where
+    module _ (full : List ℕ) (long : length full ≡ size grid) (rules : RulesAt puzzle full) where
       -- the squares of the full board
       abbrev F : ℕ → Type 0
       F c = So (square full c)
@@ -157,7 +163,7 @@ module _ (set : Setting) where
 
       -- the full board as Refute takes it
       abbrev fill : Filling B grid
-      fill = record { F = F; dec = λ c. dec-so (square full c); below = low; dec-block = dec-block grid arrows full long }
+      fill = record { F = F; dec = λ c. dec-so (square full c); below = low; dec-block = dec-block puzzle full long }
 
       is-square : (c : ℕ) → getD full c 0 ≡ 1 → F c
       unfolding square
@@ -270,7 +276,7 @@ module _ (set : Setting) where
         gat = at-gap cells (w .0) p q;
       }
 
-  module _ (full : List ℕ) (long : length full ≡ size grid) (rules : RulesAt grid arrows full) where
+  module _ (full : List ℕ) (long : length full ≡ size grid) (rules : RulesAt puzzle full) where
     -- reasons 3 and 4 are sound
     pub reason34-sound : (r : List Literal) → reason34 v ≡ some r → Agrees full r → ⊥
     unfolding reason34 view viewWith

@@ -12,7 +12,7 @@ use borrow.Author.Tests.{eqb-true}
 use lib.Dec.{eqb}
 use Rattle.grid.specs.Lists.{filter, any, flatMap, last, init, tail}
 use Rattle.grid.proofs.ListLaws.{filter-mem, mem-filter, flatMap-mem, and-true, any-mem, last-mem, at-mem, mem-at, upto-mem}
-use Rattle.grid.specs.Grid.{size, cellsOf, touches}
+use Rattle.grid.specs.Grid.{Grid, size, cellsOf, touches}
 use Rattle.grid.specs.Link.{linked-end, linked-start}
 use Rattle.board.specs.Board.{Literal, empty, square, filled}
 use Rattle.groups.specs.Groups.{labels, group, names}
@@ -27,7 +27,13 @@ use Rattle.reasons.specs.Reasons.{orElse, firstOf, each, reason1At, reas
 use Rattle.reasons.proofs.Walk.{path-square}
 
 module _ (set : Setting) where
-  open Setting set using (grid, arrows, lines, cells, valid)
+  open Setting set using (puzzle, lines, cells, valid)
+
+  abbrev grid : Grid
+  grid = puzzle .grid
+
+  abbrev arrows : List (List ℕ)
+  arrows = puzzle .arrows
 
   -- the board shows each literal, on a cell of the grid
   abbrev pub Stands : List Literal → Type 0
@@ -63,7 +69,7 @@ module _ (set : Setting) where
 
   -- the view of the board
   abbrev v : View
-  v = view grid arrows cells
+  v = view puzzle cells
 
   -- the name of the block of a square
   abbrev nameOf : ℕ → ℕ
@@ -145,16 +151,16 @@ module _ (set : Setting) where
       go (inl k) = let w = first-some (reason3At v) ps r k in three (w .0) (placed set (w .0) (w .1)) (w .2)
       go (inr k) = let w = first-some (reason4At v) ps r (k .1) in four (w .0) (placed set (w .0) (w .1)) (w .2)
 
-  stand-2 : (r : List Literal) → reason2 grid arrows cells ≡ some r → Stands r
+  stand-2 : (r : List Literal) → reason2 puzzle cells ≡ some r → Stands r
   stand-2 r e =
       let w = two-of set r e in
       subst Stands (sym (w .is)) (stand-each 1 (way set (w .a) (w .b)) (λ y m. sq-one y
       (path-square grid cells (sq< set) (w .b) (linked-start (w .joined)) (w .a) (w .joined) y m)))
 
-  stand-1 : (r : List Literal) → reason1 grid arrows cells ≡ some r → Stands r
+  stand-1 : (r : List Literal) → reason1 puzzle cells ≡ some r → Stands r
   unfolding reason1 reason1At cellsOf
   stand-1 r e =
-      let w = first-some (λ f. reason1At grid arrows cells (pot f)) (names grid (filled cells) (labels grid (filled cells))) r e in
+      let w = first-some (λ f. reason1At puzzle cells (pot f)) (names grid (filled cells) (labels grid (filled cells))) r e in
       let q = given-some (any (square cells) (pot (w .0)) && not (any (onArrow arrows) (pot (w .0)))) (each 0 (bounds (pot (w .0))) ++ each 1 (last 0 (filter (square cells) (pot (w .0))) ∷ [])) r (w .2) in
       let h = any-mem (square cells) (pot (w .0)) (and-true (any (square cells) (pot (w .0))) _ (q .0) .0) in
       subst Stands (q .1) (stand-join (each 0 (bounds (pot (w .0)))) (each 1 (last 0 (filter (square cells) (pot (w .0))) ∷ []))
@@ -169,14 +175,14 @@ module _ (set : Setting) where
       bounds c = filter (λ i. empty cells i && touches grid c i) (cellsOf grid)
 
   -- every literal of a reason is shown
-  pub find-stands : (r : List Literal) → findReason grid arrows cells ≡ some r → Stands r
+  pub find-stands : (r : List Literal) → findReason puzzle cells ≡ some r → Stands r
   unfolding findReason
-  find-stands r e = go (or-else-some (reason1 grid arrows cells) _ r e)
+  find-stands r e = go (or-else-some (reason1 puzzle cells) _ r e)
     where
-      two : (reason2 grid arrows cells ≡ some r) ⊎ ((reason2 grid arrows cells ≡ none) × (reason34 v ≡ some r)) → Stands r
+      two : (reason2 puzzle cells ≡ some r) ⊎ ((reason2 puzzle cells ≡ none) × (reason34 v ≡ some r)) → Stands r
       two (inl k) = stand-2 r k
       two (inr k) = stand-34 r (k .1)
 
-      go : (reason1 grid arrows cells ≡ some r) ⊎ ((reason1 grid arrows cells ≡ none) × (orElse (reason2 grid arrows cells) (reason34 v) ≡ some r)) → Stands r
+      go : (reason1 puzzle cells ≡ some r) ⊎ ((reason1 puzzle cells ≡ none) × (orElse (reason2 puzzle cells) (reason34 v) ≡ some r)) → Stands r
       go (inl k) = stand-1 r k
-      go (inr k) = two (or-else-some (reason2 grid arrows cells) (reason34 v) r (k .1))
+      go (inr k) = two (or-else-some (reason2 puzzle cells) (reason34 v) r (k .1))

@@ -17,47 +17,47 @@ use Rattle.grid.specs.Grid.{Grid, size, neighbours, Adjacent}
 use Rattle.grid.specs.Link.{Linked, here, step, linked-start, linked-trans, linked-inside}
 use Rattle.grid.proofs.Count.{count, count-except, count-inj-suc, count-le}
 use Rattle.grid.proofs.GridLaws.{adj-sym, apart}
-use Rattle.board.specs.Board.{Literal, square}
-use Rattle.reasons.specs.Reasons.{breadthFirst, parent, path}
+use Rattle.board.specs.Board.{square}
+use Rattle.reasons.specs.Reasons.{Entry, breadthFirst, parent, path}
 use Rattle.reasons.specs.Search.{seen, appended}
 use Rattle.reasons.specs.BreadthFirst.{Listed}
 
-pub listed-left : (cs es : List Literal) (x : ℕ) → Listed cs x → Listed (cs ++ es) x
+pub listed-left : (cs es : List Entry) (x : ℕ) → Listed cs x → Listed (cs ++ es) x
 listed-left cs es x (p, m) = (p, Memᴰ·append-left es m)
 
-listed-right : (cs es : List Literal) (x : ℕ) → Listed es x → Listed (cs ++ es) x
+listed-right : (cs es : List Entry) (x : ℕ) → Listed es x → Listed (cs ++ es) x
 listed-right cs es x (p, m) = (p, Memᴰ·append-right cs m)
 
-pub listed-cases : (cs es : List Literal) (x : ℕ) → Listed (cs ++ es) x → Listed cs x ⊎ Listed es x
+pub listed-cases : (cs es : List Entry) (x : ℕ) → Listed (cs ++ es) x → Listed cs x ⊎ Listed es x
 listed-cases cs es x (p, m) = go (List·Memᴰ·append-cases cs m)
   where
     go : List·Memᴰ (x, p) cs ⊎ List·Memᴰ (x, p) es → Listed cs x ⊎ Listed es x
     go (inl k) = inl (p, k)
     go (inr k) = inr (p, k)
 
-pub listed-one : (c : Literal) (x : ℕ) → Listed (c ∷ []) x → x ≡ c .0
+pub listed-one : (c : Entry) (x : ℕ) → Listed (c ∷ []) x → x ≡ c .0
 listed-one c x (p, List·Memᴰ·head e) = ap (λ z. z .0) e
 listed-one c x (p, List·Memᴰ·tail m) = absurd (List·Memᴰ·not-nil m)
 
-pub seen-so : (cs : List Literal) (x : ℕ) → So (seen cs x) → Listed cs x
+pub seen-so : (cs : List Entry) (x : ℕ) → So (seen cs x) → Listed cs x
 seen-so cs x h =
-    let r = any-mem (λ (d : Literal). eqb (d .0) x) cs h in
+    let r = any-mem (λ (d : Entry). eqb (d .0) x) cs h in
     (r .0 .1, subst (λ z. List·Memᴰ (z, r .0 .1) cs) (eqb-true _ _ (r .2)) (r .1))
 
-pub so-seen : (cs : List Literal) (x : ℕ) → Listed cs x → So (seen cs x)
-so-seen cs x (p, m) = mem-any (λ (d : Literal). eqb (d .0) x) cs m (eq-eqb x x refl)
+pub so-seen : (cs : List Entry) (x : ℕ) → Listed cs x → So (seen cs x)
+so-seen cs x (p, m) = mem-any (λ (d : Entry). eqb (d .0) x) cs m (eq-eqb x x refl)
 
-dec-listed : (cs : List Literal) (x : ℕ) → Dec (Listed cs x)
+dec-listed : (cs : List Entry) (x : ℕ) → Dec (Listed cs x)
 dec-listed cs x = map-dec (seen-so cs x) (so-seen cs x) (dec-so (seen cs x))
 
 module _ (g : Grid) (cells : List ℕ)
     (sq< : (c : ℕ) → So (square cells c) → c < size g) (b : ℕ) (sb : So (square cells b)) where
   -- each entry but the first has its parent before it, and beside it
-  pub data Tree : List Literal → Type 0 where
+  pub data Tree : List Entry → Type 0 where
     root : Tree ((b, b) ∷ [])
-    grow : {cs : List Literal} (j p : ℕ) → Tree cs → Listed cs p → Adjacent g p j → So (square cells j) → ¬ Listed cs j → Tree (cs ++ ((j, p) ∷ []))
+    grow : {cs : List Entry} (j p : ℕ) → Tree cs → Listed cs p → Adjacent g p j → So (square cells j) → ¬ Listed cs j → Tree (cs ++ ((j, p) ∷ []))
 
-  pub tree-square : {cs : List Literal} → Tree cs → (x : ℕ) → Listed cs x → So (square cells x)
+  pub tree-square : {cs : List Entry} → Tree cs → (x : ℕ) → Listed cs x → So (square cells x)
   tree-square root x l = subst (λ z. So (square cells z)) (sym (listed-one (b, b) x l)) sb
   tree-square (grow {cs} j p t lp e s n) x l = go (listed-cases cs ((j, p) ∷ []) x l) (λ k. tree-square t x k)
     where
@@ -65,11 +65,11 @@ module _ (g : Grid) (cells : List ℕ)
       go (inl k) ih = ih k
       go (inr k) ih = subst (λ z. So (square cells z)) (sym (listed-one (j, p) x k)) s
 
-  tree-root : {cs : List Literal} → Tree cs → Listed cs b
+  tree-root : {cs : List Entry} → Tree cs → Listed cs b
   tree-root root = (b, List·Memᴰ·head refl)
   tree-root (grow {cs} j p t lp e s n) = listed-left cs ((j, p) ∷ []) b (tree-root t)
 
-  tree-count : {cs : List Literal} → Tree cs → length cs ≤ count (dec-listed cs) (size g)
+  tree-count : {cs : List Entry} → Tree cs → length cs ≤ count (dec-listed cs) (size g)
   tree-count root = omega (arith, count-except (dec-listed ((b, b) ∷ [])) b (size g) (sq< b sb) (b, List·Memᴰ·head refl))
   tree-count (grow {cs} j p t lp e s n) =
       omega (
@@ -80,11 +80,11 @@ module _ (g : Grid) (cells : List ℕ)
             (λ x l h. (x, l, (listed-left cs ((j, p) ∷ []) x h, λ z. n (subst (Listed cs) z h)), refl)),
       )
 
-  pub tree-length : {cs : List Literal} → Tree cs → length cs ≤ size g
+  pub tree-length : {cs : List Entry} → Tree cs → length cs ≤ size g
   tree-length {cs} t = omega (arith, tree-count t, count-le (dec-listed cs) (size g))
 
   -- distinct new neighbours of p are appended
-  tree-append : (js : List ℕ) (cs : List Literal) (p : ℕ) → Tree cs → Listed cs p → Distinct js → ((j : ℕ) → List·Memᴰ j js → Adjacent g p j × So (square cells j) × ¬ Listed cs j) → Tree (cs ++ map (λ j. (j, p)) js)
+  tree-append : (js : List ℕ) (cs : List Entry) (p : ℕ) → Tree cs → Listed cs p → Distinct js → ((j : ℕ) → List·Memᴰ j js → Adjacent g p j × So (square cells j) × ¬ Listed cs j) → Tree (cs ++ map (λ j. (j, p)) js)
   tree-append [] cs p t lp d h = subst Tree (sym (append-nil cs)) t
   tree-append (j ∷ js) cs p t lp d h =
       let w = h j (List·Memᴰ·head refl) in
@@ -97,7 +97,7 @@ module _ (g : Grid) (cells : List ℕ)
       two k m n (inr l) = d .0 (subst (λ z. List·Memᴰ z js) (listed-one (j, p) k l) m)
 
   -- each cell in turn appends its square neighbours not yet listed
-  pub tree-step : (cs : List Literal) (c : ℕ) → Tree cs → Listed cs c → Tree (cs ++ appended g cells cs c)
+  pub tree-step : (cs : List Entry) (c : ℕ) → Tree cs → Listed cs c → Tree (cs ++ appended g cells cs c)
   unfolding appended
   tree-step cs c t l = tree-append (filter test (neighbours g c)) cs c t l (distinct-filter test (neighbours g c) (apart g c c<))
       (λ j m. let w = filter-mem test (neighbours g c) m in let u = and-true (square cells j) _ (w .1) in ((c<, w .0), u .0, λ k. not-so {a = seen cs j} (u .1) (so-seen cs j k)))
@@ -109,13 +109,13 @@ module _ (g : Grid) (cells : List ℕ)
       c< = sq< c (tree-square t c l)
 
   -- the square neighbours of what is done are listed
-  abbrev Closed : List Literal → List Literal → Type 0
+  abbrev Closed : List Entry → List Entry → Type 0
   Closed done whole = (x : ℕ) → Listed done x → (y : ℕ) → Adjacent g x y → So (square cells y) → Listed whole y
 
-  bfs : ℕ → List Literal → List Literal → List Literal
+  bfs : ℕ → List Entry → List Entry → List Entry
   bfs = breadthFirst g cells
 
-  bfs-tree : (k : ℕ) (done todo : List Literal) → k + length done ≡ size g → Tree (done ++ todo) → Closed done (done ++ todo) → Tree (bfs k done todo) × Closed (bfs k done todo) (bfs k done todo)
+  bfs-tree : (k : ℕ) (done todo : List Entry) → k + length done ≡ size g → Tree (done ++ todo) → Closed done (done ++ todo) → Tree (bfs k done todo) × Closed (bfs k done todo) (bfs k done todo)
   unfolding bfs breadthFirst appended
   bfs-tree zero done [] e t c = (t, subst (λ z. Closed z (done ++ [])) (sym (append-nil done)) c)
   bfs-tree zero done (x ∷ xs) e t c = absurd (omega (arith, tree-length t, length-append done (x ∷ xs)))
@@ -123,7 +123,7 @@ module _ (g : Grid) (cells : List ℕ)
   bfs-tree (suc k) done (x ∷ todo) e t c =
       bfs-tree k (done ++ (x ∷ [])) (todo ++ new) (omega (arith, length-append done (x ∷ []))) (subst Tree whole t′) (subst (Closed (done ++ (x ∷ []))) whole c′)
     where
-      base : List Literal
+      base : List Entry
       base = done ++ (x ∷ todo)
 
       test : ℕ → Bool
@@ -132,7 +132,7 @@ module _ (g : Grid) (cells : List ℕ)
       js : List ℕ
       js = filter test (neighbours g (x .0))
 
-      new : List Literal
+      new : List Entry
       new = map (λ j. (j, x .0)) js
 
       whole : base ++ new ≡ (done ++ (x ∷ [])) ++ (todo ++ new)
@@ -159,7 +159,7 @@ module _ (g : Grid) (cells : List ℕ)
           go (inl k) = listed-left base new z (c y k z ad s)
           go (inr k) = at-x y (listed-one x y k) ad (dec-listed base z)
 
-  parent-at : (cs es : List Literal) (j p : ℕ) → ¬ Listed cs j → parent (cs ++ ((j, p) ∷ es)) j ≡ p
+  parent-at : (cs es : List Entry) (j p : ℕ) → ¬ Listed cs j → parent (cs ++ ((j, p) ∷ es)) j ≡ p
   unfolding parent
   parent-at [] es j p n = rw (eq-eqb j j refl)
   parent-at (c ∷ cs) es j p n = rw (so-false (eqb (c .0) j) (λ h. n (c .1, List·Memᴰ·head (ap (λ z. (z, c .1)) (sym (eqb-true _ _ h))))))
@@ -179,20 +179,20 @@ module _ (g : Grid) (cells : List ℕ)
       linked-inside (Listed R) (tree-root (w .0)) (λ i j _ li ad s. w .1 i li j ad s) l
 
   -- x is listed among the first entries cs of the list, at most m of them
-  pub record Early (whole : List Literal) (x m : ℕ) : Type 0 where
-    pub cs : List Literal
-    pub es : List Literal
+  pub record Early (whole : List Entry) (x m : ℕ) : Type 0 where
+    pub cs : List Entry
+    pub es : List Entry
     pub tree : Tree cs
     pub parts : whole ≡ cs ++ es
     pub few : length cs ≤ m
     pub listed : Listed cs x
 
   -- the parent of a cell is listed before it
-  pub parent-early : {cs : List Literal} → Tree cs → (es : List Literal) (x m : ℕ) → length cs ≤ suc m → Listed cs x → ¬ (x ≡ b) → Early (cs ++ es) (parent (cs ++ es) x) m
+  pub parent-early : {cs : List Entry} → Tree cs → (es : List Entry) (x m : ℕ) → length cs ≤ suc m → Listed cs x → ¬ (x ≡ b) → Early (cs ++ es) (parent (cs ++ es) x) m
   parent-early root es x m l lx ne = absurd (ne (listed-one (b, b) x lx))
   parent-early (grow {cs} j p t lp ad s n) es x m l lx ne = rw (append-snoc cs (j, p) es) (go (listed-cases cs ((j, p) ∷ []) x lx) (λ k h. parent-early t ((j, p) ∷ es) x m h k ne))
     where
-      all : List Literal
+      all : List Entry
       all = cs ++ ((j, p) ∷ es)
 
       short : length cs ≤ m
@@ -206,7 +206,7 @@ module _ (g : Grid) (cells : List ℕ)
 
   module _ (F : ℕ → Type 0) where
     -- the way by parents, where each of its cells is a square of the filling
-    way : {cs : List Literal} → Tree cs → (es : List Literal) (k x : ℕ) → length cs ≤ k → Listed cs x
+    way : {cs : List Entry} → Tree cs → (es : List Entry) (k x : ℕ) → length cs ≤ k → Listed cs x
         → ((y : ℕ) → List·Memᴰ y (path k (cs ++ es) x b) → F y) → Linked (Adjacent g) F x b
     unfolding path
     way root es zero x l lx f = absurd (omega arith)
@@ -226,7 +226,7 @@ module _ (g : Grid) (cells : List ℕ)
         last zero x e l f ih = absurd (omega (arith, l, length-append cs ((j, p) ∷ [])))
         last (suc k) x e l f ih = two (dec-so (eqb x b))
           where
-            all : List Literal
+            all : List Entry
             all = cs ++ ((j, p) ∷ es)
 
             two : Dec (So (eqb x b)) → Linked (Adjacent g) F x b
@@ -251,7 +251,7 @@ module _ (g : Grid) (cells : List ℕ)
         way whole-tree [] (size g) a (tree-length whole-tree) (whole-listed a l) (subst (λ z. (y : ℕ) → List·Memᴰ y (path (size g) z a b) → F y) (sym (append-nil R)) f)
 
   -- each cell of the way is listed
-  way-in : {cs : List Literal} → Tree cs → (es : List Literal) (k x : ℕ) → Listed cs x → (y : ℕ) → List·Memᴰ y (path k (cs ++ es) x b) → Listed cs y
+  way-in : {cs : List Entry} → Tree cs → (es : List Entry) (k x : ℕ) → Listed cs x → (y : ℕ) → List·Memᴰ y (path k (cs ++ es) x b) → Listed cs y
   unfolding path
   way-in root es zero x lx y (List·Memᴰ·head e) = subst (Listed ((b, b) ∷ [])) (sym e) lx
   way-in root es zero x lx y (List·Memᴰ·tail m) = absurd (List·Memᴰ·not-nil m)
@@ -264,7 +264,7 @@ module _ (g : Grid) (cells : List ℕ)
       eq : cs ++ ((j, p) ∷ []) ++ es ≡ cs ++ ((j, p) ∷ es)
       eq = append-snoc cs (j, p) es
 
-      all : List Literal
+      all : List Entry
       all = cs ++ ((j, p) ∷ es)
 
       IH : Type 0

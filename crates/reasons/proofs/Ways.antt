@@ -7,11 +7,11 @@ use mathlib.Core.Bool.{So}
 use mathlib.Core.List.{List, [], _∷_, _++_, append-nil, append-assoc, List·Memᴰ, List·Memᴰ·not-nil}
 use lib.ListN.{length, getD, set, take}
 use Rattle.grid.specs.Grid.{Grid, size}
-use Rattle.board.specs.Board.{Literal, square}
+use Rattle.board.specs.Board.{square}
 use Rattle.groups.specs.Groups.{Joined}
 use Rattle.grid.specs.Link.{linked-start}
 use Rattle.kinds.specs.Kinds.{word}
-use Rattle.reasons.specs.Reasons.{each, breadthFirst, parent, path}
+use Rattle.reasons.specs.Reasons.{Entry, each, breadthFirst, parent, path}
 use Rattle.reasons.specs.Buffer.{Wrote}
 use Rattle.reasons.specs.Search.{Listing}
 use Rattle.reasons.proofs.BufferLaws.{wrote-none, wrote-more}
@@ -21,13 +21,13 @@ use Rattle.reasons.proofs.Breadth.{square-below, mark-parent, path-end,
 
 module _ (g : Grid) (cells : List ℕ) (b : ℕ) where
   -- the breadth-first list from b
-  abbrev pub whole : List Literal
+  abbrev pub whole : List Entry
   whole = breadthFirst g (take (size g) cells) (size g) [] ((b, b) ∷ [])
 
   -- the path from a is written up to the cell x, which is still to come
   pub record Way (a : ℕ) (before after : List ℕ) (x k : ℕ) : Type 0 where
     pub start : So (square (take (size g) cells) b)
-    pub done : List Literal
+    pub done : List Entry
     pub wrote : Wrote done before after k
     pub rest : each 1 (path (size g) whole a b) ≡ done ++ each 1 (path (size g - k) whole x b)
     pub early : Early g (take (size g) cells) (square-below g cells) b start whole x (size g - k)
@@ -53,7 +53,7 @@ module _ (g : Grid) (cells : List ℕ) (b : ℕ) where
       }
 
   module _ {a : ℕ} {before after : List ℕ} {x k : ℕ} (W : Way a before after x k) where
-    some : (cs : List Literal) → Listed cs x → 0 < length cs
+    some : (cs : List Entry) → Listed cs x → 0 < length cs
     some [] l = absurd (List·Memᴰ·not-nil (l .1))
     some (c ∷ cs) l = omega arith
 
@@ -67,7 +67,7 @@ module _ (g : Grid) (cells : List ℕ) (b : ℕ) where
 
     -- its mark is its parent
     pub way-mark : {order from : List ℕ} {count : ℕ} → Listing (size g) order from count whole → getD from x 0 ≡ parent whole x
-    way-mark L = L .parents-are x way-cell ∙ mark-parent whole x (subst (λ (l : List Literal). Listed l x) (sym (W .early .parts)) (listed-left (W .early .cs) (W .early .es) x (W .early .listed)))
+    way-mark L = L .parents-are x way-cell ∙ mark-parent whole x (subst (λ (l : List Entry). Listed l x) (sym (W .early .parts)) (listed-left (W .early .cs) (W .early .es) x (W .early .listed)))
 
     -- it is written, and its parent is next
     pub way-more : ¬ (x ≡ b) → k < length before → Way a before (set after k (word (x, 1))) (parent whole x) (k + 1)

@@ -10,6 +10,7 @@ use lib.ListN.{length, getD, set, take}
 use Rattle.grid.specs.Lists.{filter, upto}
 use Rattle.grid.specs.Grid.{Grid, size}
 use Rattle.grid.specs.Side.{sized}
+use Rattle.record.specs.Record.{Puzzle}
 use Rattle.record.specs.Problem.{arrowCells, arrowsFrom}
 use Rattle.board.specs.Board.{Literal, filled, square}
 use Rattle.groups.specs.Groups.{Joined, labels, group, labelArray, maskOf}
@@ -19,7 +20,7 @@ use Rattle.reasons.specs.Reasons.{Found, each, boundary, breadthFirst, p
 use Rattle.reasons.specs.declared.Name.{Name}
 use Rattle.reasons.specs.declared.Name.the-variants.{At, Nobody}
 use Rattle.reasons.specs.declared.Ends.{Ends}
-use Rattle.kinds.specs.Inside.{Held, Given}
+use Rattle.kinds.specs.Inside.{puzzleWith, Held, Given}
 use Rattle.reasons.specs.declared.Ends.the-variants.{Between, Nowhere}
 
 -- an array of cells
@@ -32,9 +33,9 @@ abbrev pub linesOf : List ℕ → List ℕ → ℕ → List (List ℕ)
 linesOf arrows ends count = arrowsFrom arrows 0 (take count ends)
 
 -- the potential groups of the cells, and the arrow cells
-pub record PotentialArrays (g : Grid) (arrows : List (List ℕ)) (cells groups onarrow : List ℕ) : Type 0 where
-  pub groups-are : groups ≡ labelArray g (filled cells)
-  pub arrows-are : onarrow ≡ maskOf g (onArrow arrows)
+pub record PotentialArrays (p : Puzzle) (cells groups onarrow : List ℕ) : Type 0 where
+  pub groups-are : groups ≡ labelArray (p .grid) (filled cells)
+  pub arrows-are : onarrow ≡ maskOf (p .grid) (onArrow (p .arrows))
 
 -- the rank of a cell in the search for reason 1: an arrow cell, another square, any other
 unfoldable pub rankAt : List ℕ → List ℕ → ℕ → ℕ
@@ -94,14 +95,14 @@ SameBlock g cells Nowhere = Unit {0}
 SameBlock g cells (Between a b) = Joined g (square cells) b a
 
 -- the ends of the path of reason 2
-pub record Crossing (g : Grid) (arrows : List (List ℕ)) (cells : List ℕ) (ends : Ends) : Type 0 where
-  pub reason : reason2 g arrows cells ≡ foundWay g cells ends
-  pub joined : SameBlock g cells ends
+pub record Crossing (p : Puzzle) (cells : List ℕ) (ends : Ends) : Type 0 where
+  pub reason : reason2 p cells ≡ foundWay (p .grid) cells ends
+  pub joined : SameBlock (p .grid) cells ends
 
 -- the blocks are those of some arrows
 pub record Blocked (h w : ℕ) (cells blocks onarrow : List ℕ) : Type 0 where
   pub arrows : List (List ℕ)
-  pub held : Given (sized h w) arrows (take (h * w) cells) blocks onarrow
+  pub held : Given (puzzleWith (sized h w) arrows) (take (h * w) cells) blocks onarrow
 
 -- the arrays hold the arrows of a board of n cells: their cells one after another, `total` of them, and where each of `number` arrows ends
 pub record ArrowArrays (n : ℕ) (arrows ends : List ℕ) (number total : ℕ) : Type 0 where
@@ -119,4 +120,4 @@ pub record ArrowArrays (n : ℕ) (arrows ends : List ℕ) (number total : ℕ) :
 pub record Ready (h w : ℕ) (cells arrows ends : List ℕ) (number : ℕ) (blocks onarrow : List ℕ) : Type 0 where
   pub total : ℕ
   pub drawn : ArrowArrays (h * w) arrows ends number total
-  pub held : Given (sized h w) (linesOf arrows ends number) (take (h * w) cells) blocks onarrow
+  pub held : Given (puzzleWith (sized h w) (linesOf arrows ends number)) (take (h * w) cells) blocks onarrow

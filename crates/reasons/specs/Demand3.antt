@@ -39,10 +39,10 @@ pub record Demand3 (s : List ℕ) (p : Puzzle) (cs ds : List Call) : Type 0 wher
   pub stands : (a : List ℕ) (r : List Literal) → answerOn (boardAfter s cs) a ≡ ok (some r) → (l : Literal) → List·Memᴰ l r → List·Memᴰ l (standing p cs)
   -- no fully decided board that agrees with all of them meets the block rules
   pub refutes : (a : List ℕ) (r : List Literal) → answerOn (boardAfter s cs) a ≡ ok (some r) → (full : List ℕ) → Full (p .grid) full → Agrees full r
-      → BlockRules (p .grid) (p .arrows) full → ⊥
+      → BlockRules p full → ⊥
   -- if every cell is decided, find gives none exactly when the block rules are met
   pub finds : Full (p .grid) (cellsOn (boardAfter s cs)) → (a : List ℕ) → enough (p .grid) ≤ length a
-      → (answerOn (boardAfter s cs) a ≡ ok none) ↔ BlockRules (p .grid) (p .arrows) (cellsOn (boardAfter s cs))
+      → (answerOn (boardAfter s cs) a ≡ ok none) ↔ BlockRules p (cellsOn (boardAfter s cs))
 
 -- the demand: it holds for every accepted record and all lists of calls
 abbrev pub Demand : Type 0

@@ -23,7 +23,7 @@ cellsOn b = take (size (gridOf (b .problem))) (b .cells)
 
 -- the first reason that applies on a board
 unfoldable pub reasonOn : Board → Found
-reasonOn b = findReason (gridOf (b .problem)) (puzzleOf (b .problem) .arrows) (cellsOn b)
+reasonOn b = findReason (puzzleOf (b .problem)) (cellsOn b)
 
 -- a buffer is long enough from 3 × H × W + 1 literals on
 unfoldable pub enough : Grid → ℕ

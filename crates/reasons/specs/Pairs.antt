@@ -14,24 +14,24 @@ use Rattle.kinds.specs.Kinds.{View, view, block, reach, fence, reachMask}
 use Rattle.reasons.specs.Reasons.{Found, given, each, mostApart, blockName, reasonGrow, reason3At, gap, reasonShrink, reason4At}
 use Rattle.reasons.specs.Arrays.{CellArray, linesOf}
 use Rattle.reasons.specs.Find.{findingBy, bufferBy}
-use Rattle.kinds.specs.Inside.{Held}
+use Rattle.kinds.specs.Inside.{puzzleWith, Held}
 use Rattle.reasons.specs.declared.Finding.{Finding}
 
 -- reason 4 for a pair, or reason 3
 unfoldable pub reasonAt : Bool → View → Pair → Found
-reasonAt fourth v p = cond fourth (reason4At v p) (reason3At v p)
+reasonAt fourth v pair = cond fourth (reason4At v pair) (reason3At v pair)
 
-module _ (v : View) (p : Pair) where
+module _ (v : View) (pair : Pair) where
   -- 4 (a)
   unfoldable pub reason4aAt : Found
-  reason4aAt = given (ltb (length (reach v (blockName v p (p .cur)))) (length (block v (blockName v p (p .last))) + 1)) (reasonGrow v p)
+  reason4aAt = given (ltb (length (reach v (blockName v (pair .cur)))) (length (block v (blockName v (pair .last))) + 1)) (reasonGrow v pair)
 
   -- 4 (b)
   unfoldable pub reason4bAt : Found
   reason4bAt =
       given
-      (ltb (length (reach v (blockName v p (p .last))) + 1 + mostApart (v .cells) false (gap v p)) (length (block v (blockName v p (p .cur)))))
-      (reasonShrink v p)
+      (ltb (length (reach v (blockName v (pair .last))) + 1 + mostApart (v .cells) false (gap pair)) (length (block v (blockName v (pair .cur)))))
+      (reasonShrink v pair)
 
 -- the pair of the squares at two places of the arrows
 unfoldable pub pairAt : List ℕ → ℕ → ℕ → Pair
@@ -51,7 +51,7 @@ pub record NextSquare (cells arrows : List ℕ) (from to r : ℕ) : Type 0 where
 
 -- the board of an h by w grid with the arrows `lines`, whose cells stand in an array
 abbrev pub viewOn : ℕ → ℕ → List (List ℕ) → List ℕ → View
-viewOn h w lines cells = view (sized h w) lines (take (h * w) cells)
+viewOn h w lines cells = view (puzzleWith (sized h w) lines) (take (h * w) cells)
 
 -- the arrays hold the kinds of that board, and the places from `from` up to `to` hold cells of an arrow, no more than the grid has
 pub record Scene (h w : ℕ) (lines : List (List ℕ)) (cells arrows kinds owners : List ℕ) (from to : ℕ) : Type 0 where

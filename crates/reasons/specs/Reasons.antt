@@ -38,52 +38,56 @@ firstOf f (x ∷ xs) = orElse (f x) (firstOf f xs)
 unfoldable pub each : ℕ → List ℕ → List Literal
 each v = map (λ i. (i, v))
 
+-- an entry of a breadth-first list: a cell and its parent
+abbrev pub Entry : Type 0
+Entry = ℕ × ℕ
+
 -- 2. the breadth-first list, each cell with its parent: walked cells are done, todo are listed and wait
-unfoldable pub breadthFirst : Grid → List ℕ → ℕ → List Literal → List Literal → List Literal
+unfoldable pub breadthFirst : Grid → List ℕ → ℕ → List Entry → List Entry → List Entry
 breadthFirst g cells zero done todo = done ++ todo
 breadthFirst g cells (suc k) done [] = done
 breadthFirst g cells (suc k) done (c ∷ todo) =
     breadthFirst g cells k (done ++ (c ∷ []))
     (todo ++ map (λ j. (j, c .0))
-    (filter (λ j. square cells j && not (any (λ (d : Literal). eqb (d .0) j) (done ++ (c ∷ todo)))) (neighbours g (c .0))))
+    (filter (λ j. square cells j && not (any (λ (d : Entry). eqb (d .0) j) (done ++ (c ∷ todo)))) (neighbours g (c .0))))
 
 -- the parent of cell i
-unfoldable pub parent : List Literal → ℕ → ℕ
+unfoldable pub parent : List Entry → ℕ → ℕ
 parent [] i = i
 parent (c ∷ cs) i = cond (eqb (c .0) i) (c .1) (parent cs i)
 
 -- from a by parents to b
-unfoldable pub path : ℕ → List Literal → ℕ → ℕ → List ℕ
+unfoldable pub path : ℕ → List Entry → ℕ → ℕ → List ℕ
 path zero cs a b = a ∷ []
 path (suc k) cs a b = cond (eqb a b) (a ∷ []) (a ∷ path k cs (parent cs a) b)
+
+-- a block's arrow cells, the first two being a and b
+unfoldable pub reason2At : Grid → List ℕ → List ℕ → Found
+reason2At g cells [] = none
+reason2At g cells (a ∷ []) = none
+reason2At g cells (a ∷ b ∷ rest) = some (each 1 (path (size g) (breadthFirst g cells (size g) [] ((b, b) ∷ [])) a b))
 
 -- 1. the empty cells that touch the potential group c, then its last square
 abbrev pub boundary : Grid → List ℕ → List ℕ → List Literal
 boundary g cells c =
     each 0 (filter (λ i. empty cells i && touches g c i) (cellsOf g)) ++ each 1 (last 0 (filter (square cells) c) ∷ [])
 
-module _ (g : Grid) (arrows : List (List ℕ)) (cells : List ℕ) where
+module _ (p : Puzzle) (cells : List ℕ) where
   -- a potential group c with a square and no arrow cell
   unfoldable pub reason1At : List ℕ → Found
-  reason1At c = given (any (square cells) c && not (any (onArrow arrows) c)) (boundary g cells c)
+  reason1At c = given (any (square cells) c && not (any (onArrow (p .arrows)) c)) (boundary (p .grid) cells c)
 
   -- the lowest numbered potential group that gives a reason
   unfoldable pub reason1 : Found
   reason1 =
-      let l = labels g (filled cells) in
-      firstOf (λ f. reason1At (group g (filled cells) l f)) (names g (filled cells) l)
-
-  -- a block's arrow cells, the first two being a and b
-  unfoldable pub reason2At : List ℕ → Found
-  reason2At [] = none
-  reason2At (a ∷ []) = none
-  reason2At (a ∷ b ∷ rest) = some (each 1 (path (size g) (breadthFirst g cells (size g) [] ((b, b) ∷ [])) a b))
+      let l = labels (p .grid) (filled cells) in
+      firstOf (λ f. reason1At (group (p .grid) (filled cells) l f)) (names (p .grid) (filled cells) l)
 
   -- the lowest numbered block that gives a reason
   unfoldable pub reason2 : Found
   reason2 =
-      let l = labels g (square cells) in
-      firstOf (λ f. reason2At (filter (onArrow arrows) (group g (square cells) l f))) (names g (square cells) l)
+      let l = labels (p .grid) (square cells) in
+      firstOf (λ f. reason2At (p .grid) cells (filter (onArrow (p .arrows)) (group (p .grid) (square cells) l f))) (names (p .grid) (square cells) l)
 
 -- the most undecided cells, no two consecutive; taken: the cell before was counted
 unfoldable pub mostApart : List ℕ → Bool → List ℕ → ℕ
@@ -92,40 +96,40 @@ mostApart cells true (i ∷ is) = mostApart cells false is
 mostApart cells false (i ∷ is) =
     cond (undecided cells i) (max (suc (mostApart cells true is)) (mostApart cells false is)) (mostApart cells false is)
 
-module _ (v : View) (p : Pair) where
-  -- the name of the block of a square
-  unfoldable pub blockName : ℕ → ℕ
-  blockName i = getD (v .blocks) i 0
+-- the name of the block of a square
+unfoldable pub blockName : View → ℕ → ℕ
+blockName v i = getD (v .blocks) i 0
 
+-- positions last + 2 to cur - 2
+unfoldable pub gap : Pair → List ℕ
+gap pair = tail (init (pair .between))
+
+module _ (v : View) (pair : Pair) where
   -- last's block, cur's arrow cell, the fence of cur's block
   unfoldable pub reasonGrow : List Literal
-  reasonGrow = each 1 (block v (blockName (p .last))) ++ each 1 (p .cur ∷ []) ++ fence v (blockName (p .cur))
+  reasonGrow = each 1 (block v (blockName v (pair .last))) ++ each 1 (pair .cur ∷ []) ++ fence v (blockName v (pair .cur))
 
   -- 3. no shift of last's block lies in cur's reach
   unfoldable pub reason3At : Found
   reason3At =
-      let r = reach v (blockName (p .cur)) in
-      given (not (any (fits (v .grid) (block v (blockName (p .last))) r (blockName (p .last))) r)) reasonGrow
-
-  -- positions last + 2 to cur - 2
-  unfoldable pub gap : List ℕ
-  gap = tail (init (p .between))
+      let r = reach v (blockName v (pair .cur)) in
+      given (not (any (fits (v .grid) (block v (blockName v (pair .last))) r (blockName v (pair .last))) r)) reasonGrow
 
   -- cur's block, last's arrow cell, the fence of last's block, the empty cells of the gap
   unfoldable pub reasonShrink : List Literal
   reasonShrink =
-      each 1 (block v (blockName (p .cur)))
-      ++ each 1 (p .last ∷ [])
-      ++ fence v (blockName (p .last))
-      ++ each 0 (filter (empty (v .cells)) gap)
+      each 1 (block v (blockName v (pair .cur)))
+      ++ each 1 (pair .last ∷ [])
+      ++ fence v (blockName v (pair .last))
+      ++ each 0 (filter (empty (v .cells)) (gap pair))
 
   -- 4. cur's reach is too small for last's block and one more; or cur's block too large for last's reach, one more and the gap
   unfoldable pub reason4At : Found
   reason4At =
       orElse
-      (given (ltb (length (reach v (blockName (p .cur)))) (length (block v (blockName (p .last))) + 1)) reasonGrow)
+      (given (ltb (length (reach v (blockName v (pair .cur)))) (length (block v (blockName v (pair .last))) + 1)) reasonGrow)
       (given
-      (ltb (length (reach v (blockName (p .last))) + 1 + mostApart (v .cells) false gap) (length (block v (blockName (p .cur)))))
+      (ltb (length (reach v (blockName v (pair .last))) + 1 + mostApart (v .cells) false (gap pair)) (length (block v (blockName v (pair .cur)))))
       reasonShrink)
 
 -- 3 for every pair of every arrow, then 4
@@ -135,10 +139,9 @@ reason34 v =
     orElse (firstOf (reason3At v) ps) (firstOf (reason4At v) ps)
 
 -- the first reason that applies
-unfoldable pub findReason : Grid → List (List ℕ) → List ℕ → Found
-findReason g arrows cells =
-    orElse (reason1 g arrows cells) (orElse (reason2 g arrows cells) (reason34 (view g arrows cells)))
+unfoldable pub findReason : Puzzle → List ℕ → Found
+findReason p cells = orElse (reason1 p cells) (orElse (reason2 p cells) (reason34 (view p cells)))
 
 -- what find says after the decisions ds
 unfoldable pub findOn : Puzzle → List Literal → Found
-findOn p ds = findReason (p .grid) (p .arrows) (cellsAfter (p .grid) ds)
+findOn p ds = findReason p (cellsAfter (p .grid) ds)

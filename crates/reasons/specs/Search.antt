@@ -9,20 +9,20 @@ use lib.ListN.{length, getD, take, set}
 use Rattle.grid.specs.Lists.{any, filter}
 use Rattle.grid.specs.Grid.{Grid, size, neighbours}
 use Rattle.grid.specs.Side.{sized}
-use Rattle.board.specs.Board.{Literal, square}
+use Rattle.board.specs.Board.{square}
 use Rattle.groups.specs.Groups.{Joined}
-use Rattle.reasons.specs.Reasons.{breadthFirst}
+use Rattle.reasons.specs.Reasons.{Entry, breadthFirst}
 
 -- cell j is in the breadth-first list
-abbrev pub seen : List Literal → ℕ → Bool
-seen cs j = any (λ (d : Literal). eqb (d .0) j) cs
+abbrev pub seen : List Entry → ℕ → Bool
+seen cs j = any (λ (d : Entry). eqb (d .0) j) cs
 
 -- what the cell c of the breadth-first list cs appends: its square neighbours not yet listed, with c as their parent
-unfoldable pub appended : Grid → List ℕ → List Literal → ℕ → List Literal
+unfoldable pub appended : Grid → List ℕ → List Entry → ℕ → List Entry
 appended g cells cs c = map (λ j. (j, c)) (filter (λ j. square cells j && not (seen cs j)) (neighbours g c))
 
 -- the parent of cell i, or 1024 if it is not listed
-unfoldable pub parentMark : List Literal → ℕ → ℕ
+unfoldable pub parentMark : List Entry → ℕ → ℕ
 parentMark [] i = 1024
 parentMark (c ∷ cs) i = cond (eqb (c .0) i) (c .1) (parentMark cs i)
 
@@ -32,13 +32,13 @@ unlisted [] = 0
 unlisted (x ∷ xs) = cond (eqb x 1024) 1 0 + unlisted xs
 
 -- the arrays hold the breadth-first list cs of a grid of n cells: `order` its cells, `from` at each cell its parent
-pub record Listing (n : ℕ) (order from : List ℕ) (count : ℕ) (cs : List Literal) : Type 0 where
+pub record Listing (n : ℕ) (order from : List ℕ) (count : ℕ) (cs : List Entry) : Type 0 where
   pub order-long : length order ≡ 1024
   pub from-long : length from ≡ 1024
   pub many : count ≡ length cs
   pub cells-are : take count order ≡ map (λ c. c .0) cs
   pub parents-are : (i : ℕ) → i < n → getD from i 0 ≡ parentMark cs i
-  pub parents-low : (c : Literal) → List·Memᴰ c cs → c .1 < 1024
+  pub parents-low : (c : Entry) → List·Memᴰ c cs → c .1 < 1024
 
 -- cell j is a square and not listed
 unfoldable pub wanted : List ℕ → List ℕ → ℕ → Bool
@@ -58,12 +58,12 @@ pub record Room (order from : List ℕ) (count : ℕ) : Type 0 where
 
 -- the cell at place t of the breadth-first list appended what it has to append
 pub record ListedBeside (h w : ℕ) (cells : List ℕ) (t : ℕ) (order from : List ℕ) (count : ℕ) (order′ from′ : List ℕ) (r : ℕ) : Type 0 where
-  pub list : (cs : List Literal) → Listing (h * w) order from count cs → Listing (h * w) order′ from′ r (cs ++ appended (sized h w) cells cs (getD order t 0))
+  pub list : (cs : List Entry) → Listing (h * w) order from count cs → Listing (h * w) order′ from′ r (cs ++ appended (sized h w) cells cs (getD order t 0))
   pub room : Room order′ from′ r
   pub more : count ≤ r
 
 -- the breadth-first list from b
-abbrev pub listFrom : ℕ → ℕ → List ℕ → ℕ → List Literal
+abbrev pub listFrom : ℕ → ℕ → List ℕ → ℕ → List Entry
 listFrom h w cells b = breadthFirst (sized h w) cells (size (sized h w)) [] ((b, b) ∷ [])
 
 -- a and b are squares of one block

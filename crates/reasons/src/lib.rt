@@ -11,8 +11,9 @@ ghost use lib.Seq.{slice};
 ghost use mathlib.Core.Bool.{Bool, true, false, cond, _&&_, not};
 ghost use lib.Dec.{eqb};
 ghost use Rattle.grid.specs.Lists.{any, filter, last, upto};
-ghost use Rattle.grid.specs.Grid.{Grid, size, neighbours};
+ghost use Rattle.grid.specs.Grid.{size, neighbours};
 ghost use Rattle.grid.specs.Side.{InGrid, sized};
+ghost use Rattle.record.specs.Record.{Puzzle};
 ghost use Rattle.board.specs.Board.{empty, filled};
 ghost use Rattle.groups.specs.Groups.{labelArray};
 ghost use Rattle.kinds.specs.Kinds.{View, block, word};
@@ -21,7 +22,7 @@ ghost use Rattle.reasons.specs.Buffer.{Wrote};
 ghost use Rattle.reasons.specs.Arrays.{CellArray, PotentialArrays, rankAt, Ranked, firstName, foundAt, boundaryOf, Kept, Firsts, Crossing, Blocked, ArrowArrays, Ready, linesOf};
 ghost use Rattle.reasons.specs.Pairs.{Fit, FoundAs, viewOn};
 ghost use Rattle.reasons.specs.Find.{findOf, bufferAfter};
-ghost use Rattle.kinds.specs.Inside.{Held, Given};
+ghost use Rattle.kinds.specs.Inside.{puzzleWith, Held, Given};
 ghost use Rattle.reasons.specs.Search.{Offered, Room, ListedBeside, Listing, listFrom, PathEnds};
 
 // The answer of `find`: no reason applies, the number of literals that stand in the buffer, or a refusal by document 01's number.
@@ -337,7 +338,7 @@ fn find_stranded(
     marks: &mut [u8; 1024],
 ) -> Name
     requires { ⌜ (n ≤ 1024) × (length (now marks) ≡ 1024) ⌝ }
-    ensures { λ r. ⌜ ((g : Grid) (arrows : List (List ℕ)) → PotentialArrays g arrows (take n (now (cells .entry))) (now (groups .entry)) (now (onarrow .entry)) → n ≡ size g → reason1 g arrows (take n (now (cells .entry))) ≡ foundAt (boundaryOf g (take n (now (cells .entry)))) r) ⌝ }
+    ensures { λ r. ⌜ ((p : Puzzle) → PotentialArrays p (take n (now (cells .entry))) (now (groups .entry)) (now (onarrow .entry)) → n ≡ size (p .grid) → reason1 p (take n (now (cells .entry))) ≡ foundAt (boundaryOf (p .grid) (take n (now (cells .entry)))) r) ⌝ }
     ensures { λ r. ⌜ ((f : ℕ) → r ≡ Name.At f → f < n) ⌝ }
 {
     rank_groups(cells, groups, onarrow, n, marks);
@@ -502,7 +503,7 @@ fn find_crossing(
     second: &mut [u16; 1024],
 ) -> Ends
     requires { ⌜ (n ≤ 1024) × (length (now first) ≡ 1024) × (length (now second) ≡ 1024) ⌝ }
-    ensures { λ r. ⌜ ((g : Grid) (arrows : List (List ℕ)) (cells : List ℕ) → Given g arrows cells (now (blocks .entry)) (now (onarrow .entry)) → n ≡ size g → Crossing g arrows cells r) ⌝ }
+    ensures { λ r. ⌜ ((p : Puzzle) (cells : List ℕ) → Given p cells (now (blocks .entry)) (now (onarrow .entry)) → n ≡ size (p .grid) → Crossing p cells r) ⌝ }
     ensures { λ _. ⌜ (length (now (first .exit)) ≡ 1024) × (length (now (second .exit)) ≡ 1024) ⌝ }
 {
     keep_arrow_cells(blocks, onarrow, n, first, second);
@@ -523,7 +524,7 @@ fn check_potential_groups(
     buffer: &mut [u16],
 ) -> Finding
     requires { ⌜ Fit h w (now buffer) ⌝ }
-    ensures { λ r. ⌜ ((arrows : List (List ℕ)) → PotentialArrays (sized h w) arrows (take (h * w) (now (cells .entry))) (now (groups .entry)) (now (onarrow .entry)) → FoundAs (reason1 (sized h w) arrows (take (h * w) (now (cells .entry)))) (now (buffer .entry)) (now (buffer .exit)) r) ⌝ }
+    ensures { λ r. ⌜ ((arrows : List (List ℕ)) → PotentialArrays (puzzleWith (sized h w) arrows) (take (h * w) (now (cells .entry))) (now (groups .entry)) (now (onarrow .entry)) → FoundAs (reason1 (puzzleWith (sized h w) arrows) (take (h * w) (now (cells .entry)))) (now (buffer .entry)) (now (buffer .exit)) r) ⌝ }
 {
     let mut marks = [0u8; 1024];
     let name = find_stranded(cells, groups, onarrow, h * w, &mut marks);
@@ -546,7 +547,7 @@ fn check_blocks(
     buffer: &mut [u16],
 ) -> Finding
     requires { ⌜ Fit h w (now buffer) × Blocked h w (now cells) (now blocks) (now onarrow) ⌝ }
-    ensures { λ r. ⌜ ((arrows : List (List ℕ)) → Given (sized h w) arrows (take (h * w) (now (cells .entry))) (now (blocks .entry)) (now (onarrow .entry)) → FoundAs (reason2 (sized h w) arrows (take (h * w) (now (cells .entry)))) (now (buffer .entry)) (now (buffer .exit)) r) ⌝ }
+    ensures { λ r. ⌜ ((arrows : List (List ℕ)) → Given (puzzleWith (sized h w) arrows) (take (h * w) (now (cells .entry))) (now (blocks .entry)) (now (onarrow .entry)) → FoundAs (reason2 (puzzleWith (sized h w) arrows) (take (h * w) (now (cells .entry)))) (now (buffer .entry)) (now (buffer .exit)) r) ⌝ }
 {
     let mut first = [0u16; 1024];
     let mut second = [0u16; 1024];
@@ -613,7 +614,7 @@ fn find_inconsistency<'a>(
     buffer: &mut [u16],
 ) -> Finding
     requires { ⌜ Fit h w (now buffer) × ArrowArrays (h * w) (now arrows) (now ends) number (last 0 (take number (now ends))) ⌝ }
-    ensures { λ r. ⌜ FoundAs (findReason (sized h w) (linesOf (now (arrows .entry)) (now (ends .entry)) number) (take (h * w) (now (cells .entry)))) (now (buffer .entry)) (now (buffer .exit)) r ⌝ }
+    ensures { λ r. ⌜ FoundAs (findReason (puzzleWith (sized h w) (linesOf (now (arrows .entry)) (now (ends .entry)) number)) (take (h * w) (now (cells .entry)))) (now (buffer .entry)) (now (buffer .exit)) r ⌝ }
 {
     let mut onarrow = [0u8; 1024];
     let mut labels = [0u16; 1024];

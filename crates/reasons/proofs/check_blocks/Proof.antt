@@ -7,6 +7,7 @@ use lib.ListN.{take}
 use borrow.Author.Needs.{needs}
 use Rattle.grid.specs.Side.{sized}
 use Rattle.grid.proofs.SideLaws.{area}
+use Rattle.kinds.specs.Inside.{puzzleWith}
 use Rattle.reasons.proofs.Checks.{crossing-ends, crossing-found, crossing-none, sized-size}
 use Rattle.reasons.proofs.check_blocks.Statement.{statement}
 use Rattle.reasons.proofs.check_blocks.Tie as tie
@@ -30,7 +31,7 @@ reason-for-path-requires c κs =
     let w = s .args .w in
     let cells = take (h * w) (s .args .cells .now) in
     let k = s .pre .1 in (
-      crossing-ends h w (k .arrows) cells (f .ensures .0 (sized h w) (k .arrows) cells (k .held) (sized-size h w)) (c .before .before .before .before .ends .given .1) (s .pre .0 .tall) (s .pre .0 .wide),
+      crossing-ends h w (k .arrows) cells (f .ensures .0 (puzzleWith (sized h w) (k .arrows)) cells (k .held) (sized-size h w)) (c .before .before .before .before .ends .given .1) (s .pre .0 .tall) (s .pre .0 .wide),
       f .ensures .1 .1,
       f .ensures .1 .0,
       omega (arith, s .pre .0 .room),
@@ -49,7 +50,7 @@ returns c = λ arrows held.
     let h = s .args .h in
     let w = s .args .w in
     let cells = take (h * w) (s .args .cells .now) in
-    crossing-found h w arrows cells (f .ensures .0 (sized h w) arrows cells held (sized-size h w)) (c .before .before .before .before .before .before .before .ends .given .1) (c .before .before .reason-for-path .ensures .0)
+    crossing-found h w arrows cells (f .ensures .0 (puzzleWith (sized h w) arrows) cells held (sized-size h w)) (c .before .before .before .before .before .before .before .ends .given .1) (c .before .before .reason-for-path .ensures .0)
 
 returns-2 : tie.Need-returns-2
 returns-2 c = λ arrows held.
@@ -58,7 +59,7 @@ returns-2 c = λ arrows held.
     let h = s .args .h in
     let w = s .args .w in
     let cells = take (h * w) (s .args .cells .now) in
-    crossing-none h w arrows cells (f .ensures .0 (sized h w) arrows cells held (sized-size h w)) (s .args .buffer .now) (c .enum-told .given .1)
+    crossing-none h w arrows cells (f .ensures .0 (puzzleWith (sized h w) arrows) cells held (sized-size h w)) (s .args .buffer .now) (c .enum-told .given .1)
 
 pub check-blocks-spec : {M : Type 1} → statement M
 check-blocks-spec =

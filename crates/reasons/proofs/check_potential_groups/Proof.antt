@@ -7,6 +7,7 @@ use lib.ListN.{take}
 use borrow.Author.Needs.{needs}
 use Rattle.grid.specs.Side.{sized}
 use Rattle.grid.proofs.SideLaws.{area}
+use Rattle.kinds.specs.Inside.{puzzleWith}
 use Rattle.reasons.specs.Arrays.{boundaryOf}
 use Rattle.reasons.proofs.Checks.{named-found, nobody-found, sized-size}
 use Rattle.reasons.proofs.check_potential_groups.Statement.{statement}
@@ -45,7 +46,7 @@ returns c = λ arrows held.
     let h = s .args .h in
     let w = s .args .w in
     let cells = take (h * w) (s .args .cells .now) in
-    named-found (boundaryOf (sized h w) cells) (f .ensures .0 (sized h w) arrows held (sized-size h w)) (n .given .1)
+    named-found (boundaryOf (sized h w) cells) (f .ensures .0 (puzzleWith (sized h w) arrows) held (sized-size h w)) (n .given .1)
     (c .before .before .reason-for-potential-unit-boundary .ensures (held .groups-are)
     (omega (arith, f .ensures .1 (n .given .0 .0) (n .given .1), area h w (s .pre .tall) (s .pre .wide))))
 
@@ -56,7 +57,7 @@ returns-2 c = λ arrows held.
     let h = s .args .h in
     let w = s .args .w in
     let cells = take (h * w) (s .args .cells .now) in
-    nobody-found (boundaryOf (sized h w) cells) (s .args .buffer .now) (f .ensures .0 (sized h w) arrows held (sized-size h w)) (c .enum-told .given .1)
+    nobody-found (boundaryOf (sized h w) cells) (s .args .buffer .now) (f .ensures .0 (puzzleWith (sized h w) arrows) held (sized-size h w)) (c .enum-told .given .1)
 
 pub check-potential-groups-spec : {M : Type 1} → statement M
 check-potential-groups-spec =

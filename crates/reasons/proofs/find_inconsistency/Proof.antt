@@ -4,6 +4,7 @@ use Prim.Native.Nat.{_*_}
 use mathlib.Core.Path.{_∙_}
 use lib.ListN.{take}
 use Rattle.grid.specs.Side.{sized}
+use Rattle.kinds.specs.Inside.{puzzleWith}
 use Rattle.reasons.specs.Reasons.{reason1, reason2}
 use Rattle.reasons.specs.Arrays.{linesOf, ArrowArrays}
 use Rattle.reasons.proofs.Checks.{line-is, potentials-held, blocks-held, fit-after, same-after, never-refused, first-found, second-found, rest-found}
@@ -46,7 +47,7 @@ returns c =
     let d : ArrowArrays (h * w) (s .args .arrows .now) (s .args .ends .now) (s .args .number) (total .result) = rw (total .ensures) (s .pre .1) in
     let marks = c .before .before .before .before .before .before .before .before .before .before .before .mark-arrow-cells .ensures in
     let one = c .before .before .before .before .before .check-potential-groups .ensures lines (potentials-held h w (fit .tall) (fit .wide) d cells (c .before .before .before .before .before .before .before .before .before .compute-connected-components .ensures) marks) in
-    first-found (sized h w) lines (take (h * w) cells) one (c .before .first .given .1)
+    first-found (puzzleWith (sized h w) lines) (take (h * w) cells) one (c .before .first .given .1)
 
 enum-known-first-2 : tie.Need-enum-known-first-2
 enum-known-first-2 c = search needs
@@ -66,7 +67,7 @@ returns-2 c =
     let d : ArrowArrays (h * w) (s .args .arrows .now) (s .args .ends .now) (s .args .number) (total .result) = rw (total .ensures) (s .pre .1) in
     let marks = c .before .before .before .before .before .before .before .before .before .before .before .mark-arrow-cells .ensures in
     let one = c .before .before .before .before .before .check-potential-groups .ensures lines (potentials-held h w (fit .tall) (fit .wide) d cells (c .before .before .before .before .before .before .before .before .before .compute-connected-components .ensures) marks) in
-    absurd (never-refused (reason1 (sized h w) lines (take (h * w) cells)) one (c .before .first2 .given .1))
+    absurd (never-refused (reason1 (puzzleWith (sized h w) lines) (take (h * w) cells)) one (c .before .first2 .given .1))
 
 compute-connected-components-requires-2 : tie.Need-compute-connected-components-requires-2
 compute-connected-components-requires-2 c κs = search needs
@@ -83,7 +84,7 @@ check-blocks-requires c κs =
     let d : ArrowArrays (h * w) (s .args .arrows .now) (s .args .ends .now) (s .args .number) (total .result) = rw (total .ensures) (s .pre .1) in
     let marks = c .before .before .before .before .before .before .before .before .before .before .before .before .before .before .before .mark-arrow-cells .ensures in
     let one = c .before .before .before .before .before .before .before .before .before .check-potential-groups .ensures lines (potentials-held h w (fit .tall) (fit .wide) d cells (c .before .before .before .before .before .before .before .before .before .before .before .before .before .compute-connected-components .ensures) marks) in (
-      fit-after fit (same-after (reason1 (sized h w) lines (take (h * w) cells)) one (c .before .before .before .before .before .enum-told .given .1)),
+      fit-after fit (same-after (reason1 (puzzleWith (sized h w) lines) (take (h * w) cells)) one (c .before .before .before .before .before .enum-told .given .1)),
       record { arrows = lines; held = blocks-held h w (fit .tall) (fit .wide) d cells (c .before .before .before .compute-connected-components2 .ensures) marks },
     )
 
@@ -106,8 +107,8 @@ check-arrows-requires c κs =
     let none = c .before .before .before .before .before .before .before .before .before .before .before .before .before .enum-told .given .1 in
     let two = c .before .before .before .before .before .before .before .check-blocks .ensures lines held in (
       fit-after fit
-          (same-after (reason2 (sized h w) lines (take (h * w) cells)) two (c .before .before .before .enum-told2 .given .1)
-          ∙ same-after (reason1 (sized h w) lines (take (h * w) cells)) one none),
+          (same-after (reason2 (puzzleWith (sized h w) lines) (take (h * w) cells)) two (c .before .before .before .enum-told2 .given .1)
+          ∙ same-after (reason1 (puzzleWith (sized h w) lines) (take (h * w) cells)) one none),
       record { total = total .result; drawn = d; held = held },
     )
 
@@ -135,7 +136,7 @@ returns-3 c =
     let held = blocks-held h w (fit .tall) (fit .wide) d cells (c .before .before .before .before .before .before .before .before .before .before .before .before .before .before .compute-connected-components2 .ensures) marks in
     let none = c .before .before .before .before .before .before .before .before .before .before .before .before .before .before .before .before .enum-told .given .1 in
     let two = c .before .before .before .before .before .before .before .before .before .before .check-blocks .ensures lines held in
-    rest-found (sized h w) lines (take (h * w) cells) one none two (c .before .before .before .before .before .before .enum-told2 .given .1) (c .before .before .check-arrows .ensures)
+    rest-found (puzzleWith (sized h w) lines) (take (h * w) cells) one none two (c .before .before .before .before .before .before .enum-told2 .given .1) (c .before .before .check-arrows .ensures)
 
 same-length-4 : tie.Need-same-length-4
 same-length-4 c = search needs
@@ -155,7 +156,7 @@ returns-4 c =
     let held = blocks-held h w (fit .tall) (fit .wide) d cells (c .before .before .before .before .before .before .before .before .before .compute-connected-components2 .ensures) marks in
     let none = c .before .before .before .before .before .before .before .before .before .before .before .enum-told .given .1 in
     let two = c .before .before .before .before .before .check-blocks .ensures lines held in
-    second-found (sized h w) lines (take (h * w) cells) one none two (c .before .second .given .1)
+    second-found (puzzleWith (sized h w) lines) (take (h * w) cells) one none two (c .before .second .given .1)
 
 same-length-5 : tie.Need-same-length-5
 same-length-5 c = search needs
@@ -175,7 +176,7 @@ returns-5 c =
     let held = blocks-held h w (fit .tall) (fit .wide) d cells (c .before .before .before .before .before .before .before .before .before .compute-connected-components2 .ensures) marks in
     let none = c .before .before .before .before .before .before .before .before .before .before .before .enum-told .given .1 in
     let two = c .before .before .before .before .before .check-blocks .ensures lines held in
-    absurd (never-refused (reason2 (sized h w) lines (take (h * w) cells)) two (c .before .second2 .given .1))
+    absurd (never-refused (reason2 (puzzleWith (sized h w) lines) (take (h * w) cells)) two (c .before .second2 .given .1))
 
 pub find-inconsistency-spec : {M : Type 1} → statement M
 find-inconsistency-spec =

@@ -19,7 +19,7 @@ returns c =
     let n = a .args .n in
     let cells = a .args .cells .now in
     let R = c .before .before .rank-groups .ensures in
-    (λ g arrows P e. stranded-is g arrows cells (a .args .groups .now) (a .args .onarrow .now) n _ (a .pre .0) e P R ∙ ap (foundAt (boundaryOf g (take n cells))) (sym (c .first-marked .ensures)), λ f e. first-below _ n f (sym (c .first-marked .ensures) ∙ e))
+    (λ p P e. stranded-is p cells (a .args .groups .now) (a .args .onarrow .now) n _ (a .pre .0) e P R ∙ ap (foundAt (boundaryOf (p .grid) (take n cells))) (sym (c .first-marked .ensures)), λ f e. first-below _ n f (sym (c .first-marked .ensures) ∙ e))
 
 pub find-stranded-spec : {M : Type 1} → statement M
 find-stranded-spec = tie.close (tie.spec rank-groups-requires first-marked-requires returns)

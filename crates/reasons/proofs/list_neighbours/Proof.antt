@@ -10,7 +10,7 @@ use Rattle.grid.specs.Grid.{Grid, size, neighbours}
 use Rattle.grid.specs.Side.{sized, aroundOf}
 use Rattle.grid.proofs.GridLaws.{apart}
 use Rattle.grid.proofs.AroundLaws.{around-count, around-at, around-in, around-few}
-use Rattle.board.specs.Board.{Literal}
+use Rattle.reasons.specs.Reasons.{Entry}
 use Rattle.reasons.specs.Search.{Listing, Room, Offered}
 use Rattle.reasons.proofs.Listings.{offered-room, offered-more, offered-take, news, neighbour-offered, news-none, news-all}
 use Rattle.reasons.proofs.list_neighbours.Statement.{statement}
@@ -21,7 +21,7 @@ record Amid (g : Grid) (cells : List ℕ) (p : ℕ) (from₀ order₀ : List ℕ
   few : k ≤ length (neighbours g p)
   room : Room order from listed
   more : count ≤ listed
-  list : (cs : List Literal) → Listing (size g) order₀ from₀ count cs → Listing (size g) order from listed (cs ++ news g cells cs p k)
+  list : (cs : List Entry) → Listing (size g) order₀ from₀ count cs → Listing (size g) order from listed (cs ++ news g cells cs p k)
 
 abbrev Inv-loop : tie.InvT-loop
 Inv-loop cells h w t from₀ order₀ count p sides number listed₀ k₀ from order listed k = Amid (sized h w) (take (h * w) cells) p from₀ order₀ count from order listed k
