@@ -136,8 +136,8 @@ found-told : (s : List ℕ) (p : Puzzle) → readRecord s ≡ ok p → {ds : Lis
 found-told s p e st none q = nothing
 found-told s p e {ds} st (some r) q =
     let cells = cellsAfter (p .grid) ds in
-    let q′ : findReason (p .grid) (p .arrows) (cellsAfter (p .grid) ds) ≡ some r = unfold findOn in q in
-    reason {r = r} (reason-some (p .grid) (p .arrows) cells r q′) (omega (arith, found-length s p e cells r q′, most))
+    let q′ : findReason p (cellsAfter (p .grid) ds) ≡ some r = unfold findOn in q in
+    reason {r = r} (reason-some p cells r q′) (omega (arith, found-length s p e cells r q′, most))
     (λ l m. let h = low l (stands l m) in (omega (arith, h .0, most), h .1))
   where
     v : Valid p

@@ -57,19 +57,19 @@ module _ (p : Puzzle) (cells : List ℕ) (long : length cells ≡ size (p .grid)
   test-finished : finishedTest p cells ≡ true → Finished p cells
   unfolding finishedTest keepsAll at
   test-finished t =
-      let s = and-true (all at (upto (size (p .grid)))) (rulesTest (p .grid) (p .arrows) cells) t in
+      let s = and-true (all at (upto (size (p .grid)))) (rulesTest p cells) t in
       let k : (i : ℕ) → i < size (p .grid) → Kept (getD (p .given) i 0) (getD cells i 0) =
       λ i h. kept (getD (p .given) i 0) (getD cells i 0) (all-mem at (upto (size (p .grid))) (s .0) i (mem-upto (size (p .grid)) h)) in
       record {
         decided = record { long = long; each = λ i h. k i h .decided };
         black = λ i h. k i h .black;
         given = λ i h. k i h .given;
-        rules = test-rules (p .grid) (p .arrows) cells long (s .1);
+        rules = test-rules p cells long (s .1);
       }
 
   finished-test : Finished p cells → finishedTest p cells ≡ true
   unfolding finishedTest keepsAll at
-  finished-test f = true-and (mem-all at (upto (size (p .grid))) each) (rules-test (p .grid) (p .arrows) cells long (f .rules))
+  finished-test f = true-and (mem-all at (upto (size (p .grid))) each) (rules-test p cells long (f .rules))
     where
       each : (i : ℕ) → List·Memᴰ i (upto (size (p .grid))) → So (keeps (getD (p .given) i 0) (getD cells i 0))
       each i m =

@@ -86,36 +86,34 @@ module _ (b : Board) (h : wellFormed b ≡ true) where
 
     setting : Setting
     setting = record {
-      grid = gridOf (b .problem);
-      arrows = puzzleOf (b .problem) .arrows;
-      lines = unfold puzzleOf in valid-arrows (puzzleOf (b .problem)) (formed-valid (b .problem) (whole-is b h .problem));
+      puzzle = puzzleOf (b .problem);
+      lines = valid-arrows (puzzleOf (b .problem)) (formed-valid (b .problem) (whole-is b h .problem));
       cells = cellsOn b;
-      valid = record { long = long; three = λ i. omega (arith, each i) };
+      valid = record { long = unfold puzzleOf in long; three = λ i. omega (arith, each i) };
     }
 
     -- find gives none exactly when the block rules hold
-    rules : (reasonOn b ≡ none) ↔ BlockRules (gridOf (b .problem)) (puzzleOf (b .problem) .arrows) (cellsOn b)
+    rules : (reasonOn b ≡ none) ↔ BlockRules (puzzleOf (b .problem)) (cellsOn b)
     unfolding reasonOn undecided setting
     rules = complete setting (λ c u. omega (arith, eqb-true (getD (cellsOn b) c 0) 2 u, each c))
 
     -- every given cell is kept, so the verdict is that of the block rules
-    by-rules : (t : Bool) → rulesTest (gridOf (b .problem)) (puzzleOf (b .problem) .arrows) (cellsOn b) ≡ t → verdict t ≡ finishedOf b
+    by-rules : (t : Bool) → rulesTest (puzzleOf (b .problem)) (cellsOn b) ≡ t → verdict t ≡ finishedOf b
     unfolding finishedOf finishedTest
     by-rules t r =
         let e : keepsAll (size (puzzleOf (b .problem) .grid)) (puzzleOf (b .problem) .given) (cellsOn b) ≡ true = unfold puzzleOf in sym kept-same ∙ k in
-        let q : rulesTest (puzzleOf (b .problem) .grid) (puzzleOf (b .problem) .arrows) (cellsOn b) ≡ t = unfold puzzleOf in r in
-        rw (h, e, q) refl
+        rw (h, e, r) refl
 
     pub finished-none : reasonOn b ≡ none → verdicts.Yes ≡ finishedOf b
     unfolding verdict
-    finished-none e = by-rules true (rules-test (gridOf (b .problem)) (puzzleOf (b .problem) .arrows) (cellsOn b) long (rules .0 e))
+    finished-none e = by-rules true (rules-test (puzzleOf (b .problem)) (cellsOn b) (unfold puzzleOf in long) (rules .0 e))
 
     pub finished-some : {r : List Literal} → reasonOn b ≡ some r → verdicts.No ≡ finishedOf b
     unfolding verdict
     finished-some {r} e =
         by-rules false
-        (so-false (rulesTest (gridOf (b .problem)) (puzzleOf (b .problem) .arrows) (cellsOn b))
-        (λ t. clash (rules .1 (test-rules (gridOf (b .problem)) (puzzleOf (b .problem) .arrows) (cellsOn b) long t))))
+        (so-false (rulesTest (puzzleOf (b .problem)) (cellsOn b))
+        (λ t. clash (rules .1 (test-rules (puzzleOf (b .problem)) (cellsOn b) (unfold puzzleOf in long) t))))
       where
         clash : reasonOn b ≡ none → ⊥
         clash q = let z : _≡_ {A = ℕ} 0 1 = cc in omega arith

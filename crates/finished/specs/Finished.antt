@@ -17,7 +17,7 @@ pub record Finished (p : Puzzle) (cells : List ℕ) : Type 0 where
   pub decided : Full (p .grid) cells
   pub black : (i : ℕ) → i < size (p .grid) → getD (p .given) i 0 ≡ 1 → getD cells i 0 ≡ 0
   pub given : (i : ℕ) → i < size (p .grid) → getD (p .given) i 0 ≡ 2 → getD cells i 0 ≡ 1
-  pub rules : BlockRules (p .grid) (p .arrows) cells
+  pub rules : BlockRules p cells
 
 -- the same as a test
 
@@ -31,4 +31,4 @@ keepsAll n codes cells = all (λ i. keeps (getD codes i 0) (getD cells i 0)) (up
 
 -- every cell keeps what is given, and the block rules hold
 unfoldable pub finishedTest : Puzzle → List ℕ → Bool
-finishedTest p cells = keepsAll (size (p .grid)) (p .given) cells && rulesTest (p .grid) (p .arrows) cells
+finishedTest p cells = keepsAll (size (p .grid)) (p .given) cells && rulesTest p cells

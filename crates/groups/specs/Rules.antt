@@ -7,7 +7,7 @@ use mathlib.Core.List.{List, _∷_, _++_, List·Memᴰ}
 use lib.Dec.{eqb}
 use lib.ListN.{length, getD}
 use Rattle.grid.specs.Lists.{any, all, filter, flatMap}
-use Rattle.grid.specs.Grid.{Grid, size, cellsOf, row, col}
+use Rattle.grid.specs.Grid.{Grid, size, row, col}
 use Rattle.record.specs.Record.{Puzzle}
 use Rattle.board.specs.Board.{square}
 use Rattle.groups.specs.Groups.{Joined, labels, group, names}

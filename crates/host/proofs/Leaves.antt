@@ -1,12 +1,13 @@
 -- The leaves of document 01: those that it stars as one computed theorem, and the others beside it.
 -- Assumes nothing.
-use Prim.Native.Nat.{ℕ}
+use Prim.Native.Nat.{ℕ, _*_}
 use mathlib.Core.Path.{_≡_, refl}
 use mathlib.Core.List.{List, [], _∷_, _++_}
 use mathlib.Core.Option.{none, some}
+use lib.ListN.{replicate}
 use Rattle.grid.specs.Lists.{range, upto, filter, any, all, last, init, tail, flatMap, member, once}
 use Rattle.grid.specs.Grid.{size, cellsOf, row, col, only, up, down, left, right, neighbours, touches}
-use Rattle.record.specs.Record.{_>>=_, unless, bit, number, field, cellCodes, there, stepFrom, stepCells, arrowAt, filler, arrowsAt, readRecord, Outcome, ok, refused}
+use Rattle.record.specs.Record.{_>>=_, unless, bit, number, field, cellCodes, there, stepFrom, stepCells, arrowAt, filler, arrowsAt, readRecord, Puzzle, Outcome, ok, refused}
 use Rattle.board.specs.Board.{valueAt, cellsAfter, empty, square, undecided, filled, decided, after, refusal, afterAll, Call, decide}
 use Rattle.groups.specs.Groups.{rename, join, joinAll, edges, labels, group, names}
 use Rattle.groups.specs.Arrows.{onArrow, pairsFrom, pairs}
@@ -18,7 +19,7 @@ use Rattle.host.specs.Host.{acceptOr, decideBytes, hostFinds}
 
 -- open a record, decide in order, find
 unfoldable pub findAfter : List ℕ → List Call → Outcome Found
-findAfter s cs = readRecord s >>= λ p. ok (findReason (p .grid) (p .arrows) (cellsAfter (p .grid) (afterAll (p .grid) cs [])))
+findAfter s cs = readRecord s >>= λ p. ok (findReason p (cellsAfter (p .grid) (afterAll (p .grid) cs [])))
 
 -- strip S of document 01, with its last byte
 S : ℕ → List ℕ
@@ -84,14 +85,18 @@ hosts :
 unfolding S range upto filter any all last init tail flatMap member once size cellsOf row col only up down left right neighbours touches rename join joinAll edges labels group names _>>=_ unless bit number field cellCodes there stepFrom stepCells arrowAt filler arrowsAt readRecord valueAt cellsAfter empty square undecided filled decided after refusal afterAll isFloating isIn isBeside kindBeside onArrow arrowBlock blocksBeside kindAt kindsOf has viewWith view block floatNear inReach reach rival fenceAt fence orElse given firstOf each reason1At reason1 breadthFirst parent path reason2At reason2 pairsFrom pairs fits mostApart blockName reasonGrow reason3At gap reasonShrink reason4At reason34 findReason findOn acceptOr decideBytes enough hostFinds
 hosts = refl
 
+-- a puzzle of h rows and w columns, all plain, with one arrow
+plain : ℕ → ℕ → List ℕ → Puzzle
+plain h w a = record { grid = record { height = h; width = w }; given = replicate (h * w) 0; arrows = a ∷ [] }
+
 -- two boards that tell the tempting faults: a barrier taken for reachable, and 4 tested before every pair has passed 3
 tempting :
     _≡_ {A = List Found}
-    (findReason (record { height = 1; width = 3 }) ((2 ∷ 1 ∷ 0 ∷ []) ∷ []) (1 ∷ 2 ∷ 1 ∷ [])
-    ∷ findReason (record { height = 2; width = 4 }) ((7 ∷ 6 ∷ 5 ∷ 1 ∷ 2 ∷ 3 ∷ []) ∷ []) (1 ∷ 0 ∷ 1 ∷ 0 ∷ 1 ∷ 1 ∷ 0 ∷ 1 ∷ [])
+    (findReason (plain 1 3 (2 ∷ 1 ∷ 0 ∷ [])) (1 ∷ 2 ∷ 1 ∷ [])
+    ∷ findReason (plain 2 4 (7 ∷ 6 ∷ 5 ∷ 1 ∷ 2 ∷ 3 ∷ [])) (1 ∷ 0 ∷ 1 ∷ 0 ∷ 1 ∷ 1 ∷ 0 ∷ 1 ∷ [])
     ∷ [])
     (some ((2, 1) ∷ (0, 1) ∷ (2, 1) ∷ [])
     ∷ some ((0, 1) ∷ (4, 1) ∷ (5, 1) ∷ (2, 1) ∷ (1, 0) ∷ (3, 0) ∷ (6, 0) ∷ [])
     ∷ [])
-unfolding range upto filter any all last init tail flatMap member once size cellsOf row col only up down left right neighbours touches rename join joinAll edges labels group names _>>=_ unless bit number field cellCodes there stepFrom stepCells arrowAt filler arrowsAt readRecord valueAt cellsAfter empty square undecided filled decided after refusal afterAll isFloating isIn isBeside kindBeside onArrow arrowBlock blocksBeside kindAt kindsOf has viewWith view block floatNear inReach reach rival fenceAt fence orElse given firstOf each reason1At reason1 breadthFirst parent path reason2At reason2 pairsFrom pairs fits mostApart blockName reasonGrow reason3At gap reasonShrink reason4At reason34 findReason findOn acceptOr decideBytes enough hostFinds
+unfolding plain range upto filter any all last init tail flatMap member once size cellsOf row col only up down left right neighbours touches rename join joinAll edges labels group names _>>=_ unless bit number field cellCodes there stepFrom stepCells arrowAt filler arrowsAt readRecord valueAt cellsAfter empty square undecided filled decided after refusal afterAll isFloating isIn isBeside kindBeside onArrow arrowBlock blocksBeside kindAt kindsOf has viewWith view block floatNear inReach reach rival fenceAt fence orElse given firstOf each reason1At reason1 breadthFirst parent path reason2At reason2 pairsFrom pairs fits mostApart blockName reasonGrow reason3At gap reasonShrink reason4At reason34 findReason findOn acceptOr decideBytes enough hostFinds
 tempting = refl

@@ -15,12 +15,11 @@ use Rattle.record.specs.Problem.{arrowCells, arrowsFrom}
 use Rattle.board.specs.Board.{Literal, filled, square}
 use Rattle.groups.specs.Groups.{Joined, labels, group, labelArray, maskOf}
 use Rattle.groups.specs.Arrows.{onArrow}
-use Rattle.kinds.specs.Kinds.{View, kindArray, ownerArray}
 use Rattle.reasons.specs.Reasons.{Found, each, boundary, breadthFirst, path, reason2}
 use Rattle.reasons.specs.declared.Name.{Name}
 use Rattle.reasons.specs.declared.Name.the-variants.{At, Nobody}
 use Rattle.reasons.specs.declared.Ends.{Ends}
-use Rattle.kinds.specs.Inside.{puzzleWith, Held, Given}
+use Rattle.kinds.specs.Inside.{puzzleWith, Given}
 use Rattle.reasons.specs.declared.Ends.the-variants.{Between, Nowhere}
 
 -- an array of cells
