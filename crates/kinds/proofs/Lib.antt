@@ -14,3 +14,4 @@ pub mod Reaches
 pub mod Ordering
 pub mod Fences
 pub mod FenceList
+pub mod ChainLaws

@@ -1,3 +1,4 @@
 pub mod Kinds
 pub mod Inside
 pub mod Meaning
+pub mod Chains

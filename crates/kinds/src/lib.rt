@@ -1,6 +1,6 @@
 // The kinds of a board's cells, the reach of an arrow block and its fence.
 ghost use mathlib.Core.Path.{_≡_};
-ghost use Prim.Native.Nat.{ℕ, _*_, _≤_, _<_};
+ghost use Prim.Native.Nat.{ℕ, _+_, _*_, _≤_, _<_};
 ghost use mathlib.Core.Bool.{Bool, _&&_, _||_};
 ghost use mathlib.Core.List.{List, [], _∷_, _++_};
 ghost use lib.Dec.{eqb};
@@ -9,6 +9,7 @@ ghost use Rattle.grid.specs.Lists.{any};
 ghost use Rattle.grid.specs.Grid.{neighbours};
 ghost use Rattle.grid.specs.Side.{sized, InGrid};
 ghost use Rattle.kinds.specs.Kinds.{view, kindCode, ownerBy, reachMask};
+ghost use Rattle.kinds.specs.Chains.{ChainsFrom, Chains};
 ghost use Rattle.kinds.specs.Inside.{Limits, puzzleWith, Given, Held, Detailed, Marks, arrowAmong, kindFrom, meetOf, Owned, arrowAt, arrowsAt, kindIn, codesIn, ownersIn, floats, Walked, Walkable, Unnamed, Sofar, nearAt, nearAmong, reaches, Counted, Reached, Reach, Place, Shifted, Inserted, Ordered, Room, Whole, ofBlock, rivals, touched, adds, Fenced};
 
 // No mark is set.
@@ -18,7 +19,7 @@ fn clear(marks: &mut [u8; 1024])
     *marks = [0u8; 1024];
 }
 
-// No cell has a group.
+// Each place has 1024, which stands for none.
 fn unname(owners: &mut [u16; 1024])
     ensures { λ _. ⌜ now (owners .exit) ≡ replicate 1024 1024 ⌝ }
 {
@@ -279,6 +280,39 @@ pub fn compute_board_info_detailed(
     mark_arrow_blocks(blocks, on_arrow, h * w, arrowed);
     compute_cell_kinds(cells, blocks, arrowed, h, w, kinds, owners);
     name_floating_groups(kinds, owners, h, w);
+}
+
+// Puts cell i in front of the chain of its owner, if it has one.
+fn chain_cell(owners: &[u16; 1024], i: usize, head: &mut [u16; 1024], next: &mut [u16; 1024])
+    requires { ⌜ i < 1024 ⌝ }
+    ensures { λ _. ⌜ ((n : ℕ) → i < n → ChainsFrom (now (owners .entry)) (now (head .entry)) (now (next .entry)) n (i + 1) → ChainsFrom (now (owners .entry)) (now (head .exit)) (now (next .exit)) n i) ⌝ }
+{
+    let f = owners[i];
+    if 1024 <= f {
+        return;
+    }
+    next[i] = head[f as usize];
+    head[f as usize] = i as u16;
+}
+
+// Links the cells of each owner by rising index: head has the first cell of each owner and next the one behind each cell;
+// 1024 stands for none. A walk over one group then takes as many steps as the group has cells.
+pub fn chain_cells(
+    owners: &[u16; 1024],
+    n: usize,
+    head: &mut [u16; 1024],
+    next: &mut [u16; 1024],
+)
+    requires { ⌜ n ≤ 1024 ⌝ }
+    ensures { λ _. ⌜ Chains (now (owners .entry)) (now (head .exit)) (now (next .exit)) n ⌝ }
+{
+    unname(head);
+    unname(next);
+    let mut i = n;
+    while 0 < i {
+        i -= 1;
+        chain_cell(owners, i, head, next);
+    }
 }
 
 // Whether a cell of this kind and owner is in the reach of the block f.
