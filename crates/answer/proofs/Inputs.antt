@@ -1,17 +1,16 @@
--- What is printed, by the tests of the input.
+-- What the program finds, by the tests of the input.
 -- Assumes nothing.
-use Prim.Native.Nat.{ℕ, suc, _+_, _*_, _≤_, _<_}
+use Prim.Native.Nat.{ℕ, suc, _+_, _-_, _*_, _≤_, _<_}
 use native.Mathlib.Omega.{arith}
 use mathlib.Core.Path.{_≡_, refl, sym, ap, _∙_}
 use mathlib.Core.List.{List, [], _∷_, _++_}
 use lib.Dec.{ltb}
 use lib.ListN.{length, getD, take, drop}
 use borrow.Author.Tests.{lt-ltb, le-ltb}
+use borrow.Rule.Slice.PartAt.{part-to-end}
 use Rattle.record.specs.Record.{refused}
 use Rattle.host.specs.Host.{hostFinds}
-use Rattle.answer.specs.Text.{Written, digits, line, twoWords, refusedText}
-use Rattle.answer.specs.Program.{textOf, outputLimit, answerOf, inputAnswer, printed}
-use Rattle.answer.proofs.ToldLaws.{refusedWord}
+use Rattle.answer.specs.Program.{outputLimit, answerOf, inputAnswer, programFinds}
 
 -- the length that the first two bytes say
 abbrev pub lengthSaid : List ℕ → ℕ
@@ -40,20 +39,23 @@ all (a ∷ b ∷ rest) t h =
     let n : 2 + (a * 256 + b) ≡ suc (suc (a * 256 + b)) = omega arith in
     rw (le-ltb (length rest) (a * 256 + b) (omega arith), n) refl
 
-pub too-long : (input : List ℕ) → 8192 < length input → printed input ≡ textOf (refused 12)
-unfolding printed
+pub too-long : (input : List ℕ) → 8192 < length input → programFinds input ≡ refused 12
+unfolding programFinds
 too-long input h = rw (lt-ltb 8192 (length input) h) refl
 
 module _ (input : List ℕ) (fits : length input ≤ 8192) where
-  pub too-short : length input < 2 → printed input ≡ textOf (refused 1)
-  unfolding printed
-  too-short h = rw (le-ltb 8192 (length input) fits) (ap textOf (none input h))
+  pub too-short : length input < 2 → programFinds input ≡ refused 1
+  unfolding programFinds
+  too-short h = rw (le-ltb 8192 (length input) fits) (none input h)
 
-  pub cut-short : 2 ≤ length input → length input < 2 + lengthSaid input → printed input ≡ textOf (refused 1)
-  unfolding printed
-  cut-short h s = rw (le-ltb 8192 (length input) fits) (ap textOf (cut input h s))
+  pub cut-short : 2 ≤ length input → length input < 2 + lengthSaid input → programFinds input ≡ refused 1
+  unfolding programFinds
+  cut-short h s = rw (le-ltb 8192 (length input) fits) (cut input h s)
 
-  pub whole-input : 2 ≤ length input → 2 + lengthSaid input ≤ length input
-      → printed input ≡ textOf (hostFinds (take (lengthSaid input) (drop 2 input)) (drop (2 + lengthSaid input) input) 6146)
-  unfolding printed
-  whole-input t h = rw (le-ltb 8192 (length input) fits) (ap textOf (all input t h))
+  -- the host call on the two parts of the input, and an output of k bytes
+  pub whole-input : (n k : ℕ) → n ≡ lengthSaid input → k ≡ 6146 → 2 ≤ length input → 2 + n ≤ length input
+      → hostFinds (take (2 + n - 2) (drop 2 input)) (take (length input - (2 + n)) (drop (2 + n) input)) k ≡ programFinds input
+  unfolding programFinds
+  whole-input n k e f t h =
+      let z : 2 + n - 2 ≡ n = omega arith in
+      rw (z, part-to-end input (2 + n), f, e, le-ltb 8192 (length input) fits) (sym (all input t (omega arith)))

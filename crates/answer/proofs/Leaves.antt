@@ -16,7 +16,7 @@ use Rattle.reasons.specs.Reasons.{orElse, given, firstOf, each, reason1At, reas
 use Rattle.reasons.specs.Find.{enough}
 use Rattle.host.specs.Host.{acceptOr, decideBytes, hostFinds}
 use Rattle.answer.specs.Text.{digitsWithin, digits, line, noneText, reasonText, refusedText, twoWords, literalLine}
-use Rattle.answer.specs.Program.{textOf, outputLimit, answerOf, inputAnswer, printed}
+use Rattle.answer.specs.Program.{textOf, outputLimit, answerOf, inputAnswer, programFinds, printed}
 
 -- strip S of document 01, with its last byte
 S : ℕ → List ℕ
@@ -35,5 +35,5 @@ prints :
     ∷ (114 ∷ 101 ∷ 102 ∷ 117 ∷ 115 ∷ 101 ∷ 100 ∷ 32 ∷ 49 ∷ 10 ∷ [])
     ∷ (114 ∷ 101 ∷ 102 ∷ 117 ∷ 115 ∷ 101 ∷ 100 ∷ 32 ∷ 49 ∷ 10 ∷ [])
     ∷ [])
-unfolding S range upto filter any all last init tail flatMap member once size cellsOf row col only up down left right neighbours touches rename join joinAll edges labels group names _>>=_ unless bit number field cellCodes there stepFrom stepCells arrowAt filler arrowsAt readRecord valueAt cellsAfter empty square undecided filled decided after refusal afterAll isFloating isIn isBeside kindBeside onArrow arrowBlock blocksBeside kindAt kindsOf has viewWith view block floatNear inReach reach rival fenceAt fence orElse given firstOf each reason1At reason1 breadthFirst parent path reason2At reason2 pairsFrom pairs fits mostApart blockName reasonGrow reason3At gap reasonShrink reason4At reason34 findReason findOn acceptOr decideBytes enough hostFinds digitsWithin digits line noneText reasonText refusedText twoWords literalLine textOf outputLimit answerOf inputAnswer printed
+unfolding S range upto filter any all last init tail flatMap member once size cellsOf row col only up down left right neighbours touches rename join joinAll edges labels group names _>>=_ unless bit number field cellCodes there stepFrom stepCells arrowAt filler arrowsAt readRecord valueAt cellsAfter empty square undecided filled decided after refusal afterAll isFloating isIn isBeside kindBeside onArrow arrowBlock blocksBeside kindAt kindsOf has viewWith view block floatNear inReach reach rival fenceAt fence orElse given firstOf each reason1At reason1 breadthFirst parent path reason2At reason2 pairsFrom pairs fits mostApart blockName reasonGrow reason3At gap reasonShrink reason4At reason34 findReason findOn acceptOr decideBytes enough hostFinds digitsWithin digits line noneText reasonText refusedText twoWords literalLine textOf outputLimit answerOf inputAnswer programFinds printed
 prints = refl

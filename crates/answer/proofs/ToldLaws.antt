@@ -20,7 +20,7 @@ reasonWord = 114 ∷ 101 ∷ 97 ∷ 115 ∷ 111 ∷ 110 ∷ 32 ∷ []
 abbrev pub refusedWord : List ℕ
 refusedWord = 114 ∷ 101 ∷ 102 ∷ 117 ∷ 115 ∷ 101 ∷ 100 ∷ 32 ∷ []
 
-module _ (n : ℕ) {o o₁ : List ℕ} {m : ℕ} (few : n ≤ 3073) (room : 24576 ≤ length o) (w : Written o 0 ((reasonWord ++ digits n) ++ (10 ∷ [])) o₁ m) where
+module _ (n : ℕ) {o o₁ : List ℕ} {m : ℕ} (few : n ≤ 3073) (room : 21523 ≤ length o) (w : Written o 0 ((reasonWord ++ digits n) ++ (10 ∷ [])) o₁ m) where
   head-length : length ((reasonWord ++ digits n) ++ (10 ∷ [])) ≤ 12
   unfolding digits
   head-length = omega (arith, length-append (reasonWord ++ digitsWithin 4 n) (10 ∷ []), length-append reasonWord (digitsWithin 4 n), digits-length 4 n)

@@ -58,6 +58,12 @@ module _ {o o′ a : List ℕ} {at m : ℕ} where
   pub write-length : Written o at a o′ m → at + length a ≤ length o → length o′ ≡ length o
   write-length u h = ap length (u .whole) ∙ written-length o at a h
 
+  -- the text ends within what is lent
+  pub write-within : Written o at a o′ m → at ≤ length o → m ≤ length o′
+  unfolding written
+  write-within u h =
+      omega (arith, u .behind, ap length (u .whole), length-append (take at o) (a ++ drop (at + length a) o), length-append a (drop (at + length a) o), length-take-le at o h)
+
   -- two texts, one behind the other
   pub write-then : {o″ b : List ℕ} {r : ℕ} → Written o at a o′ m → Written o′ m b o″ r → at + length a ≤ length o → Written o at (a ++ b) o″ r
   write-then {o″} {b} {r} u w h =

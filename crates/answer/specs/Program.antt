@@ -32,6 +32,10 @@ inputAnswer [] = refused 1
 inputAnswer (a ∷ []) = refused 1
 inputAnswer (a ∷ b ∷ rest) = answerOf (a * 256 + b) rest
 
--- what the program prints: 12 for more than 8,192 bytes comes first
+-- what the program finds in its input: 12 for more than 8,192 bytes comes first
+unfoldable pub programFinds : List ℕ → Outcome Found
+programFinds input = cond (ltb 8192 (length input)) (refused 12) (inputAnswer input)
+
+-- what the program prints
 unfoldable pub printed : List ℕ → List ℕ
-printed input = textOf (cond (ltb 8192 (length input)) (refused 12) (inputAnswer input))
+printed input = textOf (programFinds input)

@@ -5,8 +5,16 @@ ghost use Prim.Native.Nat.{_+_, _*_, _%_, _≤_, _<_};
 ghost use lib.ListN.{length, take};
 ghost use Rattle.grid.specs.Lists.{flatMap};
 ghost use lib.Signed.{mag};
+ghost use Rattle.host.specs.Host.{returned, outputAfter};
+ghost use Rattle.answer.specs.Program.{programFinds, printed};
 ghost use Rattle.answer.specs.Told.{toldBy, countOf, toldText};
 ghost use Rattle.answer.specs.Text.{Written, digitsWithin, digits, literalIn, literalsIn, literalLine};
+
+// The length of the longest text: a first line of 12 bytes, and 7 for each of 3,073 literals.
+pub const TEXT: usize = 21523;
+
+// The length of the longest input that is not refused for it.
+pub const INPUT: usize = 8192;
 
 // Writes one byte, and returns the place behind it.
 fn put(out: &mut [u8], at: usize, byte: u8) -> usize
@@ -120,7 +128,7 @@ fn read_code(code: i32) -> Told
 
 // Writes the count and the lines of a reason whose literals stand in the first of the bytes found.
 fn write_reason(out: &mut [u8], found: &[u8], count: usize) -> usize
-    requires { ⌜ (count ≤ 3073) × (2 * count ≤ length (now found)) × (24576 ≤ length (now out)) ⌝ }
+    requires { ⌜ (count ≤ 3073) × (2 * count ≤ length (now found)) × (21523 ≤ length (now out)) ⌝ }
     ensures { λ r. ⌜ Written (now (out .entry)) 0 (toldText (Told.Literals count) (now (found .entry))) (now (out .exit)) r ⌝ }
 {
     let lines = write_head(out, b"reason ", count);
@@ -129,7 +137,7 @@ fn write_reason(out: &mut [u8], found: &[u8], count: usize) -> usize
 
 // Writes the text for what the host call says, with the bytes that it left.
 fn write_told(out: &mut [u8], told: Told, found: &[u8]) -> usize
-    requires { ⌜ (countOf told ≤ 3073) × (6146 ≤ length (now found)) × (24576 ≤ length (now out)) ⌝ }
+    requires { ⌜ (countOf told ≤ 3073) × (6146 ≤ length (now found)) × (21523 ≤ length (now out)) ⌝ }
     ensures { λ r. ⌜ Written (now (out .entry)) 0 (toldText told (now (found .entry))) (now (out .exit)) r ⌝ }
 {
     match told {
@@ -137,4 +145,47 @@ fn write_told(out: &mut [u8], told: Told, found: &[u8]) -> usize
         Told::Nothing => write_text(out, 0, b"none\n"),
         Told::Literals(count) => write_reason(out, found, count),
     }
+}
+
+// Room for the literals of the longest reason, two bytes each.
+fn no_bytes() -> [u8; 6146]
+    ensures { λ r. ⌜ length r ≡ 6146 ⌝ }
+{
+    [0; 6146]
+}
+
+// The record's length that the first two bytes of the input say, high byte first.
+fn record_length(high: u8, low: u8) -> usize
+    ensures { λ r. ⌜ (r ≡ high * 256 + low) × (r < 65536) ⌝ }
+{
+    wide(high) * 256 + wide(low)
+}
+
+// Takes the input apart and calls the host call, with an output that is long enough for every record.
+// Input that is too long or too short is answered as the host call answers a refusal.
+fn find_in(input: &[u8], found: &mut [u8]) -> i32
+    requires { ⌜ length (now found) ≡ 6146 ⌝ }
+    ensures { λ r. ⌜ (r ≡ returned (programFinds (now (input .entry)))) × (now (found .exit) ≡ outputAfter (programFinds (now (input .entry))) (now (found .entry))) ⌝ }
+{
+    if INPUT < input.len() {
+        return -12;
+    }
+    if input.len() < 2 {
+        return -1;
+    }
+    let decisions = 2 + record_length(input[0], input[1]);
+    if input.len() < decisions {
+        return -1;
+    }
+    host::evolmino_find(&input[2..decisions], &input[decisions..], found)
+}
+
+// Writes what the program `reason` prints for its input, and returns how many bytes that are. The bytes behind them stay as they were.
+pub fn respond(input: &[u8], out: &mut [u8; TEXT]) -> usize
+    ensures { λ r. ⌜ Written (now (out .entry)) 0 (printed (now (input .entry))) (now (out .exit)) r ⌝ }
+{
+    let mut found = no_bytes();
+    let code = find_in(input, &mut found);
+    let told = read_code(code);
+    write_told(out, told, &found)
 }
