@@ -7,6 +7,7 @@ mod calls;
 mod finds;
 mod groups;
 mod hosts;
+pub mod inputs;
 mod numbers;
 mod records;
 pub mod replay;
@@ -29,6 +30,7 @@ pub fn run(seed: u64, folder: &str) -> Outcome {
         finds::finds(seed)?,
         calls::calls_with_finds(seed)?,
         hosts::hosts(seed)?,
+        inputs::inputs(seed)?,
     ];
     for list in lists {
         list.write(folder)?;

@@ -10,6 +10,7 @@ use crate::reading::board::Board;
 use crate::reading::groups::{blocks, potential_groups};
 use crate::reading::host::{host_call, literal};
 use crate::reading::kinds::Kinds;
+use crate::reading::program::reason;
 use crate::reading::reasons::find_reason;
 use crate::reading::record::{decode, Puzzle};
 use crate::reading::Literal;
@@ -19,13 +20,14 @@ use std::path::Path;
 /// Reads one entry and says whether the reading gives its answers.
 type Check = fn(&mut Reader) -> bool;
 
-const LISTS: [(&str, Check); 6] = [
+const LISTS: [(&str, Check); 7] = [
     ("records.list", record),
     ("boards.list", calls),
     ("groups.list", groups),
     ("finds.list", finds),
     ("calls.list", calls),
     ("hosts.list", host),
+    ("inputs.list", input),
 ];
 
 pub fn run(folder: &str) -> Outcome {
@@ -201,4 +203,9 @@ fn host(list: &mut Reader) -> bool {
     let literals = list.bytes(2 * expected.max(0) as usize);
     let (written, behind) = output.split_at(literals.len().min(output.len()));
     returned == expected && written == literals && behind.iter().all(|&byte| byte == 0xAA)
+}
+
+fn input(list: &mut Reader) -> bool {
+    let printed = reason(list.long_bytes());
+    list.long_bytes() == printed.as_bytes()
 }
