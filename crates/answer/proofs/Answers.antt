@@ -2,17 +2,16 @@
 -- Assumes nothing.
 use Prim.Native.Nat.{ℕ, zero, suc, _+_, _*_, _/_, _%_, _≤_, _<_}
 use native.Mathlib.Omega.{arith}
-use mathlib.Core.Path.{_≡_, refl, sym, ap, _∙_}
+use mathlib.Core.Path.{_≡_, refl, ap, _∙_}
 use mathlib.Core.Bool.{Bool, true, false, cond}
 use mathlib.Core.List.{List, [], _∷_, _++_, map, List·Memᴰ, List·Memᴰ·head, List·Memᴰ·tail}
-use mathlib.Core.Option.{none, some}
-use lib.IntN.{ℤ, pos, negsuc, negℤ}
+use lib.IntN.{ℤ}
 use lib.Dec.{ltb}
 use lib.ListN.{length, take, drop, length-append, length-drop}
 use lib.Seq.{take-at}
 use lib.Signed.{mag}
 use Rattle.grid.specs.Lists.{flatMap}
-use Rattle.record.specs.Record.{Outcome, ok, refused}
+use Rattle.record.specs.Record.{Outcome}
 use Rattle.board.specs.Board.{Literal}
 use Rattle.reasons.specs.Reasons.{Found}
 use Rattle.kinds.specs.Kinds.{word}

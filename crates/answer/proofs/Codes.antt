@@ -1,9 +1,9 @@
 -- The number that the host call returns, as the code reads it.
 -- Assumes nothing.
-use Prim.Native.Nat.{ℕ, zero, suc, _+_, _^_, _<_, _≤_}
+use Prim.Native.Nat.{ℕ, zero, suc, _+_, _<_, _≤_}
 use native.Mathlib.Omega.{arith}
 use mathlib.Core.Path.{_≡_, refl, sym, ap, _∙_, subst}
-use mathlib.Core.Bool.{Bool, true, false}
+use mathlib.Core.Bool.{true, false}
 use lib.IntN.{ℤ, pos, negsuc, _-ℤ_, natAbs, +ℤ-idl}
 use lib.Signed.{mag, ltZ, nonNeg}
 use lib.Dec.{T, ltb}

@@ -3,16 +3,16 @@
 use Prim.Native.Nat.{ℕ}
 use mathlib.Core.Path.{_≡_, refl}
 use mathlib.Core.List.{List, [], _∷_, _++_}
-use mathlib.Core.Option.{none, some}
+use mathlib.Core.Option.{none}
 use Rattle.grid.specs.Lists.{range, upto, filter, any, all, last, init, tail, flatMap, member, once}
 use Rattle.grid.specs.Grid.{size, cellsOf, row, col, only, up, down, left, right, neighbours, touches}
-use Rattle.record.specs.Record.{_>>=_, unless, bit, number, field, cellCodes, there, stepFrom, stepCells, arrowAt, filler, arrowsAt, readRecord, Outcome, ok, refused}
-use Rattle.board.specs.Board.{valueAt, cellsAfter, empty, square, undecided, filled, decided, after, refusal, afterAll, Call, decide}
+use Rattle.record.specs.Record.{_>>=_, unless, bit, number, field, cellCodes, there, stepFrom, stepCells, arrowAt, filler, arrowsAt, readRecord, refused}
+use Rattle.board.specs.Board.{valueAt, cellsAfter, empty, square, undecided, filled, decided, after, refusal, afterAll, decide}
 use Rattle.groups.specs.Groups.{rename, join, joinAll, edges, labels, group, names}
 use Rattle.groups.specs.Arrows.{onArrow, pairsFrom, pairs}
 use Rattle.groups.specs.Rules.{fits}
 use Rattle.kinds.specs.Kinds.{isFloating, isIn, isBeside, kindBeside, arrowBlock, blocksBeside, kindAt, kindsOf, has, viewWith, view, block, floatNear, inReach, reach, rival, fenceAt, fence}
-use Rattle.reasons.specs.Reasons.{orElse, given, firstOf, each, reason1At, reason1, breadthFirst, parent, path, reason2At, reason2, mostApart, blockName, reasonGrow, reason3At, gap, reasonShrink, reason4At, reason34, findReason, Found, findOn}
+use Rattle.reasons.specs.Reasons.{orElse, given, firstOf, each, reason1At, reason1, breadthFirst, parent, path, reason2At, reason2, mostApart, blockName, reasonGrow, reason3At, gap, reasonShrink, reason4At, reason34, findReason, findOn}
 use Rattle.reasons.specs.Find.{enough}
 use Rattle.host.specs.Host.{acceptOr, decideBytes, hostFinds}
 use Rattle.answer.specs.Text.{digitsWithin, digits, line, noneText, reasonText, refusedText, twoWords, literalLine}

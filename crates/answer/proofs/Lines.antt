@@ -1,8 +1,8 @@
 -- Writing the lines of the answer part by part.
 -- Assumes nothing.
-use Prim.Native.Nat.{ℕ, zero, suc, _+_, _-_, _*_, _/_, _%_, _≤_, _<_}
+use Prim.Native.Nat.{ℕ, _+_, _-_, _*_, _/_, _%_, _≤_, _<_}
 use native.Mathlib.Omega.{arith}
-use mathlib.Core.Path.{_≡_, refl, sym, ap, _∙_}
+use mathlib.Core.Path.{_≡_, ap}
 use mathlib.Core.List.{List, [], _∷_, _++_}
 use lib.ListN.{length, getD, take, length-append}
 use Rattle.grid.specs.Lists.{flatMap}
@@ -16,9 +16,6 @@ room-behind k w h = omega (arith, w .behind, write-length w (omega arith))
 
 -- a line of a word and a number
 module _ (n : ℕ) {o o₁ word : List ℕ} {m₁ : ℕ} (room : length word + 5 ≤ length o) (w₁ : Written o 0 word o₁ m₁) where
-  pub number-place : m₁ + 4 ≤ length o₁
-  number-place = room-behind 4 w₁ (omega arith)
-
   module _ {o₂ : List ℕ} {m₂ : ℕ} (w₂ : Written o₁ m₁ (digitsWithin 4 n) o₂ m₂) where
     numbered : Written o 0 (word ++ digits n) o₂ m₂
     unfolding digits

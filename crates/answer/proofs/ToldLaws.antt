@@ -1,10 +1,10 @@
 -- The text for what the host call says, written part by part.
 -- Assumes nothing.
-use Prim.Native.Nat.{ℕ, suc, _+_, _*_, _≤_, _<_}
+use Prim.Native.Nat.{ℕ, _+_, _*_, _≤_}
 use native.Mathlib.Omega.{arith}
-use mathlib.Core.Path.{_≡_, refl, sym}
+use mathlib.Core.Path.{_≡_, refl}
 use mathlib.Core.List.{List, [], _∷_, _++_}
-use lib.ListN.{length, take, length-append}
+use lib.ListN.{length, length-append}
 use Rattle.answer.specs.Text.{Written, digitsWithin, digits, line, twoWords, noneText, reasonText, refusedText}
 use Rattle.answer.specs.Told.{toldText, countOf}
 use Rattle.answer.specs.declared.Told.{Told}

@@ -1,6 +1,5 @@
 -- `answer::respond` meets its contract: what the program finds, read from the host call's number, and its text.
 -- Assumes nothing.
-use native.Mathlib.Omega.{arith}
 use mathlib.Core.Path.{_≡_, _∙_}
 use borrow.Author.Needs.{needs}
 use mir.Syntax.{w32}
