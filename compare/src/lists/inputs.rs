@@ -177,3 +177,28 @@ fn long_inputs() -> Vec<Vec<u8>> {
     }
     inputs
 }
+
+#[cfg(test)]
+mod tests {
+    use super::fixed_inputs;
+    use crate::reading::program::reason;
+    use std::collections::BTreeSet;
+
+    /// The example comes first, and every answer that the program can give is met.
+    #[test]
+    fn every_answer() {
+        let texts: Vec<String> = fixed_inputs().iter().map(|input| reason(input)).collect();
+        assert_eq!(texts[0], "reason 3\n0 1\n2 1\n0 1\n");
+        let met: BTreeSet<&str> = texts
+            .iter()
+            .map(|text| match text.starts_with("reason ") {
+                true => "reason",
+                false => text.trim_end(),
+            })
+            .collect();
+        let refused = [1, 2, 3, 4, 5, 7, 9, 12].map(|number| format!("refused {number}"));
+        let mut all: BTreeSet<&str> = refused.iter().map(String::as_str).collect();
+        all.extend(["none", "reason"]);
+        assert_eq!(met, all);
+    }
+}

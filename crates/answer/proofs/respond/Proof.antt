@@ -33,8 +33,7 @@ slice-aggregate-write-told c = search needs
 write-told-requires : tie.Need-write-told-requires
 write-told-requires c κs =
     let s = c .before .before .before .before .before .before .before .before in
-    let n = c .before .before .before .before .before .before .no-bytes in
-    (
+    let n = c .before .before .before .before .before .before .no-bytes in (
       count-small (s .args .input .now) (code (c .before .before .before)) (c .before .before .read-code .ensures),
       output-long (s .args .input .now) (n .result) (c .before .before .before .before .find-in .last .1 .0) (n .ensures) (c .before .before .before .before .find-in .ensures .1),
       search needs,
