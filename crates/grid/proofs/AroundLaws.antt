@@ -1,19 +1,21 @@
 -- The neighbours of a cell in four places: gathered direction by direction, and read by callers.
 -- Assumes nothing.
-use Prim.Native.Nat.{ℕ, zero, suc, _+_, _-_, _≤_, _<_}
+use Prim.Native.Nat.{ℕ, zero, suc, _+_, _-_, _*_, _/_, _%_, _≤_, _<_}
 use native.Mathlib.Omega.{arith}
+use native.Mathlib.Nat.{div-add-mod'}
 use native.Mathlib.Numerals.{add-one}
-use mathlib.Core.Path.{_≡_, refl, sym, _∙_}
+use mathlib.Core.Path.{_≡_, refl, sym, _∙_, subst}
 use mathlib.Core.Bool.{Bool, true, false}
 use mathlib.Core.List.{List, [], _∷_, _++_, append-assoc, append-nil, List·Memᴰ}
 use lib.ListN.{length, getD, set, take, replicate, length-append, length-replicate, List·getD-append}
 use lib.Seq.{take-append-seam, set-at}
+use Rattle.grid.specs.declared.Side.{Side}
 use Rattle.grid.specs.declared.Side.the-variants.{At, Off}
-use Rattle.grid.specs.Grid.{Grid, size, only, up, down, left, right, neighbours}
-use Rattle.grid.specs.Side.{towards, besideOf, aroundOf}
+use Rattle.grid.specs.Grid.{Grid, size, only, up, down, left, right, neighbours, Adjacent}
+use Rattle.grid.specs.Side.{sized, towards, besideOf, aroundOf, InGrid}
 use Rattle.grid.proofs.GridLaws.{beside, on-grid}
 use Rattle.grid.proofs.ListLaws.{at-mem}
-use Rattle.grid.proofs.SideLaws.{beside-at, beside-off}
+use Rattle.grid.proofs.SideLaws.{beside-at, beside-off, beside-adjacent, beside-in}
 
 -- a list in four places, 0 behind it
 abbrev pub four : List ℕ → List ℕ
@@ -128,3 +130,34 @@ module _ (g : Grid) (i : ℕ) where
   pub around-long : length (aroundOf g i .cells) ≡ 4
   unfolding aroundOf
   around-long = simp (length-append, length-replicate) (omega (arith, neighbours-few))
+
+-- ---- for callers that look in the four directions in turn. r is what `toward` answers in direction k, with the row and the column of cell i
+
+module _ {h w i : ℕ} (G : InGrid h w i) (k : ℕ) (r : Side) (is : r ≡ besideOf (sized h w) (i / w * w + i % w) k) where
+  -- the answer is that for the cell
+  side-of : r ≡ besideOf (sized h w) i k
+  side-of = rw (div-add-mod' i w) at is
+
+  -- a neighbour is beside the cell, and a cell of the grid
+  pub side-adjacent : (j : ℕ) → r ≡ At j → Adjacent (sized h w) i j
+  unfolding size
+  side-adjacent j e = beside-adjacent (sized h w) i k j (G .within) (sym e ∙ side-of)
+
+  pub side-cell : (j : ℕ) → r ≡ At j → InGrid h w j
+  unfolding size
+  side-cell j e = record { tall = G .tall; wide = G .wide; within = beside-in (sized h w) i k j (G .within) (sym e ∙ side-of) }
+
+  -- what holds of the neighbours up to it, or of those before a direction without one, holds of those in one direction more
+  pub side-at : (P : List ℕ → Type 0) (j : ℕ) → r ≡ At j → P (gathered (sized h w) i k ++ (j ∷ [])) → P (gathered (sized h w) i (k + 1))
+  side-at P j e p = subst P (sym (gathered-next (sized h w) i k j (sym e ∙ side-of))) p
+
+  pub side-off : (P : List ℕ → Type 0) → r ≡ Off → P (gathered (sized h w) i k) → P (gathered (sized h w) i (k + 1))
+  side-off P e p = subst P (sym (gathered-same (sized h w) i k (sym e ∙ side-of))) p
+
+-- before the first direction there are none, and after the fourth they are all
+pub sides-none : (P : List ℕ → Type 0) (g : Grid) (i : ℕ) → P [] → P (gathered g i 0)
+unfolding gathered
+sides-none P g i p = p
+
+pub sides-all : (P : List ℕ → Type 0) (g : Grid) (i k : ℕ) → k ≤ 4 → 4 ≤ k → P (gathered g i k) → P (neighbours g i)
+sides-all P g i k h l p = let e : k ≡ 4 = omega arith in subst P (gathered-all g i) (rw e at p)

@@ -11,7 +11,7 @@ use Rattle.grid.specs.Grid.{size, neighbours, Adjacent}
 use Rattle.grid.specs.Side.{aroundOf, sized, InGrid}
 use Rattle.grid.specs.declared.Around.{Around}
 use Rattle.grid.proofs.AroundLaws.{around-few, around-count, around-at, around-mem, around-in}
-use Rattle.grid.proofs.SideLaws.{area}
+use Rattle.grid.proofs.SideLaws.{area, in-place}
 
 -- the first k neighbours of cell i
 abbrev pub passed : ℕ → ℕ → ℕ → ℕ → List ℕ
@@ -20,6 +20,10 @@ passed h w i k = take k (neighbours (sized h w) i)
 -- a cell of the grid has its place in an array of 1,024
 pub cell-small : {h w i : ℕ} → InGrid h w i → i < 1024
 cell-small {h} {w} G = omega (arith, area h w (G .tall) (G .wide))
+
+-- a grid with a cell has a column
+pub some-wide : {h w i : ℕ} → InGrid h w i → 0 < w
+some-wide G = omega (arith, in-place G .column)
 
 module _ {h w i : ℕ} (G : InGrid h w i) (r : Around) (is : r ≡ aroundOf (sized h w) i) where
   -- at most four neighbours

@@ -11,6 +11,7 @@ ghost use Rattle.grid.specs.Side.{sized, InGrid};
 ghost use Rattle.kinds.specs.Kinds.{view, kindCode, ownerBy, reachMask};
 ghost use Rattle.kinds.specs.Chains.{ChainsFrom, Chains};
 ghost use Rattle.kinds.specs.Inside.{Limits, puzzleWith, Given, Held, Detailed, Marks, arrowAmong, kindFrom, meetOf, Owned, arrowAt, arrowsAt, kindIn, codesIn, ownersIn, floats, Walked, Walkable, Unnamed, Sofar, nearAt, nearAmong, reaches, Counted, Reached, Reach, Place, Shifted, Inserted, Ordered, Room, Whole, ofBlock, rivals, touched, adds, Fenced};
+use grid::Side;
 
 // No mark is set.
 fn clear(marks: &mut [u8; 1024])
@@ -144,12 +145,17 @@ fn look_around(blocks: &[u16; 1024], arrowed: &[u8; 1024], h: usize, w: usize, i
     requires { ⌜ InGrid h w i ⌝ }
     ensures { λ r. ⌜ Owned (arrowsAt (now (blocks .entry)) (now (arrowed .entry)) (neighbours (sized h w) i)) r ⌝ }
 {
-    let around = grid::neighbours(h, w, i);
-    let cells = around.cells;
-    let count = around.count;
+    let y = i / w;
+    let x = i % w;
     let mut owner = Owner::Nobody;
-    for k in 0..count {
-        owner = meet_at(blocks, arrowed, cells[k] as usize, owner);
+    for k in 0..4 {
+        let side = grid::toward(h, w, y, x, k);
+        match side {
+            Side::At(j) => {
+                owner = meet_at(blocks, arrowed, j, owner);
+            }
+            Side::Off => {}
+        }
     }
     owner
 }
@@ -244,11 +250,14 @@ fn traverse_grid(
         return;
     }
     owners[i] = name;
-    let around = grid::neighbours(h, w, i);
-    let cells = around.cells;
-    let sides = around.count;
-    for k in 0..sides {
-        traverse_grid(kinds, owners, h, w, cells[k] as usize, name);
+    let y = i / w;
+    let x = i % w;
+    for k in 0..4 {
+        let side = grid::toward(h, w, y, x, k);
+        match side {
+            Side::At(j) => traverse_grid(kinds, owners, h, w, j, name),
+            Side::Off => {}
+        }
     }
 }
 
@@ -393,11 +402,14 @@ fn mark_floats_beside(
     if owners[i] != f {
         return;
     }
-    let around = grid::neighbours(h, w, i);
-    let cells = around.cells;
-    let count = around.count;
-    for k in 0..count {
-        mark_name(kinds, 4, owners, cells[k] as usize, near);
+    let y = i / w;
+    let x = i % w;
+    for k in 0..4 {
+        let side = grid::toward(h, w, y, x, k);
+        match side {
+            Side::At(j) => mark_name(kinds, 4, owners, j, near),
+            Side::Off => {}
+        }
     }
 }
 
@@ -578,12 +590,17 @@ fn insert_rivals(
     ensures { λ r. ⌜ ((base : List ℕ) (t : ℕ → Bool) → Whole (now (kinds .entry)) (now (owners .entry)) t → Ordered (now (kinds .entry)) (h * w) base t (now (part .entry)) count → Ordered (now (kinds .entry)) (h * w) base (λ x. t x || any (λ j. rivals (now (kinds .entry)) (now (owners .entry)) f j x) (neighbours (sized h w) i)) (now (part .exit)) r) ⌝ }
 {
     let n = h * w;
-    let around = grid::neighbours(h, w, i);
-    let beside = around.cells;
-    let number = around.count;
+    let y = i / w;
+    let x = i % w;
     let mut total = count;
-    for k in 0..number {
-        total = insert_rival(kinds, owners, n, f, beside[k] as usize, part, total);
+    for k in 0..4 {
+        let side = grid::toward(h, w, y, x, k);
+        match side {
+            Side::At(j) => {
+                total = insert_rival(kinds, owners, n, f, j, part, total);
+            }
+            Side::Off => {}
+        }
     }
     total
 }
@@ -593,12 +610,17 @@ fn touches_marked(marks: &[u8; 1024], h: usize, w: usize, i: usize) -> bool
     requires { ⌜ InGrid h w i ⌝ }
     ensures { λ r. ⌜ r ≡ touched (now (marks .entry)) (sized h w) i ⌝ }
 {
-    let around = grid::neighbours(h, w, i);
-    let cells = around.cells;
-    let count = around.count;
-    for k in 0..count {
-        if marks[cells[k] as usize] == 1 {
-            return true;
+    let y = i / w;
+    let x = i % w;
+    for k in 0..4 {
+        let side = grid::toward(h, w, y, x, k);
+        match side {
+            Side::At(j) => {
+                if marks[j] == 1 {
+                    return true;
+                }
+            }
+            Side::Off => {}
         }
     }
     false

@@ -1,7 +1,9 @@
--- The walk: the measure is the number of cells with no group; the loop's invariant, that the walks from the neighbours passed are done.
+-- The walk: the measure is the number of cells with no group; the loop's invariant, that the walks from the neighbours in the directions passed are done.
 -- Assumes nothing.
 use native.Mathlib.Omega.{arith}
 use mathlib.Core.Path.{sym, subst}
+use mathlib.Core.Logic.{⊎-elim}
+use borrow.Author.Needs.{needs}
 use mathlib.Core.List.{List}
 use lib.ListN.{set}
 use borrow.Author.Tests.{eq-eqb, eqb-true}
@@ -9,13 +11,15 @@ use Prim.Native.Nat.{_≤_, _-_, ℕ, _<_}
 use Rattle.grid.specs.Side.{sized}
 use Rattle.kinds.specs.Inside.{free, floats}
 use Rattle.kinds.proofs.Traversal.{Turn, free-set, walked-not, turn-none, turn-more, turn-all}
-use Rattle.kinds.proofs.Turns.{passed, cell-small, turn-few, turn-cell, turn-small, turn-next, turn-end, turn-adjacent}
+use Rattle.grid.proofs.SideLaws.{in-place}
+use Rattle.grid.proofs.AroundLaws.{gathered, side-adjacent, side-cell, side-at, side-off, sides-none, sides-all}
+use Rattle.kinds.proofs.Turns.{cell-small, some-wide}
 use borrow.Fn.Kinds.{In}
 use borrow.Fn.PlainCycle.{Measures, is, falls, and}
 use Rattle.kinds.proofs.traverse_grid.Reads as traverse-grid
 use Rattle.kinds.proofs.traverse_grid.Kinds as traverse-grid-kinds
 use Rattle.kinds.proofs.+traverse_grid.Lts-traverse_grid as traverse-grid-lts
-use Rattle.grid.proofs.neighbours.Reads as neighbours-reads
+use Rattle.grid.proofs.toward.Reads as toward-reads
 use Rattle.kinds.proofs.+traverse_grid.{statement}
 use Rattle.kinds.proofs.+traverse_grid.Tie.{close}
 
@@ -36,13 +40,13 @@ traverse-grid-below t =
 
 -- what the callees promise
 abbrev claims : ℕ → traverse-grid-lts.Claims
-claims t = (neighbours-reads.Asked, neighbours-reads.Learnt, traverse-grid-below t, traverse-grid.Post)
+claims t = (toward-reads.Asked, toward-reads.Learnt, traverse-grid-below t, traverse-grid.Post)
 
 abbrev traverse-grid-Inv-loop : traverse-grid-lts.InvT-loop
-traverse-grid-Inv-loop kinds owners₀ h w i name cells count k₀ owners k = (k ≤ count) × Turn (sized h w) (floats kinds) i name owners₀ owners (passed h w i k)
+traverse-grid-Inv-loop kinds owners₀ h w i name y x k₀ owners k = (k ≤ 4) × Turn (sized h w) (floats kinds) i name owners₀ owners (gathered (sized h w) i k)
 
 abbrev traverse-grid-μ-loop : traverse-grid-lts.MeasureT-loop
-traverse-grid-μ-loop kinds owners₀ h w i name cells count k₀ owners k = count - k
+traverse-grid-μ-loop kinds owners₀ h w i name y x k₀ owners k = 4 - k
 
 traverse-grid-element-copy-out-if1 : (t : ℕ) → traverse-grid-lts.Need-element-copy-out-if1 (claims t) (traverse-grid-at t) traverse-grid.Post traverse-grid-Inv-loop traverse-grid-μ-loop
 traverse-grid-element-copy-out-if1 t c = cell-small (c .pre .1 .cell)
@@ -66,63 +70,70 @@ traverse-grid-mul-owners t c = omega (arith, cell-small (c .before .before .befo
 traverse-grid-element-write-owners : (t : ℕ) → traverse-grid-lts.Need-element-write-owners (claims t) (traverse-grid-at t) traverse-grid.Post traverse-grid-Inv-loop traverse-grid-μ-loop
 traverse-grid-element-write-owners t c = cell-small (c .before .before .before .before .pre .1 .cell)
 
-traverse-grid-neighbours-requires : (t : ℕ) → traverse-grid-lts.Need-neighbours-requires (claims t) (traverse-grid-at t) traverse-grid.Post traverse-grid-Inv-loop traverse-grid-μ-loop
-traverse-grid-neighbours-requires t c κs = c .before .before .before .before .pre .1 .cell
+traverse-grid-div-y : (t : ℕ) → traverse-grid-lts.Need-div-y (claims t) (traverse-grid-at t) traverse-grid.Post traverse-grid-Inv-loop traverse-grid-μ-loop
+traverse-grid-div-y t c = some-wide (c .before .before .before .before .pre .1 .cell)
+
+traverse-grid-rem-x : (t : ℕ) → traverse-grid-lts.Need-rem-x (claims t) (traverse-grid-at t) traverse-grid.Post traverse-grid-Inv-loop traverse-grid-μ-loop
+traverse-grid-rem-x t c = some-wide (c .before .before .before .before .pre .1 .cell)
 
 traverse-grid-loop-holds : (t : ℕ) → traverse-grid-lts.Need-loop-holds (claims t) (traverse-grid-at t) traverse-grid.Post traverse-grid-Inv-loop traverse-grid-μ-loop
-traverse-grid-loop-holds t c = (omega arith, turn-none (c .before .before .before .before .before .before .pre .1 .small))
+traverse-grid-loop-holds t c =
+    let s = c .before .before .before .before in
+    let a = s .args in
+    let named = set (a .owners .now) (a .i) (a .name) in
+    (omega arith, sides-none (Turn (sized (a .h) (a .w)) (floats (a .kinds .now)) (a .i) (a .name) named named) _ _ (turn-none (s .pre .1 .small)))
 
-traverse-grid-mul-traverse-grid : (t : ℕ) → traverse-grid-lts.Need-mul-traverse-grid (claims t) (traverse-grid-at t) traverse-grid.Post traverse-grid-Inv-loop traverse-grid-μ-loop
-traverse-grid-mul-traverse-grid t c =
-    let n = c .before .before .before .before .neighbours in
-    omega (arith, turn-few (c .before .before .before .before .before .before .before .before .before .pre .1 .cell) (n .result) (n .ensures), c .before .loop-test .taken)
+traverse-grid-toward-requires : (t : ℕ) → traverse-grid-lts.Need-toward-requires (claims t) (traverse-grid-at t) traverse-grid.Post traverse-grid-Inv-loop traverse-grid-μ-loop
+traverse-grid-toward-requires t c κs = (in-place (c .before .before .before .before .before .before .pre .1 .cell), c .loop-test .taken)
 
-traverse-grid-array-read-traverse-grid : (t : ℕ) → traverse-grid-lts.Need-array-read-traverse-grid (claims t) (traverse-grid-at t) traverse-grid.Post traverse-grid-Inv-loop traverse-grid-μ-loop
-traverse-grid-array-read-traverse-grid t c =
-    let n = c .before .before .before .before .neighbours in
-    omega (arith, turn-few (c .before .before .before .before .before .before .before .before .before .pre .1 .cell) (n .result) (n .ensures), c .before .loop-test .taken)
-
-traverse-grid-cast-traverse-grid : (t : ℕ) → traverse-grid-lts.Need-cast-traverse-grid (claims t) (traverse-grid-at t) traverse-grid.Post traverse-grid-Inv-loop traverse-grid-μ-loop
-traverse-grid-cast-traverse-grid t c =
-    let n = c .before .before .before .before .neighbours in
-    omega (arith, turn-small (c .before .before .before .before .before .before .before .before .before .pre .1 .cell) (n .result) (n .ensures) (c .before .before .loop .k) (c .before .loop-test .taken))
+traverse-grid-enum-known-side : (t : ℕ) → traverse-grid-lts.Need-enum-known-side (claims t) (traverse-grid-at t) traverse-grid.Post traverse-grid-Inv-loop traverse-grid-μ-loop
+traverse-grid-enum-known-side t c = search needs
 
 traverse-grid-traverse-grid-requires : (t : ℕ) → traverse-grid-lts.Need-traverse-grid-requires (claims t) (traverse-grid-at t) traverse-grid.Post traverse-grid-Inv-loop traverse-grid-μ-loop
 traverse-grid-traverse-grid-requires t c κs =
-    let n = c .before .before .before .before .neighbours in
-    let a = c .before .before .before .before .before .before .before .before .before in
-    let fall = free-set (a .args .owners .now) (a .args .i) (a .args .name) (c .before .before .before .before .before .if2 .left) (λ e. omega (arith, e, a .pre .1 .small)) in (
-      omega (arith, fall, a .pre .0, c .before .before .loop .inv .1 .grown .fewer),
-      record { cell = turn-cell (a .pre .1 .cell) (n .result) (n .ensures) (c .before .before .loop .k) (c .before .loop-test .taken); small = a .pre .1 .small },
+    let d = c .before .before .before .before in
+    let l = d .before .before in
+    let s = l .before .before .before .before .before in
+    let fall = free-set (s .args .owners .now) (s .args .i) (s .args .name) (l .before .if2 .left) (λ e. omega (arith, e, s .pre .1 .small)) in (
+      omega (arith, fall, s .pre .0, l .loop .inv .1 .grown .fewer),
+      record { cell = side-cell (s .pre .1 .cell) (l .loop .k) (d .toward .result) (d .toward .ensures) _ (c .before .before .side .given .1); small = s .pre .1 .small },
     )
 
+traverse-grid-enum-told : (t : ℕ) → traverse-grid-lts.Need-enum-told (claims t) (traverse-grid-at t) traverse-grid.Post traverse-grid-Inv-loop traverse-grid-μ-loop
+traverse-grid-enum-told t c = search needs
+
 traverse-grid-add-k : (t : ℕ) → traverse-grid-lts.Need-add-k (claims t) (traverse-grid-at t) traverse-grid.Post traverse-grid-Inv-loop traverse-grid-μ-loop
-traverse-grid-add-k t c =
-    let n = c .before .before .before .before .before .neighbours in
-    omega (arith, turn-few (c .before .before .before .before .before .before .before .before .before .before .pre .1 .cell) (n .result) (n .ensures), c .before .before .loop-test .taken)
+traverse-grid-add-k t c = omega arith
 
 traverse-grid-loop-less : (t : ℕ) → traverse-grid-lts.Need-loop-less (claims t) (traverse-grid-at t) traverse-grid.Post traverse-grid-Inv-loop traverse-grid-μ-loop
-traverse-grid-loop-less t c = omega (arith, c .before .before .loop-test .taken)
+traverse-grid-loop-less t c = omega arith
 
 traverse-grid-loop-again : (t : ℕ) → traverse-grid-lts.Need-loop-again (claims t) (traverse-grid-at t) traverse-grid.Post traverse-grid-Inv-loop traverse-grid-μ-loop
 unfolding floats
 traverse-grid-loop-again t c =
-    let n = c .before .before .before .before .before .neighbours in
-    let a = c .before .before .before .before .before .before .before .before .before .before in (
+    let d = c .before .toward in
+    let l = c .before .before .before in
+    let s = l .before .before .before .before .before in
+    let a = s .args in
+    let named = set (a .owners .now) (a .i) (a .name) in
+    let floating = eq-eqb _ 4 (l .before .before .before .if1 .left) in (
       omega (arith, c .before .before .loop-test .taken),
-      subst (λ (l : List ℕ). Turn (sized (a .args .h) (a .args .w)) (floats (a .args .kinds .now)) (a .args .i) (a .args .name) (set (a .args .owners .now) (a .args .i) (a .args .name)) (c .traverse-grid .last .1 .0) l)
-          (sym (turn-next (a .pre .1 .cell) (n .result) (n .ensures) (c .before .before .before .loop .k) (c .before .before .loop-test .taken)))
-          (turn-more (a .pre .1 .small) (eq-eqb _ 4 (c .before .before .before .before .before .before .before .before .if1 .left)) (turn-adjacent (a .pre .1 .cell) (n .result) (n .ensures) (c .before .before .before .loop .k) (c .before .before .loop-test .taken)) (c .traverse-grid .ensures) (c .before .before .before .loop .inv .1)),
+      ⊎-elim
+          (λ v. side-at (s .pre .1 .cell) (l .loop .k) (d .result) (d .ensures) (Turn (sized (a .h) (a .w)) (floats (a .kinds .now)) (a .i) (a .name) named (c .match .owners)) _ (v .1 .given .1)
+              (rw (v .5) (turn-more (s .pre .1 .small) floating (side-adjacent (s .pre .1 .cell) (l .loop .k) (d .result) (d .ensures) _ (v .1 .given .1)) (v .4 .ensures) (l .loop .inv .1))))
+          (λ v. side-off (s .pre .1 .cell) (l .loop .k) (d .result) (d .ensures) (Turn (sized (a .h) (a .w)) (floats (a .kinds .now)) (a .i) (a .name) named (c .match .owners)) (v .1 .given .1)
+              (rw (v .2) (l .loop .inv .1)))
+          (c .match .came),
     )
 
 traverse-grid-returns-3 : (t : ℕ) → traverse-grid-lts.Need-returns-3 (claims t) (traverse-grid-at t) traverse-grid.Post traverse-grid-Inv-loop traverse-grid-μ-loop
 unfolding floats
 traverse-grid-returns-3 t c =
-    let n = c .before .before .before .neighbours in
-    let a = c .before .before .before .before .before .before .before .before in
-    turn-all (a .pre .1 .small) (eq-eqb _ 4 (c .before .before .before .before .before .before .if1 .left)) (c .before .before .before .before .if2 .left)
-    (subst (λ (l : List ℕ). Turn (sized (a .args .h) (a .args .w)) (floats (a .args .kinds .now)) (a .args .i) (a .args .name) (set (a .args .owners .now) (a .args .i) (a .args .name)) (c .before .loop .owners) l)
-    (turn-end (a .pre .1 .cell) (n .result) (n .ensures) (c .before .loop .k) (c .loop-test .left)) (c .before .loop .inv .1))
+    let l = c .before .loop in
+    let s = c .before .before .before .before .before .before in
+    let a = s .args in
+    turn-all (s .pre .1 .small) (eq-eqb _ 4 (c .before .before .before .before .if1 .left)) (c .before .before .if2 .left)
+    (sides-all (Turn (sized (a .h) (a .w)) (floats (a .kinds .now)) (a .i) (a .name) (set (a .owners .now) (a .i) (a .name)) (l .owners)) (sized (a .h) (a .w)) (a .i) (l .k) (l .inv .0) (c .loop-test .left) (l .inv .1))
 
 pub +traverse-grid-spec : {M : Type 1} → statement M
 +traverse-grid-spec = close μ-traverse-grid λ t. traverse-grid-lts.spec (claims t)
@@ -137,12 +148,13 @@ pub +traverse-grid-spec : {M : Type 1} → statement M
     (traverse-grid-returns-2 t)
     (traverse-grid-mul-owners t)
     (traverse-grid-element-write-owners t)
-    (traverse-grid-neighbours-requires t)
+    (traverse-grid-div-y t)
+    (traverse-grid-rem-x t)
     (traverse-grid-loop-holds t)
-    (traverse-grid-mul-traverse-grid t)
-    (traverse-grid-array-read-traverse-grid t)
-    (traverse-grid-cast-traverse-grid t)
+    (traverse-grid-toward-requires t)
+    (traverse-grid-enum-known-side t)
     (traverse-grid-traverse-grid-requires t)
+    (traverse-grid-enum-told t)
     (traverse-grid-add-k t)
     (traverse-grid-loop-less t)
     (traverse-grid-loop-again t)

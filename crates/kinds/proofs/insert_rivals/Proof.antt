@@ -1,93 +1,101 @@
--- The loop's invariant: the other arrow blocks of the neighbours passed are inserted.
+-- The loop's invariant: the other arrow blocks of the neighbours in the directions passed are inserted.
 -- Assumes nothing.
 use Prim.Native.Nat.{ℕ, _≤_, _-_, _*_}
-use mathlib.Core.Path.{sym, _∙_, subst}
+use mathlib.Core.Path.{sym, _∙_}
+use mathlib.Core.Logic.{⊎-elim}
 use mathlib.Core.Bool.{Bool, _||_}
 use mathlib.Core.List.{List}
 use native.Mathlib.Omega.{arith}
+use borrow.Author.Needs.{needs}
+use Rattle.grid.specs.Side.{sized}
+use Rattle.grid.proofs.SideLaws.{in-place}
+use Rattle.grid.proofs.AroundLaws.{gathered, side-cell, side-at, side-off, sides-none, sides-all}
 use Rattle.kinds.specs.Inside.{Ordered, Whole}
-use Rattle.kinds.proofs.Turns.{passed, turn-few, turn-small, turn-cell, turn-next, turn-end}
+use Rattle.kinds.proofs.Turns.{some-wide}
 use Rattle.kinds.proofs.Fences.{none-added, rivalOf, whole-rivals, rivals-none, rivals-more}
 use Rattle.kinds.proofs.insert_rivals.Statement.{statement}
 use Rattle.kinds.proofs.insert_rivals.Tie as tie
 
+-- the other arrow blocks of the cells js are inserted too
+abbrev Added : List ℕ → List ℕ → ℕ → List ℕ → List ℕ → ℕ → ℕ → (ℕ → Bool) → List ℕ → ℕ → List ℕ → Type 0
+Added kinds owners n base part₀ total₀ f t part total js = Ordered kinds n base t part₀ total₀ → Ordered kinds n base (λ x. t x || rivalOf kinds owners f js x) part total
+
 abbrev Inv-loop : tie.InvT-loop
-Inv-loop kinds owners h w f i part₀ count n beside number total₀ k₀ part total k = (k ≤ number) × ((base : List ℕ) (t : ℕ → Bool) → Whole kinds owners t → Ordered kinds (h * w) base t part₀ total₀ → Ordered kinds (h * w) base (λ x. t x || rivalOf kinds owners f (passed h w i k) x) part total)
+Inv-loop kinds owners h w f i part₀ count n y x total₀ k₀ part total k =
+    (k ≤ 4) × ((base : List ℕ) (t : ℕ → Bool) → Whole kinds owners t → Added kinds owners (h * w) base part₀ total₀ f t part total (gathered (sized h w) i k))
 
 abbrev μ-loop : tie.MeasureT-loop
-μ-loop kinds owners h w f i part₀ count n beside number total₀ k₀ part total k = number - k
+μ-loop kinds owners h w f i part₀ count n y x total₀ k₀ part total k = 4 - k
 
 mul-n : tie.Need-mul-n Inv-loop μ-loop
 mul-n c = omega (arith, c .before .pre .1 .ordered .small)
 
-neighbours-requires : tie.Need-neighbours-requires Inv-loop μ-loop
-neighbours-requires c κs = c .before .pre .0
+div-y : tie.Need-div-y Inv-loop μ-loop
+div-y c = some-wide (c .before .pre .0)
+
+rem-x : tie.Need-rem-x Inv-loop μ-loop
+rem-x c = some-wide (c .before .pre .0)
 
 loop-holds : tie.Need-loop-holds Inv-loop μ-loop
 loop-holds c =
-    let a = c .before .before .before .args in
-    (omega arith, λ base t whole o. none-added t _ (rivals-none (a .kinds .now) (a .owners .now) (a .f)) o)
+    let a = c .before .args in
+    (omega arith, λ base t whole. sides-none (Added (a .kinds .now) (a .owners .now) (a .h * a .w) base (a .part .now) (a .count) (a .f) t (a .part .now) (a .count)) _ _ (none-added t _ (rivals-none (a .kinds .now) (a .owners .now) (a .f))))
 
-mul-insert-rival : tie.Need-mul-insert-rival Inv-loop μ-loop
-mul-insert-rival c =
-    let n = c .before .before .before .neighbours in
-    omega (arith, turn-few (c .before .before .before .before .before .pre .0) (n .result) (n .ensures), c .loop-test .taken)
+toward-requires : tie.Need-toward-requires Inv-loop μ-loop
+toward-requires c κs = (in-place (c .before .before .before .pre .0), c .loop-test .taken)
 
-array-read-insert-rival : tie.Need-array-read-insert-rival Inv-loop μ-loop
-array-read-insert-rival c =
-    let n = c .before .before .before .neighbours in
-    omega (arith, turn-few (c .before .before .before .before .before .pre .0) (n .result) (n .ensures), c .loop-test .taken)
-
-cast-insert-rival : tie.Need-cast-insert-rival Inv-loop μ-loop
-cast-insert-rival c =
-    let n = c .before .before .before .neighbours in
-    omega (arith, turn-small (c .before .before .before .before .before .pre .0) (n .result) (n .ensures) (c .before .loop .k) (c .loop-test .taken))
+enum-known-side : tie.Need-enum-known-side Inv-loop μ-loop
+enum-known-side c = search needs
 
 insert-rival-requires : tie.Need-insert-rival-requires Inv-loop μ-loop
 insert-rival-requires c κs =
-    let n = c .before .before .before .before .neighbours in
-    let s = c .before .before .before .before .before .before in
+    let d = c .before .before .before .before in
+    let l = d .before .before in
+    let s = l .before .before in
     let p = s .pre .1 in (
-      turn-cell (s .pre .0) (n .result) (n .ensures) (c .before .before .loop .k) (c .before .loop-test .taken) .within,
+      side-cell (s .pre .0) (l .loop .k) (d .toward .result) (d .toward .ensures) _ (c .before .before .side .given .1) .within,
       record {
         base = p .base;
         test = _;
-        ordered = c .before .before .loop .inv .1 (p .base) (p .test) (p .whole) (p .ordered);
+        ordered = l .loop .inv .1 (p .base) (p .test) (p .whole) (p .ordered);
         whole = whole-rivals (s .args .kinds .now) (s .args .owners .now) (s .args .f) (p .test) _ (p .whole);
       },
     )
 
+enum-told : tie.Need-enum-told Inv-loop μ-loop
+enum-told c = search needs
+
 add-k : tie.Need-add-k Inv-loop μ-loop
-add-k c =
-    let n = c .before .before .before .before .before .before .before .neighbours in
-    omega (arith, turn-few (c .before .before .before .before .before .before .before .before .before .pre .0) (n .result) (n .ensures), c .before .before .before .before .loop-test .taken)
+add-k c = omega arith
 
 loop-less : tie.Need-loop-less Inv-loop μ-loop
-loop-less c = omega (arith, c .before .before .before .before .loop-test .taken)
+loop-less c = omega arith
 
 loop-again : tie.Need-loop-again Inv-loop μ-loop
 loop-again c =
-    let n = c .before .before .before .before .before .before .before .neighbours in
-    let s = c .before .before .before .before .before .before .before .before .before in
+    let d = c .before .toward in
+    let l = c .before .before .before in
+    let s = l .before .before in
     let a = s .args in (
-      omega (arith, c .before .before .before .before .loop-test .taken),
-      λ base t whole o. subst (λ (l : List ℕ). Ordered (a .kinds .now) (a .h * a .w) base (λ x. t x || rivalOf (a .kinds .now) (a .owners .now) (a .f) l x) (c .before .before .insert-rival .last .1 .1 .1 .1 .1 .0) (c .before .before .insert-rival .result))
-          (sym (turn-next (s .pre .0) (n .result) (n .ensures) (c .before .before .before .before .before .loop .k) (c .before .before .before .before .loop-test .taken)))
-          (rivals-more (a .kinds .now) (a .owners .now) (a .f) t _ _ (c .before .before .insert-rival .ensures base _ (whole-rivals (a .kinds .now) (a .owners .now) (a .f) t _ whole) (c .before .before .before .before .before .loop .inv .1 base t whole o))),
+      omega (arith, c .before .before .loop-test .taken),
+      λ base t whole. ⊎-elim
+          (λ v. side-at (s .pre .0) (l .loop .k) (d .result) (d .ensures) (Added (a .kinds .now) (a .owners .now) (a .h * a .w) base (a .part .now) (a .count) (a .f) t (c .match .part) (c .match .total)) _ (v .1 .given .1)
+              (λ o. rw (v .7, v .8) (rivals-more (a .kinds .now) (a .owners .now) (a .f) t _ _ (v .4 .ensures base _ (whole-rivals (a .kinds .now) (a .owners .now) (a .f) t _ whole) (l .loop .inv .1 base t whole o)))))
+          (λ v. side-off (s .pre .0) (l .loop .k) (d .result) (d .ensures) (Added (a .kinds .now) (a .owners .now) (a .h * a .w) base (a .part .now) (a .count) (a .f) t (c .match .part) (c .match .total)) (v .1 .given .1)
+              (λ o. rw (v .2, v .3) (l .loop .inv .1 base t whole o)))
+          (c .match .came),
     )
 
 same-length : tie.Need-same-length Inv-loop μ-loop
 same-length c =
-    let p = c .before .before .before .before .before .pre .1 in
+    let p = c .before .before .before .pre .1 in
     c .before .loop .inv .1 (p .base) (p .test) (p .whole) (p .ordered) .long ∙ sym (p .ordered .long)
 
 returns : tie.Need-returns Inv-loop μ-loop
 returns c =
-    let n = c .before .before .before .neighbours in
-    let s = c .before .before .before .before .before in
-    let a = s .args in
-    λ base t whole o. subst (λ (l : List ℕ). Ordered (a .kinds .now) (a .h * a .w) base (λ x. t x || rivalOf (a .kinds .now) (a .owners .now) (a .f) l x) (c .before .loop .part) (c .before .loop .total))
-    (turn-end (s .pre .0) (n .result) (n .ensures) (c .before .loop .k) (c .loop-test .left)) (c .before .loop .inv .1 base t whole o)
+    let l = c .before .loop in
+    let a = c .before .before .before .args in
+    λ base t whole. sides-all (Added (a .kinds .now) (a .owners .now) (a .h * a .w) base (a .part .now) (a .count) (a .f) t (l .part) (l .total)) (sized (a .h) (a .w)) (a .i) (l .k) (l .inv .0) (c .loop-test .left) (l .inv .1 base t whole)
 
 pub insert-rivals-spec : {M : Type 1} → statement M
 insert-rivals-spec =
@@ -96,12 +104,13 @@ insert-rivals-spec =
     Inv-loop
     μ-loop
     mul-n
-    neighbours-requires
+    div-y
+    rem-x
     loop-holds
-    mul-insert-rival
-    array-read-insert-rival
-    cast-insert-rival
+    toward-requires
+    enum-known-side
     insert-rival-requires
+    enum-told
     add-k
     loop-less
     loop-again

@@ -1,79 +1,85 @@
--- The loop's invariant: no neighbour passed is marked.
+-- The loop's invariant: no neighbour in the directions passed is marked.
 -- Assumes nothing.
 use Prim.Native.Nat.{ℕ, _≤_, _-_}
-use mathlib.Core.Path.{_≡_, sym, subst}
+use mathlib.Core.Path.{_≡_}
+use mathlib.Core.Logic.{⊎-elim}
 use mathlib.Core.Bool.{false}
 use mathlib.Core.List.{List}
 use native.Mathlib.Omega.{arith}
+use borrow.Author.Needs.{needs}
 use lib.Dec.{eqb}
 use lib.ListN.{getD}
 use Rattle.grid.specs.Lists.{any}
-use Rattle.kinds.proofs.Turns.{passed, turn-few, turn-small, turn-next, turn-end, turn-adjacent}
+use Rattle.grid.specs.Side.{sized}
+use Rattle.grid.proofs.SideLaws.{in-place}
+use Rattle.grid.proofs.AroundLaws.{gathered, side-adjacent, side-cell, side-at, side-off, sides-none, sides-all}
+use Rattle.kinds.proofs.Turns.{cell-small, some-wide}
 use Rattle.kinds.proofs.Fences.{touch-none, touch-more, touch-hit, touch-end}
 use Rattle.kinds.proofs.touches_marked.Statement.{statement}
 use Rattle.kinds.proofs.touches_marked.Tie as tie
 
+-- none of the cells is marked
+abbrev Untouched : List ℕ → List ℕ → Type 0
+Untouched marks l = any (λ j. eqb (getD marks j 0) 1) l ≡ false
+
 abbrev Inv-loop : tie.InvT-loop
-Inv-loop marks h w i cells count k₀ k = (k ≤ count) × (any (λ j. eqb (getD marks j 0) 1) (passed h w i k) ≡ false)
+Inv-loop marks h w i y x k₀ k = (k ≤ 4) × Untouched marks (gathered (sized h w) i k)
 
 abbrev μ-loop : tie.MeasureT-loop
-μ-loop marks h w i cells count k₀ k = count - k
+μ-loop marks h w i y x k₀ k = 4 - k
 
-neighbours-requires : tie.Need-neighbours-requires Inv-loop μ-loop
-neighbours-requires c κs = c .pre
+div-y : tie.Need-div-y Inv-loop μ-loop
+div-y c = some-wide (c .pre)
+
+rem-x : tie.Need-rem-x Inv-loop μ-loop
+rem-x c = some-wide (c .pre)
 
 loop-holds : tie.Need-loop-holds Inv-loop μ-loop
-loop-holds c = (omega arith, touch-none (c .before .before .args .marks .now))
+loop-holds c = (omega arith, sides-none (Untouched (c .args .marks .now)) _ _ (touch-none (c .args .marks .now)))
 
-mul-if1 : tie.Need-mul-if1 Inv-loop μ-loop
-mul-if1 c =
-    let n = c .before .before .before .neighbours in
-    omega (arith, turn-few (c .before .before .before .before .pre) (n .result) (n .ensures), c .loop-test .taken)
+toward-requires : tie.Need-toward-requires Inv-loop μ-loop
+toward-requires c κs = (in-place (c .before .before .pre), c .loop-test .taken)
 
-array-read-if1 : tie.Need-array-read-if1 Inv-loop μ-loop
-array-read-if1 c =
-    let n = c .before .before .before .neighbours in
-    omega (arith, turn-few (c .before .before .before .before .pre) (n .result) (n .ensures), c .loop-test .taken)
-
-cast-if1 : tie.Need-cast-if1 Inv-loop μ-loop
-cast-if1 c =
-    let n = c .before .before .before .neighbours in
-    omega (arith, turn-small (c .before .before .before .before .pre) (n .result) (n .ensures) (c .before .loop .k) (c .loop-test .taken))
+enum-known-side : tie.Need-enum-known-side Inv-loop μ-loop
+enum-known-side c = search needs
 
 element-copy-out-if1 : tie.Need-element-copy-out-if1 Inv-loop μ-loop
 element-copy-out-if1 c =
-    let n = c .before .before .before .neighbours in
-    turn-small (c .before .before .before .before .pre) (n .result) (n .ensures) (c .before .loop .k) (c .loop-test .taken)
+    let t = c .before .before .before in
+    cell-small (side-cell (t .before .before .before .pre) (t .before .before .loop .k) (t .toward .result) (t .toward .ensures) _ (c .before .side .given .1))
 
 returns : tie.Need-returns Inv-loop μ-loop
 returns c =
-    let n = c .before .before .before .before .before .neighbours in
-    touch-hit (c .before .before .before .before .before .before .args .marks .now) _ _ _ (turn-adjacent (c .before .before .before .before .before .before .pre) (n .result) (n .ensures) (c .before .before .before .loop .k) (c .before .before .loop-test .taken) .1) (c .if1 .taken)
+    let t = c .before .before .before .before .before in
+    let s = t .before .before .before in
+    touch-hit (s .args .marks .now) _ _ _ (side-adjacent (s .pre) (t .before .before .loop .k) (t .toward .result) (t .toward .ensures) _ (c .before .before .before .side .given .1) .1) (c .if1 .taken)
+
+enum-told : tie.Need-enum-told Inv-loop μ-loop
+enum-told c = search needs
 
 add-k : tie.Need-add-k Inv-loop μ-loop
-add-k c =
-    let n = c .before .before .before .before .before .neighbours in
-    omega (arith, turn-few (c .before .before .before .before .before .before .pre) (n .result) (n .ensures), c .before .before .loop-test .taken)
+add-k c = omega arith
 
 loop-less : tie.Need-loop-less Inv-loop μ-loop
-loop-less c = omega (arith, c .before .before .loop-test .taken)
+loop-less c = omega arith
 
 loop-again : tie.Need-loop-again Inv-loop μ-loop
 loop-again c =
-    let n = c .before .before .before .before .before .neighbours in
-    let a = c .before .before .before .before .before .before .args in (
+    let t = c .before .toward in
+    let l = c .before .before .before .loop in
+    let s = c .before .before .before .before in
+    let marks = s .args .marks .now in (
       omega (arith, c .before .before .loop-test .taken),
-      subst (λ (l : List ℕ). any (λ j. eqb (getD (a .marks .now) j 0) 1) l ≡ false)
-          (sym (turn-next (c .before .before .before .before .before .before .pre) (n .result) (n .ensures) (c .before .before .before .loop .k) (c .before .before .loop-test .taken)))
-          (touch-more (a .marks .now) _ _ (c .before .before .before .loop .inv .1) (c .if1 .left)),
+      ⊎-elim
+          (λ v. side-at (s .pre) (l .k) (t .result) (t .ensures) (Untouched marks) _ (v .1 .given .1) (touch-more marks _ _ (l .inv .1) (v .4 .left)))
+          (λ v. side-off (s .pre) (l .k) (t .result) (t .ensures) (Untouched marks) (v .1 .given .1) (l .inv .1))
+          (c .match .came),
     )
 
 returns-2 : tie.Need-returns-2 Inv-loop μ-loop
 returns-2 c =
-    let n = c .before .before .before .neighbours in
-    let a = c .before .before .before .before .args in
-    touch-end (a .marks .now) _ _ (subst (λ (l : List ℕ). any (λ j. eqb (getD (a .marks .now) j 0) 1) l ≡ false)
-    (turn-end (c .before .before .before .before .pre) (n .result) (n .ensures) (c .before .loop .k) (c .loop-test .left)) (c .before .loop .inv .1))
+    let a = c .before .before .args in
+    touch-end (a .marks .now) _ _ (sides-all (Untouched (a .marks .now)) (sized (a .h) (a .w)) (a .i) (c .before .loop .k) (c .before .loop .inv .0) (c .loop-test .left) (c .before .loop .inv .1))
 
 pub touches-marked-spec : {M : Type 1} → statement M
 touches-marked-spec =
@@ -81,13 +87,14 @@ touches-marked-spec =
     (tie.spec
     Inv-loop
     μ-loop
-    neighbours-requires
+    div-y
+    rem-x
     loop-holds
-    mul-if1
-    array-read-if1
-    cast-if1
+    toward-requires
+    enum-known-side
     element-copy-out-if1
     returns
+    enum-told
     add-k
     loop-less
     loop-again
