@@ -33,6 +33,14 @@ in-place {h} {w} {i} p =
     let some : 0 < w = width-pos (sized h w) (p .within) in
     record { tall = p .tall; wide = p .wide; row = div-lt-iff-lt-mul some .1 (p .within); column = mod-lt i some }
 
+-- a grid with a cell has a column
+pub some-wide : {h w i : ℕ} → InGrid h w i → 0 < w
+some-wide p = omega (arith, in-place p .column)
+
+-- a cell has its place in an array of 1,024
+pub cell-small : {h w i : ℕ} → InGrid h w i → i < 1024
+cell-small {h} {w} p = omega (arith, area h w (p .tall) (p .wide))
+
 -- the cell of a row and a column is one of the grid
 pub in-grid : {h w y x : ℕ} → InPlace h w y x → InGrid h w (y * w + x)
 in-grid p = record { tall = p .tall; wide = p .wide; within = digits-lt (p .row) (p .column) }

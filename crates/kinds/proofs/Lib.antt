@@ -7,7 +7,6 @@ pub mod FenceMeaning
 pub mod Filled
 pub mod Insertion
 pub mod Traversal
-pub mod Turns
 pub mod Owners
 pub mod Views
 pub mod Reaches

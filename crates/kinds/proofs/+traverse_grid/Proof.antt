@@ -1,19 +1,16 @@
 -- The walk: the measure is the number of cells with no group; the loop's invariant, that the walks from the neighbours in the directions passed are done.
 -- Assumes nothing.
 use native.Mathlib.Omega.{arith}
-use mathlib.Core.Path.{sym, subst}
 use mathlib.Core.Logic.{⊎-elim}
 use borrow.Author.Needs.{needs}
-use mathlib.Core.List.{List}
 use lib.ListN.{set}
 use borrow.Author.Tests.{eq-eqb, eqb-true}
 use Prim.Native.Nat.{_≤_, _-_, ℕ, _<_}
 use Rattle.grid.specs.Side.{sized}
 use Rattle.kinds.specs.Inside.{free, floats}
 use Rattle.kinds.proofs.Traversal.{Turn, free-set, walked-not, turn-none, turn-more, turn-all}
-use Rattle.grid.proofs.SideLaws.{in-place}
+use Rattle.grid.proofs.SideLaws.{in-place, cell-small, some-wide}
 use Rattle.grid.proofs.AroundLaws.{gathered, side-adjacent, side-cell, side-at, side-off, sides-none, sides-all}
-use Rattle.kinds.proofs.Turns.{cell-small, some-wide}
 use borrow.Fn.Kinds.{In}
 use borrow.Fn.PlainCycle.{Measures, is, falls, and}
 use Rattle.kinds.proofs.traverse_grid.Reads as traverse-grid

@@ -8,10 +8,9 @@ use mathlib.Core.List.{List}
 use native.Mathlib.Omega.{arith}
 use borrow.Author.Needs.{needs}
 use Rattle.grid.specs.Side.{sized}
-use Rattle.grid.proofs.SideLaws.{in-place}
+use Rattle.grid.proofs.SideLaws.{in-place, some-wide}
 use Rattle.grid.proofs.AroundLaws.{gathered, side-cell, side-at, side-off, sides-none, sides-all}
 use Rattle.kinds.specs.Inside.{Ordered, Whole}
-use Rattle.kinds.proofs.Turns.{some-wide}
 use Rattle.kinds.proofs.Fences.{none-added, rivalOf, whole-rivals, rivals-none, rivals-more}
 use Rattle.kinds.proofs.insert_rivals.Statement.{statement}
 use Rattle.kinds.proofs.insert_rivals.Tie as tie

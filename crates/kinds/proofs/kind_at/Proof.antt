@@ -1,7 +1,7 @@
 -- The kind of a cell, by its value and its neighbours.
 -- Assumes nothing.
+use Rattle.grid.proofs.SideLaws.{cell-small}
 use Rattle.kinds.specs.Inside.{kindFrom}
-use Rattle.kinds.proofs.Turns.{cell-small}
 use Rattle.kinds.proofs.Owners.{kind-nobody, kind-one, kind-many, kind-empty, kind-arrow, kind-alone, kind-open}
 use borrow.Author.Needs.{needs}
 use Rattle.kinds.proofs.kind_at.Statement.{statement}

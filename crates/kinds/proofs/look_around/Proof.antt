@@ -1,17 +1,15 @@
 -- The loop's invariant: the arrow blocks of the neighbours in the directions passed are met.
 -- Assumes nothing.
-use Prim.Native.Nat.{_≤_, _-_, _<_, ℕ}
-use mathlib.Core.Path.{sym}
+use Prim.Native.Nat.{ℕ, _≤_, _-_}
 use mathlib.Core.Logic.{⊎-elim}
 use mathlib.Core.List.{List}
 use borrow.Author.Needs.{needs}
 use native.Mathlib.Omega.{arith}
 use Rattle.grid.specs.Side.{sized}
-use Rattle.grid.proofs.SideLaws.{in-place}
+use Rattle.grid.proofs.SideLaws.{in-place, cell-small, some-wide}
 use Rattle.grid.proofs.AroundLaws.{gathered, side-cell, side-at, side-off, sides-none, sides-all}
 use Rattle.kinds.specs.Inside.{Owned, arrowsAt}
 use Rattle.kinds.specs.declared.Owner.the-variants.{Nobody}
-use Rattle.kinds.proofs.Turns.{cell-small, some-wide}
 use Rattle.kinds.proofs.Owners.{owned-none}
 use Rattle.kinds.proofs.look_around.Statement.{statement}
 use Rattle.kinds.proofs.look_around.Tie as tie

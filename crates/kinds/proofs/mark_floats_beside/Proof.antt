@@ -11,11 +11,10 @@ use lib.ListN.{getD}
 use borrow.Author.Tests.{ne-eqb}
 use Rattle.grid.specs.Lists.{any}
 use Rattle.grid.specs.Side.{sized}
-use Rattle.grid.proofs.SideLaws.{in-place}
+use Rattle.grid.proofs.SideLaws.{in-place, cell-small, some-wide}
 use Rattle.grid.proofs.AroundLaws.{gathered, side-cell, side-at, side-off, sides-none, sides-all}
 use Rattle.kinds.specs.Inside.{Marks}
 use Rattle.kinds.proofs.Filled.{near-off, near-none, near-more, near-all}
-use Rattle.kinds.proofs.Turns.{cell-small, some-wide}
 use Rattle.kinds.proofs.mark_floats_beside.Statement.{statement}
 use Rattle.kinds.proofs.mark_floats_beside.Tie as tie
 

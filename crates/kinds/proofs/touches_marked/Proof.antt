@@ -11,9 +11,8 @@ use lib.Dec.{eqb}
 use lib.ListN.{getD}
 use Rattle.grid.specs.Lists.{any}
 use Rattle.grid.specs.Side.{sized}
-use Rattle.grid.proofs.SideLaws.{in-place}
+use Rattle.grid.proofs.SideLaws.{in-place, cell-small, some-wide}
 use Rattle.grid.proofs.AroundLaws.{gathered, side-adjacent, side-cell, side-at, side-off, sides-none, sides-all}
-use Rattle.kinds.proofs.Turns.{cell-small, some-wide}
 use Rattle.kinds.proofs.Fences.{touch-none, touch-more, touch-hit, touch-end}
 use Rattle.kinds.proofs.touches_marked.Statement.{statement}
 use Rattle.kinds.proofs.touches_marked.Tie as tie
