@@ -388,13 +388,14 @@ fn place(
 }
 
 // The answer to a list of decisions, and how many decisions then stand.
-struct Placed {
-    answer: Answer,
-    decided: usize,
+pub struct Placed {
+    pub answer: Answer,
+    pub decided: usize,
 }
 
-// Adds the decisions in the bytes, two bytes each, to a board of n cells that is known to be well formed.
-fn place_all(
+// Adds the decisions in the bytes, two bytes each, to a board of n cells that is known to be well formed: for `decide_all`, which has
+// tested its board, and for a caller that has opened the board itself.
+pub fn place_all(
     cells: &mut [u8; 1024],
     order: &mut [u16; 1024],
     n: usize,

@@ -44,10 +44,10 @@ fn all_keep_given<'a>(codes: &'a [u8; 1024], cells: &'a [u8; 1024], n: usize) ->
 }
 
 // Room for the longest reason.
-fn no_literals() -> [u16; 3073]
+fn no_literals() -> [u16; Board::LITERALS]
     ensures { λ r. ⌜ length r ≡ 3073 ⌝ }
 {
-    [0u16; 3073]
+    [0u16; Board::LITERALS]
 }
 
 // Whether every cell is decided, black cells are empty, given squares are square and the block rules hold. On a board whose cells are all

@@ -6,26 +6,31 @@ use mathlib.Core.Path.{_≡_, refl, sym, ap, _∙_}
 use mathlib.Core.Bool.{Bool, true, false, cond}
 use mathlib.Core.List.{List, [], _∷_}
 use lib.Dec.{eqb}
+use lib.ListN.{take}
 use borrow.Author.Tests.{le-leb, lt-leb}
 use Rattle.grid.specs.Grid.{Grid, size}
+use Rattle.grid.specs.Side.{sized}
 use Rattle.record.specs.Record.{Outcome, ok, refused, Puzzle, readRecord, _>>=_, unless}
-use Rattle.record.specs.Problem.{gridOf, problemOf}
+use Rattle.record.specs.Problem.{gridOf, puzzleOf, problemOf}
 use Rattle.record.specs.Valid.{Valid}
+use Rattle.record.specs.declared.Problem.{Problem}
 use Rattle.record.specs.declared.Answer.{Answer}
 use Rattle.record.specs.declared.Answer.the-variants.{Done, Refused}
 use Rattle.record.proofs.RecordLaws.{record-valid}
 use Rattle.board.specs.Board.{Literal, decide, after, refusal}
 use Rattle.board.specs.Form.{wellFormed}
 use Rattle.board.specs.Kept.{boardOf, opening, openOf}
-use Rattle.board.specs.Decide.{decideRefusal, decideOf, answered, refusedWith, onward, decideFrom, decideAllOf, placed}
+use Rattle.board.specs.Decide.{decideRefusal, decideOf, answered, refusedWith, onward, decideFrom, placed}
+use Rattle.board.specs.Inside.{held, allPlaced}
 use Rattle.board.specs.declared.Board.{Board}
 use Rattle.board.specs.declared.Decided.{Decided}
 use Rattle.board.specs.declared.Opened.{Opened}
 use Rattle.board.proofs.ProblemForm.{size-most}
 use Rattle.board.proofs.Standing.{Standing, none, after-standing}
 use Rattle.board.proofs.CallLaws.{standing-well, decide-number, decide-left}
-use Rattle.reasons.specs.Reasons.{findOn}
-use Rattle.reasons.specs.Find.{reasonOn, enough}
+use Rattle.reasons.specs.Reasons.{findReason, findOn}
+use Rattle.reasons.specs.Arrays.{linesOf}
+use Rattle.reasons.specs.Find.{cellsOn, reasonOn, enough}
 use Rattle.reasons.proofs.Demand3.{reason-on}
 use Rattle.host.specs.Host.{acceptOr, decideBytes, hostFinds, Opens}
 
@@ -78,10 +83,11 @@ bytes-standing g (a ∷ b ∷ rest) {ds} {es} s e =
         accepted (refusal g (decide i x) ds) (decideBytes g (after g (decide i x) ds) rest)
         (next (after g (decide i x) ds) (after-standing g (decide i x) s)) q
 
--- the grid is the record's
-grid-on : (p : Puzzle) (ds : List Literal) → gridOf (boardOf p ds .problem) ≡ p .grid
-unfolding boardOf problemOf gridOf
-grid-on p ds = refl
+-- the reason on a board, by its arrays
+pub reason-held : (q : Problem) (cells order : List ℕ) (decided : ℕ)
+    → reasonOn (held q cells order decided) ≡ findReason (sized (q .height) (q .width)) (linesOf (q .arrows) (q .ends) (q .count)) (take (q .height * q .width) cells)
+unfolding reasonOn cellsOn gridOf puzzleOf size
+reason-held q cells order decided = refl
 
 -- ---- the call, step by step
 
@@ -112,12 +118,6 @@ opens-as s b e = go (readRecord s) refl e
     go (refused m) q f = let g = ap (λ (o : Opened). o .answer) f in let z : _≡_ {A = ℕ} 0 1 = cc in absurd (omega arith)
     go (ok p) q f = record { puzzle = p; reads = q; fresh = sym (ap (λ (o : Opened). o .board) f) }
 
--- what the board after the decisions is known to be
-pub record Settled (s decisions : List ℕ) (n : ℕ) (b : Board) : Type 0 where
-  pub finds : hostFinds s decisions n ≡ ok (reasonOn b)
-  pub well : wellFormed b ≡ true
-  pub room : 2 * enough (gridOf (b .problem)) ≤ n
-
 module _ (s : List ℕ) {p : Puzzle} (reads : readRecord s ≡ ok p) {b : Board} (fresh : b ≡ boardOf p []) where
   valid : Valid p
   valid = record-valid s reads
@@ -130,6 +130,10 @@ module _ (s : List ℕ) {p : Puzzle} (reads : readRecord s ≡ ok p) {b : Board}
   pub opens-area : b .problem .height * b .problem .width ≤ 1024
   opens-area = rw sizes (size-most (p .grid) (valid .high .0) (valid .high .1))
 
+  -- the board is well formed
+  pub opens-well : wellFormed b ≡ true
+  opens-well = rw fresh (standing-well p valid none)
+
   module _ (decisions : List ℕ) (n : ℕ) where
     -- an output that is too short
     pub output-short : n < 2 * (3 * (b .problem .height * b .problem .width) + 1) → hostFinds s decisions n ≡ refused 11
@@ -141,37 +145,30 @@ module _ (s : List ℕ) {p : Puzzle} (reads : readRecord s ≡ ok p) {b : Board}
     unfolding hostFinds enough _>>=_ unless
     output-long h = rw (reads, le-leb (2 * (3 * size (p .grid) + 1)) n (rw sizes at h)) refl
 
-    long-enough : 2 * (3 * (b .problem .height * b .problem .width) + 1) ≤ n → 2 * enough (p .grid) ≤ n
-    unfolding enough
-    long-enough h = rw sizes at h
-
     -- the board's list of decisions answers as the machine does
-    all-decided : decideAllOf b decisions ≡ decidedBy b p (decideBytes (p .grid) [] decisions)
-    unfolding decideAllOf
-    all-decided = rw (fresh, standing-well p valid none) (decided-bytes p valid (boardOf p []) decisions none)
+    all-decided : decideFrom b b decisions ≡ decidedBy b p (decideBytes (p .grid) [] decisions)
+    all-decided = rw fresh (decided-bytes p valid (boardOf p []) decisions none)
 
-    module _ (d : Decided) (e : d ≡ decideAllOf b decisions) (h : 2 * (3 * (b .problem .height * b .problem .width) + 1) ≤ n) where
+    -- what placing all decisions answers, and the board that it leaves
+    module _ (a : Answer) (left : Board) (e : allPlaced b a left ≡ decideFrom b b decisions) (h : 2 * (3 * (b .problem .height * b .problem .width) + 1) ≤ n) where
       -- a decision is refused
-      pub decisions-refused : {k : ℕ} → d .answer ≡ Refused k → hostFinds s decisions n ≡ refused k
-      unfolding decidedBy refusedWith _>>=_
-      decisions-refused {k} f = output-long h ∙ go (decideBytes (p .grid) [] decisions) (sym (ap (λ (d : Decided). d .answer) (e ∙ all-decided)) ∙ f)
+      pub decisions-refused : {k : ℕ} → a ≡ Refused k → hostFinds s decisions n ≡ refused k
+      unfolding allPlaced decidedBy refusedWith _>>=_
+      decisions-refused {k} f = output-long h ∙ go (decideBytes (p .grid) [] decisions) (sym (ap (λ (x : Answer). allPlaced b x left) f) ∙ e ∙ all-decided)
         where
-          go : (r : Outcome (List Literal)) → decidedBy b p r .answer ≡ Refused k → (r >>= λ ds. ok (findOn p ds)) ≡ refused k
-          go (refused m) q = let z : m ≡ k = cc in ap refused z
-          go (ok ds) q = let z : _≡_ {A = ℕ} 0 1 = cc in absurd (omega arith)
+          go : (r : Outcome (List Literal)) → refusedWith k b ≡ decidedBy b p r → (r >>= λ ds. ok (findOn p ds)) ≡ refused k
+          go (refused m) q = let a = ap (λ (d : Decided). d .answer) q in let z : m ≡ k = cc in ap refused z
+          go (ok ds) q = let a = ap (λ (d : Decided). d .answer) q in let z : _≡_ {A = ℕ} 0 1 = cc in absurd (omega arith)
 
       -- all are accepted
-      pub decisions-done : d .answer ≡ Done → Settled s decisions n (d .board)
-      unfolding decidedBy refusedWith _>>=_
-      decisions-done f = go (decideBytes (p .grid) [] decisions) refl (e ∙ all-decided)
+      pub decisions-done : a ≡ Done → hostFinds s decisions n ≡ ok (reasonOn left)
+      unfolding allPlaced decidedBy refusedWith _>>=_
+      decisions-done f = output-long h ∙ go (decideBytes (p .grid) [] decisions) refl (sym (ap (λ (x : Answer). allPlaced b x left) f) ∙ e ∙ all-decided)
         where
-          go : (r : Outcome (List Literal)) → decideBytes (p .grid) [] decisions ≡ r → d ≡ decidedBy b p r → Settled s decisions n (d .board)
+          go : (r : Outcome (List Literal)) → decideBytes (p .grid) [] decisions ≡ r → _≡_ {A = Decided} (record { answer = Done; board = left }) (decidedBy b p r)
+              → (r >>= λ ds. ok (findOn p ds)) ≡ ok (reasonOn left)
           go (refused m) q g = let a = ap (λ (d : Decided). d .answer) g in let z : _≡_ {A = ℕ} 0 1 = cc in absurd (omega arith)
           go (ok ds) q g =
               let t : Standing (p .grid) ds = bytes-standing (p .grid) decisions none q in
-              let z : d .board ≡ boardOf p ds = ap (λ (d : Decided). d .board) g in
-              record {
-                finds = output-long h ∙ rw (q, z, reason-on p valid t) refl;
-                well = rw z (standing-well p valid t);
-                room = rw (z, grid-on p ds) (long-enough h);
-              }
+              let z : left ≡ boardOf p ds = ap (λ (d : Decided). d .board) g in
+              rw (z, reason-on p valid t) refl

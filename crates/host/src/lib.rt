@@ -3,15 +3,15 @@ use board::Board;
 use reasons::Finding;
 use record::Answer;
 ghost use mathlib.Core.Path.{_≡_};
-ghost use mathlib.Core.Bool.{true};
 ghost use Prim.Native.Nat.{ℕ, _+_, _*_, _≤_};
 ghost use mathlib.Core.List.{List, _++_};
 ghost use lib.IntN.{pos, negℤ};
 ghost use lib.ListN.{length, take, drop};
+ghost use Rattle.grid.specs.Lists.{last};
+ghost use Rattle.grid.specs.Side.{sized};
 ghost use Rattle.record.specs.Record.{ok};
-ghost use Rattle.record.specs.Problem.{gridOf};
-ghost use Rattle.board.specs.Form.{wellFormed};
-ghost use Rattle.reasons.specs.Find.{enough, reasonOn};
+ghost use Rattle.reasons.specs.Reasons.{findReason};
+ghost use Rattle.reasons.specs.Arrays.{linesOf, ArrowArrays};
 ghost use Rattle.host.specs.Host.{bytesOf, hostFinds, returned, outputAfter, Opens};
 
 // The number of a refusal, negated.
@@ -43,13 +43,22 @@ fn write_literals(literals: &[u16], count: usize, output: &mut [u8])
     }
 }
 
-// Finds on a board that is well formed. The output is long enough for every reason.
-fn find_on(board: Board, output: &mut [u8]) -> i32
-    requires { ⌜ (wellFormed board ≡ true) × (2 * enough (gridOf (board .problem)) ≤ length (now output)) ⌝ }
-    ensures { λ r. ⌜ (r ≡ returned (ok (reasonOn board))) × (now (output .exit) ≡ outputAfter (ok (reasonOn board)) (now (output .entry))) ⌝ }
+// Finds on the arrays of a board that is known to be well formed. The output is long enough for every reason.
+fn find_on<'a>(
+    cells: &'a [u8; 1024],
+    arrows: &'a [u16; 1024],
+    ends: &'a [u16; 1024],
+    number: usize,
+    h: usize,
+    w: usize,
+    output: &mut [u8],
+) -> i32
+    requires { ⌜ (h ≤ 32) × (w ≤ 32) × (2 * (3 * (h * w) + 1) ≤ length (now output)) × ArrowArrays (h * w) (now arrows) (now ends) number (last 0 (take number (now ends))) ⌝ }
+    ensures { λ r. ⌜ (r ≡ returned (ok (findReason (sized h w) (linesOf (now (arrows .entry)) (now (ends .entry)) number) (take (h * w) (now (cells .entry))))))
+        × (now (output .exit) ≡ outputAfter (ok (findReason (sized h w) (linesOf (now (arrows .entry)) (now (ends .entry)) number) (take (h * w) (now (cells .entry))))) (now (output .entry))) ⌝ }
 {
     let mut literals = no_literals();
-    let found = reasons::find(board, &mut literals);
+    let found = reasons::find_inconsistency(cells, arrows, ends, number, h, w, &mut literals);
     match found {
         Finding::Nothing => 0,
         Finding::Reason(count) => {
@@ -60,7 +69,8 @@ fn find_on(board: Board, output: &mut [u8]) -> i32
     }
 }
 
-// Decides in order on a fresh board and finds: 11 for an output that is too short, then the decisions' refusals.
+// Decides in order on a fresh board and finds: 11 for an output that is too short, then the decisions' refusals. A board that was just
+// opened is well formed, and decisions keep it so: it is not tested.
 fn decide_and_find(board: Board, decisions: &[u8], output: &mut [u8]) -> i32
     requires { ⌜ ((s : List ℕ) × Opens s board) ⌝ }
     ensures { λ r. ⌜ ((s : List ℕ) → Opens s board
@@ -72,11 +82,20 @@ fn decide_and_find(board: Board, decisions: &[u8], output: &mut [u8]) -> i32
     if output.len() < 2 * (3 * (h * w) + 1) {
         return negated(11);
     }
-    let decided = board.decide_all(decisions);
-    let answer = decided.answer;
-    let after = decided.board;
+    let mut cells = board.cells;
+    let mut order = board.order;
+    let placed = board::place_all(&mut cells, &mut order, h * w, board.decided, decisions);
+    let answer = placed.answer;
     match answer {
-        Answer::Done => find_on(after, output),
+        Answer::Done => find_on(
+            &cells,
+            &board.problem.arrows,
+            &board.problem.ends,
+            board.problem.count,
+            h,
+            w,
+            output,
+        ),
         Answer::Refused(k) => negated(k),
     }
 }

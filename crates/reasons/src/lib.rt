@@ -603,8 +603,9 @@ fn check_arrows(
     pairs::search_pairs(cells, arrows, ends, number, &kinds, &owners, h, w, buffer)
 }
 
-// The first reason that applies, on the arrays of a board.
-fn find_inconsistency<'a>(
+// The first reason that applies, on the arrays of a board that is known to be well formed: for `find`, which has tested its board, and
+// for a caller that has opened the board itself.
+pub fn find_inconsistency<'a>(
     cells: &'a [u8; 1024],
     arrows: &'a [u16; 1024],
     ends: &'a [u16; 1024],

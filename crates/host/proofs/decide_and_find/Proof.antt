@@ -2,34 +2,70 @@
 -- Assumes nothing.
 use Prim.Native.Nat.{ℕ, _*_, _≤_}
 use native.Mathlib.Omega.{arith}
-use mathlib.Core.Path.{sym, ap, _∙_}
+use mathlib.Core.Path.{_≡_, refl, ap, _∙_}
+use mathlib.Core.Bool.{true}
 use mathlib.Core.List.{List}
-use lib.ListN.{length}
+use lib.ListN.{length, take}
 use mir.Syntax.{w32}
 use mir.ValLaws.{toZ-ofZ}
-use Rattle.record.specs.Record.{Outcome}
-use Rattle.reasons.specs.Reasons.{Found}
-use Rattle.host.specs.Host.{returned, outputAfter, Opens}
-use Rattle.host.proofs.HostLaws.{opens-as, opens-area, output-short, Settled, decisions-refused, decisions-done}
-use Rattle.host.proofs.FoundLaws.{refused-told}
+use Rattle.grid.specs.Grid.{size}
+use Rattle.grid.specs.Side.{sized}
+use Rattle.record.specs.Record.{ok}
+use Rattle.record.specs.Problem.{gridOf}
+use Rattle.board.specs.Form.{wellFormed}
+use Rattle.board.specs.Decide.{decideFrom}
+use Rattle.board.specs.Inside.{held, allPlaced}
+use Rattle.board.specs.declared.Board.{Board}
+use Rattle.reasons.specs.Reasons.{Found, findReason}
+use Rattle.reasons.specs.Arrays.{linesOf}
+use Rattle.reasons.proofs.BoardArrays.{board-sizes, board-arrays}
+use Rattle.host.specs.Host.{hostFinds, Opens}
+use Rattle.host.proofs.HostLaws.{opens-as, opens-area, opens-well, output-short, decisions-refused, decisions-done, reason-held}
+use Rattle.host.proofs.FoundLaws.{refused-told, told-as}
 use borrow.Author.Needs.{needs}
 use Rattle.host.proofs.decide_and_find.Statement.{statement}
 use Rattle.host.proofs.decide_and_find.Tie as tie
 
 -- the cells are few
-few : (c : tie.Start) → c .args .board .problem .height * c .args .board .problem .width ≤ 1024
-few c =
-    let o = opens-as (c .pre .0) (c .args .board) (c .pre .1) in
-    opens-area (c .pre .0) (o .reads) (o .fresh)
+few : (s : tie.Start) → s .args .t1 .problem .height * s .args .t1 .problem .width ≤ 1024
+few s =
+    let o = opens-as (s .pre .0) (s .args .t1) (s .pre .1) in
+    opens-area (s .pre .0) (o .reads) (o .fresh)
+
+-- the board is well formed
+well : (s : tie.Start) → wellFormed (s .args .t1) ≡ true
+well s =
+    let o = opens-as (s .pre .0) (s .args .t1) (s .pre .1) in
+    opens-well (s .pre .0) (o .reads) (o .fresh)
+
+abbrev start : tie.After-place-all → tie.Start
+start c = c .before .before .before .before .before .before .before .before
 
 -- the board after the decisions
-settled : (c : tie.After-enum-told) (s : List ℕ) → Opens s (c .before .before .before .before .before .before .before .args .board)
-    → Settled s (c .before .before .before .before .before .before .before .args .decisions .now) (length (c .before .before .before .before .before .before .before .args .output .now)) (c .before .before .before .decide-all .result .board)
-settled c s e =
-    let a = c .before .before .before .before .before .before .before .args in
-    let o = opens-as s (a .board) e in
-    let d = c .before .before .before .decide-all in
-    decisions-done s (o .reads) (o .fresh) (a .decisions .now) (length (a .output .now)) (d .result) (d .ensures) (c .before .before .before .before .if1 .left) (c .enum-told .given .1)
+abbrev left : tie.After-place-all → Board
+left c = held (start c .args .t1 .problem) (c .place-all .last .0) (c .place-all .last .1 .0) (c .place-all .result .decided)
+
+-- what `place_all` says of it
+placed : (c : tie.After-place-all) → allPlaced (start c .args .t1) (c .place-all .result .answer) (left c) ≡ decideFrom (start c .args .t1) (start c .args .t1) (start c .args .decisions .now)
+unfolding size gridOf
+placed c = c .place-all .ensures (start c .args .t1 .problem) refl (well (start c))
+
+-- the first reason on the board after the decisions
+abbrev reason : tie.After-place-all → Found
+reason c =
+    let q = start c .args .t1 .problem in
+    findReason (sized (q .height) (q .width)) (linesOf (q .arrows) (q .ends) (q .count)) (take (q .height * q .width) (c .place-all .last .0))
+
+-- it is what the call finds where all decisions are accepted
+finds : (c : tie.After-enum-told) (s : List ℕ) → Opens s (start (c .before .before) .args .t1)
+    → hostFinds s (start (c .before .before) .args .decisions .now) (length (start (c .before .before) .args .output .now)) ≡ ok (reason (c .before .before))
+finds c s e =
+    let p = c .before .before in
+    let a = start p .args in
+    let o = opens-as s (a .t1) e in
+    let r = p .place-all .result in
+    decisions-done s (o .reads) (o .fresh) (a .decisions .now) (length (a .output .now)) (r .answer) (left p) (placed p) (p .before .before .before .before .before .if1 .left) (c .enum-told .given .1)
+    ∙ ap ok (reason-held (a .t1 .problem) (p .place-all .last .0) (p .place-all .last .1 .0) (r .decided))
 
 mul-if1 : tie.Need-mul-if1
 mul-if1 c = omega (arith, few (c .before .before))
@@ -49,22 +85,29 @@ negated-requires c κs = search needs
 returns : tie.Need-returns
 returns c = λ s e.
     let a = c .before .before .before .before .args in
-    let o = opens-as s (a .board) e in
+    let o = opens-as s (a .t1) e in
     let n = c .negated in
     let t = refused-told (a .output .now) (output-short s (o .reads) (o .fresh) (a .decisions .now) (length (a .output .now)) (c .before .if1 .taken)) in
     (toZ-ofZ w32 (n .result) (record { sfits = n .ok }) ∙ n .ensures ∙ t .0, t .1)
 
-decide-all-requires : tie.Need-decide-all-requires
-decide-all-requires c κs = search needs
+mul-place-all : tie.Need-mul-place-all
+mul-place-all c = search needs
+
+place-all-requires : tie.Need-place-all-requires
+unfolding size gridOf
+place-all-requires c κs =
+    let s = c .before .before .before .before .before .before .before in
+    record { problem = s .args .t1 .problem; area = refl; well = well s }
 
 enum-told : tie.Need-enum-told
 enum-told c = search needs
 
 find-on-requires : tie.Need-find-on-requires
 find-on-requires c κs =
-    let s = c .before .before .before .before .before .before .before .before in
-    let x = settled (c .before) (s .pre .0) (s .pre .1) in
-    (x .well, x .room)
+    let p = c .before .before .before .before .before .before .before in
+    let s = start p in
+    let z = board-sizes (s .args .t1) (well s) in
+    (z .0, z .1, p .before .before .before .before .before .if1 .left, board-arrays (s .args .t1) (well s))
 
 enum-known-answer : tie.Need-enum-known-answer
 enum-known-answer c = search needs
@@ -77,21 +120,18 @@ same-length c = search needs
 
 returns-2 : tie.Need-returns-2
 returns-2 c = λ s e.
-    let a = c .before .before .before .before .before .before .before .before .before .before .before .args in
-    let x = settled (c .before .before .before .before) s e in
-    let f = c .before .before .find-on in (
-      toZ-ofZ w32 (f .result) (record { sfits = f .ok }) ∙ f .ensures .0 ∙ ap returned (sym (x .finds)),
-      f .ensures .1 ∙ ap (λ (o : Outcome Found). outputAfter o (a .output .now)) (sym (x .finds)),
-    )
+    let t = c .before .before .before .before .before .before .before .before in
+    let f = c .before .before .find-on in
+    told-as (start (t .before .before) .args .output .now) (finds t s e) (toZ-ofZ w32 (f .result) (record { sfits = f .ok }) ∙ f .ensures .0, f .ensures .1)
 
 returns-3 : tie.Need-returns-3
 returns-3 c = λ s e.
-    let a = c .before .before .before .before .before .before .before .before .before .args in
-    let o = opens-as s (a .board) e in
-    let d = c .before .before .before .before .before .decide-all in
+    let p = c .before .before .before .before in
+    let a = start p .args in
+    let o = opens-as s (a .t1) e in
     let n = c .negated2 in
     let t = refused-told (a .output .now)
-    (decisions-refused s (o .reads) (o .fresh) (a .decisions .now) (length (a .output .now)) (d .result) (d .ensures) (c .before .before .before .before .before .before .if1 .left) (c .before .before .answer .given .1)) in
+    (decisions-refused s (o .reads) (o .fresh) (a .decisions .now) (length (a .output .now)) (p .place-all .result .answer) (left p) (placed p) (p .before .before .before .before .before .if1 .left) (c .before .before .answer .given .1)) in
     (toZ-ofZ w32 (n .result) (record { sfits = n .ok }) ∙ n .ensures ∙ t .0, t .1)
 
 pub decide-and-find-spec : {M : Type 1} → statement M
@@ -104,7 +144,8 @@ decide-and-find-spec =
     mul-if1-3
     negated-requires
     returns
-    decide-all-requires
+    mul-place-all
+    place-all-requires
     enum-told
     find-on-requires
     enum-known-answer

@@ -1,30 +1,52 @@
--- `host::find_on` meets its contract: find is lent room for every reason, so it is not refused.
+-- `host::find_on` meets its contract: there is room for every reason, and what was found is told.
 -- Assumes nothing.
+use Prim.Native.Nat.{_+_, _*_, _≤_}
 use native.Mathlib.Omega.{arith}
 use mathlib.Core.Path.{_∙_}
+use lib.ListN.{take}
 use mir.Syntax.{w32}
 use mir.ValLaws.{toZ-pos}
-use Rattle.host.proofs.FoundLaws.{Literals, found-refused, found-nothing, found-literals, none-told, literals-told}
+use Rattle.grid.specs.Side.{sized}
+use Rattle.grid.proofs.SideLaws.{area}
+use Rattle.reasons.specs.Reasons.{Found, findReason}
+use Rattle.reasons.specs.Arrays.{linesOf}
+use Rattle.reasons.proofs.Findings.{nothing-found, not-refused}
+use Rattle.host.proofs.FoundLaws.{Literals, found-literals, few-literals, none-told, literals-told}
 use borrow.Author.Needs.{needs}
 use Rattle.host.proofs.find_on.Statement.{statement}
 use Rattle.host.proofs.find_on.Tie as tie
 
--- the literals that find left
-literals : (c : tie.After-found) → Literals (c .before .before .before .before .before .before .before .args .board) (c .found .given .0 .0) (c .before .before .before .find .last .1 .0)
-literals c =
-    let s = c .before .before .before .before .before .before .before in
-    let n = c .before .before .before .before .before .no-literals in
-    let f = c .before .before .before .find in
-    found-literals (s .args .board) (s .pre .0) (n .result) (n .ensures) (f .ensures .0) (c .found .given .1) (f .ensures .1)
+-- the first reason on the arrays
+abbrev reason : tie.Start → Found
+reason s = findReason (sized (s .args .h) (s .args .w)) (linesOf (s .args .arrows .now) (s .args .ends .now) (s .args .number)) (take (s .args .h * s .args .w) (s .args .cells .now))
+
+-- the cells are few
+cells-few : (s : tie.Start) → s .args .h * s .args .w ≤ 1024
+cells-few s = area (s .args .h) (s .args .w) (s .pre .0) (s .pre .1)
+
+abbrev start : tie.After-found → tie.Start
+start c = c .before .before .before .before .before .before .before
+
+-- the literals found
+literals : (c : tie.After-found) → Literals (reason (start c)) (c .found .given .0 .0) (c .before .before .before .find-inconsistency .last .1 .1 .1 .1 .1 .1 .0)
+literals c = found-literals (reason (start c)) (rw (c .found .given .1) at (c .before .before .before .find-inconsistency .ensures))
+
+-- and they are few
+few : (c : tie.After-found) → c .found .given .0 .0 ≤ 3 * (start c .args .h * start c .args .w) + 1
+few c =
+    let s = start c in
+    few-literals (s .args .h) (s .args .w) (take (s .args .h * s .args .w) (s .args .cells .now)) (s .pre .3) (literals c)
 
 no-literals-requires : tie.Need-no-literals-requires
 no-literals-requires c κs = search needs
 
-slice-aggregate-find : tie.Need-slice-aggregate-find
-slice-aggregate-find c = search needs
+slice-aggregate-find-inconsistency : tie.Need-slice-aggregate-find-inconsistency
+slice-aggregate-find-inconsistency c = search needs
 
-find-requires : tie.Need-find-requires
-find-requires c κs = search needs
+find-inconsistency-requires : tie.Need-find-inconsistency-requires
+find-inconsistency-requires c κs =
+    let s = c .before .before .before in
+    (record { tall = s .pre .0; wide = s .pre .1; room = omega (arith, cells-few s, c .before .no-literals .ensures) }, s .pre .3)
 
 enum-told : tie.Need-enum-told
 enum-told c = search needs
@@ -37,14 +59,13 @@ slice-aggregate-write-literals c = search needs
 
 write-literals-requires : tie.Need-write-literals-requires
 write-literals-requires c κs =
-    let s = c .before .before .before .before .before .before .before .before .before .before in
-    let l = literals (c .before .before .before) in
-    (l .within, omega (arith, l .few, s .pre .1))
+    let f = c .before .before .before in
+    (literals f .within, omega (arith, few f, start f .pre .2))
 
 cast-result : tie.Need-cast-result
 cast-result c =
-    let l = literals (c .before .before .before .before .before .before) in
-    record { sfits = omega (arith, l .small) }
+    let f = c .before .before .before .before .before .before in
+    record { sfits = omega (arith, few f, cells-few (start f)) }
 
 enum-known-found-2 : tie.Need-enum-known-found-2
 enum-known-found-2 c = search needs
@@ -55,32 +76,30 @@ negated-requires c κs = search needs
 returns : tie.Need-returns
 returns c =
     let s = c .before .before .before .before .before .before .before in
-    let n = c .before .before .before .before .before .no-literals in
-    none-told (s .args .board) (s .args .output .now) (found-nothing (s .args .board) (s .pre .0) (n .result) (n .ensures) (c .before .before .before .find .ensures .0) (c .enum-told .given .1))
+    none-told (s .args .output .now) (nothing-found (reason s) (rw (c .enum-told .given .1) at (c .before .before .before .find-inconsistency .ensures)) .0)
 
 same-length : tie.Need-same-length
 same-length c = search needs
 
 returns-2 : tie.Need-returns-2
 returns-2 c =
-    let s = c .before .before .before .before .before .before .before .before .before .before .before .before .before in
-    let l = literals (c .before .before .before .before .before .before) in
-    let t = literals-told (s .args .output .now) l in
-    (toZ-pos w32 (c .before .before .before .before .before .before .found .given .0 .0) (omega (arith, l .small)) ∙ t .0, c .before .before .write-literals .ensures ∙ t .1)
+    let f = c .before .before .before .before .before .before in
+    let s = start f in
+    let t = literals-told (s .args .output .now) (literals f) in
+    (toZ-pos w32 (f .found .given .0 .0) (omega (arith, few f, cells-few s)) ∙ t .0, c .before .before .write-literals .ensures ∙ t .1)
 
 returns-3 : tie.Need-returns-3
 returns-3 c =
     let s = c .before .before .before .before .before .before .before .before .before in
-    let n = c .before .before .before .before .before .before .before .no-literals in
-    absurd (found-refused (s .args .board) (s .pre .0) (n .result) (n .ensures) (c .before .before .before .before .before .find .ensures .0) (c .before .before .found2 .given .1))
+    absurd (not-refused (reason s) (rw (c .before .before .found2 .given .1) at (c .before .before .before .before .before .find-inconsistency .ensures)))
 
 pub find-on-spec : {M : Type 1} → statement M
 find-on-spec =
     tie.close
     (tie.spec
     no-literals-requires
-    slice-aggregate-find
-    find-requires
+    slice-aggregate-find-inconsistency
+    find-inconsistency-requires
     enum-told
     enum-known-found
     slice-aggregate-write-literals
