@@ -185,25 +185,35 @@ record-bits s e =
     let g : Grid = record { height = a .0 + 1; width = b .0 + 1 } in
     let d = bind-ok (cellCodes s 21 (size g)) _ (c .2) in
     let f = bind-ok (arrowsAt s g [] (21 + 2 * size g) (c .0)) _ (d .2) in
-    let fa = field-bits s 0 5 (a .1) in
-    let fb = field-bits s 5 5 (b .1) in
-    let fc = field-bits s 10 11 (c .1) in
-    let fd = cells-bits s 21 (size g) (fc .1) (d .1) in
-    let r = arrows-bits s g [] (21 + 2 * size g) (c .0) (fd .1) (f .1) in
-    let m : length (f .0) ≡ c .0 = arrows-count s g [] (21 + 2 * size g) (c .0) (f .1) in
-    let h : a .0 + 1 - 1 ≡ a .0 = omega arith in
-    let w : b .0 + 1 - 1 ≡ b .0 = omega arith in
-    let n : ℕ = r .0 in
-    let whole : bitsAt s 0 (5 + (5 + (11 + (2 * size g + n)))) ≡ bitsAt s 0 5 ++ (bitsAt s 5 5 ++ (bitsAt s 10 11 ++ (bitsAt s 21 (2 * size g) ++ bitsAt s (21 + 2 * size g) n))) =
-    bits-append s 0 5 (5 + (11 + (2 * size g + n)))
-    ∙ ap (λ (t : List ℕ). bitsAt s 0 5 ++ t) (bits-append s 5 5 (11 + (2 * size g + n))
-    ∙ ap (λ (t : List ℕ). bitsAt s 5 5 ++ t) (bits-append s 10 11 (2 * size g + n)
-    ∙ ap (λ (t : List ℕ). bitsAt s 10 11 ++ t) (bits-append s 21 (2 * size g) n))) in
-    let q : 21 + 2 * size g + n ≡ 5 + (5 + (11 + (2 * size g + n))) = omega arith in
-    rw (← ok-eq (f .2)) (
-      5 + (5 + (11 + (2 * size g + n))),
-      rw (h, w, m, fa .0, fb .0, fc .0, fd .0, r .1) (sym whole),
-      omega (arith, r .2),
-      rw (← q) (r .3),
-      omega (arith, r .4, m),
-    )
+    rw (← ok-eq (f .2)) (parts (a .0) (b .0) (c .0) (d .0) (f .0) (a .1) (b .1) (c .1) (d .1) (f .1))
+  where
+    sheet : ℕ → ℕ → Grid
+    sheet h w = record { height = h + 1; width = w + 1 }
+
+    parts : (h w m : ℕ) (cs : List ℕ) (l : List (List ℕ)) → field s 0 5 ≡ ok h → field s 5 5 ≡ ok w → field s 10 11 ≡ ok m
+        → cellCodes s 21 (size (sheet h w)) ≡ ok cs → arrowsAt s (sheet h w) [] (21 + 2 * size (sheet h w)) m ≡ ok l
+        → (n : ℕ) × (recordBits (record { grid = sheet h w; given = cs; arrows = l }) ≡ bitsAt s 0 n) × (n ≤ 8 * length s) × (filler s n ≡ true)
+        × (n ≡ 21 + 2 * size (sheet h w) + 18 * length l + 2 * length (arrowCells l))
+    parts h w m cs l eh ew em ec el =
+        let g = sheet h w in
+        let fa = field-bits s 0 5 eh in
+        let fb = field-bits s 5 5 ew in
+        let fc = field-bits s 10 11 em in
+        let fd = cells-bits s 21 (size g) (fc .1) ec in
+        let r = arrows-bits s g [] (21 + 2 * size g) m (fd .1) el in
+        let k : length l ≡ m = arrows-count s g [] (21 + 2 * size g) m el in
+        let ph : h + 1 - 1 ≡ h = omega arith in
+        let pw : w + 1 - 1 ≡ w = omega arith in
+        let n : ℕ = r .0 in
+        let whole : bitsAt s 0 (5 + (5 + (11 + (2 * size g + n)))) ≡ bitsAt s 0 5 ++ (bitsAt s 5 5 ++ (bitsAt s 10 11 ++ (bitsAt s 21 (2 * size g) ++ bitsAt s (21 + 2 * size g) n))) =
+        bits-append s 0 5 (5 + (11 + (2 * size g + n)))
+        ∙ ap (λ (t : List ℕ). bitsAt s 0 5 ++ t) (bits-append s 5 5 (11 + (2 * size g + n))
+        ∙ ap (λ (t : List ℕ). bitsAt s 5 5 ++ t) (bits-append s 10 11 (2 * size g + n)
+        ∙ ap (λ (t : List ℕ). bitsAt s 10 11 ++ t) (bits-append s 21 (2 * size g) n))) in
+        let q : 21 + 2 * size g + n ≡ 5 + (5 + (11 + (2 * size g + n))) = omega arith in (
+          5 + (5 + (11 + (2 * size g + n))),
+          rw (ph, pw, k, fa .0, fb .0, fc .0, fd .0, r .1) (sym whole),
+          omega (arith, r .2),
+          rw (← q) (r .3),
+          omega (arith, r .4, k),
+        )

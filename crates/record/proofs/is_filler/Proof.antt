@@ -1,5 +1,6 @@
 -- `record::is_filler` meets its contract: each way out by its own law.
 -- Assumes nothing.
+use native.Mathlib.Omega.{arith}
 use Rattle.record.proofs.FieldLaws.{filler-long, filler-none, filler-bits}
 use borrow.Author.Needs.{needs}
 use Rattle.record.proofs.is_filler.Statement.{statement}
@@ -9,7 +10,7 @@ add-if1 : tie.Need-add-if1
 add-if1 c = search needs
 
 returns : tie.Need-returns
-returns c = filler-long (c .before .before .args .s .now) (c .before .before .args .at) (c .if1 .taken)
+returns c = filler-long (c .before .before .args .s .now) (c .before .before .args .at) (omega (arith, c .if1 .taken))
 
 mul-end : tie.Need-mul-end
 mul-end c = search needs
