@@ -1,4 +1,4 @@
-//! Finds the two files of the original and, with the feature `host`, the library of the host call.
+//! Finds the two files of the original.
 //!
 //! Nothing is copied: the program includes the original's text from where it stands. Where it is
 //! missing, `cfg(original)` stays unset and the program does without it.
@@ -13,9 +13,6 @@ fn main() {
     println!("cargo:rerun-if-changed=build.rs");
     println!("cargo:rustc-check-cfg=cfg(original)");
     find_original(&folder("EVOLMINO_ORIGINAL", "../../shared/docs"));
-    if env::var_os("CARGO_FEATURE_HOST").is_some() {
-        link_host(&folder("EVOLMINO_HOST", "../target/staticlib"));
-    }
 }
 
 /// The folder that an environment variable names, or a default; relative ones start at compare/.
@@ -41,13 +38,4 @@ fn find_original(folder: &Path) {
             folder.display()
         );
     }
-}
-
-fn link_host(folder: &Path) {
-    println!(
-        "cargo:rerun-if-changed={}",
-        folder.join("libhost.a").display()
-    );
-    println!("cargo:rustc-link-search=native={}", folder.display());
-    println!("cargo:rustc-link-lib=static=host");
 }

@@ -1,10 +1,11 @@
-//! `compare bench`: the original and, where it is linked, the host call, on the same boards.
+//! `compare bench`: the original and, where it is linked, the host call, on the same boards; then
+//! their parts.
 
-use super::groups::two_arrow_cells_in_a_block;
+use super::parts::{self, Known};
 use crate::generate::boards::{usual_board, Decided};
 use crate::generate::puzzles::square;
 use crate::host::{HostCall, HOST_CALL, MISSING};
-use crate::original::{problem, Access, Original, Problem};
+use crate::original::{problem, Access, Problem};
 use crate::progress::Outcome;
 use crate::quota::boards_of_each_kind;
 use crate::random::Random;
@@ -27,9 +28,6 @@ struct Prepared {
     record: Vec<u8>,
     decision_bytes: Vec<u8>,
     output: Vec<u8>,
-    /// The original after the decisions.
-    access: Access,
-    has_kinds: bool,
 }
 
 pub fn run(seed: u64, rounds: usize) -> Outcome {
@@ -43,18 +41,20 @@ pub fn run(seed: u64, rounds: usize) -> Outcome {
         &BOARDS[1..]
     );
     println!("original: building the constraint, notify of all decisions, find_inconsistency");
-    println!("simple, detailed: the original's compute_board_info_simple and _detailed alone");
     println!("host: the whole host call; ratio: host / original");
-    println!("    size  original    simple  detailed      host     ratio");
+    println!("    size  original      host     ratio");
     let _above_the_room = room_in_the_heap();
+    let mut boards_by_side = Vec::new();
     for side in SIDES {
-        let mut boards = prepare(seed, side)?;
-        println!("{}", row(side, &mut boards, rounds));
+        let boards = boards(seed, side)?;
+        let mut prepared: Vec<Prepared> = boards.iter().map(prepared).collect();
+        println!("{}", row(side, &mut prepared, rounds));
+        boards_by_side.push((side, boards));
     }
     if HOST_CALL.is_none() {
         println!("{MISSING}");
     }
-    Ok(())
+    parts::run(&boards_by_side)
 }
 
 /// Leaves free memory in the middle of the heap, below what it returns. Without it the allocator
@@ -67,37 +67,28 @@ fn room_in_the_heap() -> Vec<u8> {
     above
 }
 
-fn prepare(seed: u64, side: usize) -> Result<Vec<Prepared>, String> {
+fn boards(seed: u64, side: usize) -> Result<Vec<Known>, String> {
     let mut random = Random::new(seed);
-    let boards = boards_of_each_kind(BOARDS, || usual_board(&mut random, square(side)))?;
-    Ok(boards
-        .into_iter()
-        .map(|(board, _)| prepared(board))
-        .collect())
+    boards_of_each_kind(BOARDS, || usual_board(&mut random, square(side)))
 }
 
-fn prepared(board: Decided) -> Prepared {
+fn prepared((board, _): &Known) -> Prepared {
     let Decided { puzzle, decisions } = board;
-    let access = Original::after(&puzzle, &decisions).access;
     Prepared {
-        problem: problem(&puzzle),
-        record: encode(&puzzle),
+        problem: problem(puzzle),
+        record: encode(puzzle),
         decision_bytes: decisions.iter().flat_map(|&l| two_bytes(l)).collect(),
         output: vec![0; 2 * most_literals(puzzle.size)],
-        has_kinds: !two_arrow_cells_in_a_block(&puzzle, &access.cells()),
-        decisions,
-        access,
+        decisions: decisions.clone(),
     }
 }
 
 /// A line of the table. The calls take turns, so that they meet the same load of the machine.
 fn row(side: usize, boards: &mut [Prepared], rounds: usize) -> String {
-    let mut best = [Duration::MAX; 4];
+    let mut best = [Duration::MAX; 2];
     for _ in 0..rounds {
         let times = [
             time_original(boards),
-            time_simple(boards),
-            time_detailed(boards),
             HOST_CALL.map_or(Duration::MAX, |host_call| time_host(boards, host_call)),
         ];
         for (best, time) in best.iter_mut().zip(times) {
@@ -105,9 +96,9 @@ fn row(side: usize, boards: &mut [Prepared], rounds: usize) -> String {
         }
     }
     let microseconds = |time: Duration| time.as_secs_f64() * 1e6;
-    let [original, simple, detailed, host] = best.map(microseconds);
+    let [original, host] = best.map(microseconds);
     let size = format!("{side} x {side}");
-    let measured = format!("{size:>8}{original:>10.2}{simple:>10.2}{detailed:>10.2}");
+    let measured = format!("{size:>8}{original:>10.2}");
     match HOST_CALL {
         None => format!("{measured}{:>10}{:>10}", "-", "-"),
         Some(_) => format!("{measured}{host:>10.2}{:>10.2}", host / original),
@@ -116,7 +107,7 @@ fn row(side: usize, boards: &mut [Prepared], rounds: usize) -> String {
 
 /// The time of one call, from one for each board. A first pass is not timed: it finds the caches
 /// and the allocator as another kind of call left them.
-fn per_call<T>(boards: &mut [T], mut call: impl FnMut(&mut T)) -> Duration {
+fn per_call(boards: &mut [Prepared], mut call: impl FnMut(&mut Prepared)) -> Duration {
     boards.iter_mut().for_each(&mut call);
     let start = Instant::now();
     boards.iter_mut().for_each(&mut call);
@@ -130,23 +121,6 @@ fn time_original(boards: &mut [Prepared]) -> Duration {
             access.notify(index, value == 1);
         }
         black_box(access.find_inconsistency());
-    })
-}
-
-fn time_simple(boards: &mut [Prepared]) -> Duration {
-    per_call(boards, |board| {
-        black_box(board.access.simple());
-    })
-}
-
-/// Only where no block has two arrow cells; the groups it takes are made beforehand.
-fn time_detailed(boards: &mut [Prepared]) -> Duration {
-    let with_kinds = boards.iter().filter(|board| board.has_kinds);
-    let mut with_groups: Vec<_> = with_kinds
-        .map(|board| (&board.access, board.access.simple()))
-        .collect();
-    per_call(&mut with_groups, |(access, simple)| {
-        black_box(access.detailed(simple));
     })
 }
 

@@ -5,6 +5,7 @@ pub mod calls;
 pub mod finds;
 pub mod groups;
 pub mod host;
+mod parts;
 pub mod program;
 pub mod records;
 pub mod small;

@@ -1,4 +1,4 @@
-//! `finds.list`: boards with the original's reason.
+//! `finds.list`: boards with the original's reason, and whether they are finished.
 
 use super::List;
 use crate::commands::finds::compare;
@@ -7,13 +7,19 @@ use crate::generate::long::long_reasons;
 use crate::generate::puzzles::{any_size, square};
 use crate::quota::boards_of_each_kind;
 use crate::random::Random;
+use crate::reading::board::Board;
+use crate::reading::finished::finished;
 use crate::reading::grid::Size;
+use crate::reading::reasons::Reason;
 use crate::tally::Tally;
 use std::ops::RangeInclusive;
 
-const FORMAT: [&str; 3] = [
+const FORMAT: [&str; 6] = [
+    "Finished is document 01's, by the literal reading.",
+    "u16 rounds: how often find is called on each board before its answer is compared.",
     "Entries to the end of the file: u16 record length, the record, u16 number of decisions,",
-    "  that many u16 decisions, then u16 count (0 for none) and that many u16 literals.",
+    "  that many u16 decisions, then u16 count (0 for none) and that many u16 literals, and a",
+    "  byte, 1 for a finished board and 0 for another.",
     "A decision or literal is value * 32768 + index.",
 ];
 
@@ -40,18 +46,38 @@ pub fn finds(seed: u64) -> Result<List, String> {
         tally.add(board.puzzle.size, reason.as_ref());
     }
 
-    let mut list = List::new("finds.list", 700_000, seed, "Boards with what find says.");
+    let what = "Boards with what find and finished say.";
+    let mut list = List::new("finds.list", 500_000, seed, what);
     list.answers_are_the_originals();
     list.line(&format!("{} boards: {}.", boards.len(), tally.line()));
+    let number_finished = boards.iter().filter(|(board, _)| is_finished(board)).count();
+    list.line(&format!("{number_finished} boards are finished."));
     for line in FORMAT {
         list.line(line);
     }
+    list.u16(1);
     for (board, reason) in &boards {
-        list.board(board);
-        let literals = reason.as_ref().map_or(&[][..], |reason| &reason.literals);
-        list.literals(literals);
+        add_entry(&mut list, board, reason.as_ref());
     }
     Ok(list)
+}
+
+/// The bytes of a list with this board alone and this many rounds.
+pub fn timed(rounds: usize, board: &Decided, reason: Option<&Reason>) -> Vec<u8> {
+    let mut list = List::passing("A board whose find is timed.");
+    list.u16(rounds);
+    add_entry(&mut list, board, reason);
+    list.file()
+}
+
+fn add_entry(list: &mut List, board: &Decided, reason: Option<&Reason>) {
+    list.board(board);
+    list.literals(reason.map_or(&[][..], |reason| &reason.literals));
+    list.u8(u8::from(is_finished(board)));
+}
+
+fn is_finished(board: &Decided) -> bool {
+    finished(&Board::after(&board.puzzle, &board.decisions))
 }
 
 /// The largest grid, strips of each length, squares up to 16 by 16.

@@ -12,9 +12,11 @@ use crate::reading::grid::Size;
 use crate::reading::groups::{blocks, potential_groups};
 use crate::reading::kinds::Kinds;
 
-const FORMAT: [&str; 14] = [
+const FORMAT: [&str; 16] = [
     "Kinds, reach and fence are compared with the original where no block has two arrow cells: it",
     "has them there only. Elsewhere they are document 01's, by the literal reading.",
+    "u16 and u16 rounds: how often the labels and how often the kinds of each board are computed",
+    "before they are compared.",
     "Entries to the end of the file: u16 record length, the record, u16 number of decisions, that",
     "many u16 decisions (value * 32768 + index), then with n = height * width:",
     "  n u16 names of potential groups: the index of the group's first cell, or 65535 for none",
@@ -45,12 +47,20 @@ pub fn groups(seed: u64) -> Result<List, String> {
             boards.push(board);
         }
     }
+    list.numbers(&[1, 1]);
     for board in &boards {
         compare_with_original(board)?;
-        list.board(board);
-        add_groups(&mut list, board);
+        add_entry(&mut list, board);
     }
     Ok(list)
+}
+
+/// The bytes of a list with this board alone and these rounds, of the labels and of the kinds.
+pub fn timed(rounds: [usize; 2], board: &Decided) -> Vec<u8> {
+    let mut list = List::passing("A board whose groups are timed.");
+    list.numbers(&rounds);
+    add_entry(&mut list, board);
+    list.file()
 }
 
 /// Every pattern on small grids and strips.
@@ -84,7 +94,8 @@ fn large_patterns(random: &mut Random) -> Vec<Decided> {
     boards
 }
 
-fn add_groups(list: &mut List, decided: &Decided) {
+fn add_entry(list: &mut List, decided: &Decided) {
+    list.board(decided);
     let size = decided.puzzle.size;
     let cells = Board::after(&decided.puzzle, &decided.decisions).cells();
     let kinds = Kinds::of(&decided.puzzle, &cells);

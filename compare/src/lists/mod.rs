@@ -4,8 +4,8 @@
 //! significant byte first.
 
 mod calls;
-mod finds;
-mod groups;
+pub mod finds;
+pub mod groups;
 mod hosts;
 pub mod inputs;
 mod numbers;
@@ -61,6 +61,17 @@ impl List {
         list
     }
 
+    /// A list that is run once and not kept.
+    fn passing(what: &str) -> List {
+        List {
+            name: "",
+            limit: usize::MAX,
+            head: format!("# {what}\n"),
+            data: Vec::new(),
+            entries: 0,
+        }
+    }
+
     /// A line of the head.
     fn line(&mut self, text: &str) {
         self.head += &format!("# {text}\n");
@@ -113,10 +124,16 @@ impl List {
         }
     }
 
-    fn write(&self, folder: &str) -> Outcome {
+    /// The head, an empty line and the data.
+    pub fn file(&self) -> Vec<u8> {
         let mut file = self.head.clone().into_bytes();
         file.push(b'\n');
         file.extend(&self.data);
+        file
+    }
+
+    fn write(&self, folder: &str) -> Outcome {
+        let file = self.file();
         println!(
             "lists: {} has {} entries in {} bytes",
             self.name,

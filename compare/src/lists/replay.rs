@@ -7,6 +7,7 @@ use crate::answers::{by_reading, Answer};
 use crate::generate::calls::Call;
 use crate::progress::Outcome;
 use crate::reading::board::Board;
+use crate::reading::finished::finished;
 use crate::reading::groups::{blocks, potential_groups};
 use crate::reading::host::{host_call, literal};
 use crate::reading::kinds::Kinds;
@@ -20,18 +21,19 @@ use std::path::Path;
 /// Reads one entry and says whether the reading gives its answers.
 type Check = fn(&mut Reader) -> bool;
 
-const LISTS: [(&str, Check); 7] = [
-    ("records.list", record),
-    ("boards.list", calls),
-    ("groups.list", groups),
-    ("finds.list", finds),
-    ("calls.list", calls),
-    ("hosts.list", host),
-    ("inputs.list", input),
+/// Each list with the number of rounds before its entries; the reading takes no account of them.
+const LISTS: [(&str, usize, Check); 7] = [
+    ("records.list", 0, record),
+    ("boards.list", 0, calls),
+    ("groups.list", 2, groups),
+    ("finds.list", 1, finds),
+    ("calls.list", 0, calls),
+    ("hosts.list", 0, host),
+    ("inputs.list", 0, input),
 ];
 
 pub fn run(folder: &str) -> Outcome {
-    for (name, check) in LISTS {
+    for (name, rounds, check) in LISTS {
         let path = Path::new(folder).join(name);
         let file = fs::read(&path).map_err(|error| format!("{}: {error}", path.display()))?;
         let head = file.windows(2).position(|two| two == b"\n\n");
@@ -39,6 +41,7 @@ pub fn run(folder: &str) -> Outcome {
         let mut reader = Reader {
             data: &file[data..],
         };
+        reader.numbers(rounds);
         let mut entries = 0;
         while !reader.data.is_empty() {
             let at = file.len() - reader.data.len();
@@ -164,9 +167,10 @@ fn answer_matches(list: &mut Reader, call: Call, answer: &Answer) -> bool {
 
 fn finds(list: &mut Reader) -> bool {
     let puzzle = list.puzzle();
-    let cells = Board::after(&puzzle, &list.literals()).cells();
-    let found = find_reason(&puzzle, &cells);
-    list.literals() == found.map_or(Vec::new(), |reason| reason.literals)
+    let board = Board::after(&puzzle, &list.literals());
+    let found = find_reason(&puzzle, &board.cells());
+    let same = list.literals() == found.map_or(Vec::new(), |reason| reason.literals);
+    list.u8() == u8::from(finished(&board)) && same
 }
 
 fn groups(list: &mut Reader) -> bool {

@@ -1,9 +1,13 @@
-// Replays a list of boards from standard input: each is opened and decided, and what `reasons::find` answers and writes is compared
-// with what the list says. The buffer is longer than any reason, and nothing behind the literals may be written.
+// Replays a list of boards from standard input: each is opened and decided, and what `reasons::find` answers and writes and what
+// `finished::finished` answers is compared with what the list says. The buffer is longer than any reason, and nothing behind the
+// literals may be written.
 //
-// A head of lines ends with an empty line. Then come entries to the end: u16 length, that many bytes of record, u16 number of
-// decisions, that many u16 decisions, u16 number of literals (0 for no reason), that many u16 literals. A u16 has its high byte first.
+// A head of lines ends with an empty line. Then come u16 rounds, how often find is called on each board before its answer is compared:
+// two runs that differ in it tell the time of a call. Then come entries to the end: u16 length, that many bytes of record, u16 number of
+// decisions, that many u16 decisions, u16 number of literals (0 for no reason), that many u16 literals, and a byte, 1 for a finished
+// board and 0 for another. A u16 has its high byte first.
 use board::Board;
+use finished::Verdict;
 use libc::STDOUT_FILENO;
 use reasons::Finding;
 use record::Answer;
@@ -114,18 +118,45 @@ fn literals_differ(list: &[u8], at: usize, count: usize, buffer: &[u16; 4096]) -
     false
 }
 
+// Finds this many times, each time in the same buffer; the last answer.
+fn find_in_rounds(rounds: usize, board: Board, buffer: &mut [u16]) -> Finding {
+    let mut found = Finding::Nothing;
+    let mut i = 0;
+    while i < rounds {
+        found = reasons::find(board, buffer);
+        i += 1;
+    }
+    found
+}
+
 // Whether find on the board differs from the literals of the list from at on.
-fn find_differs(list: &[u8], at: usize, count: usize, board: Board) -> bool
+fn find_differs(list: &[u8], rounds: usize, at: usize, count: usize, board: Board) -> bool
     requires { ⌜ at + 2 * count ≤ length (now list) ⌝ }
 {
     let mut buffer = fresh_buffer();
-    let found = reasons::find(board, &mut buffer);
+    let found = find_in_rounds(rounds, board, &mut buffer);
     count_differs(found, count) || literals_differ(list, at, count, &buffer)
 }
 
-// Whether the board of a record with these decisions is refused, or find on it differs from the literals of the list from at on.
-fn entry_differs(list: &[u8], record: &[u8], decisions: &[u8], at: usize, count: usize) -> bool
-    requires { ⌜ at + 2 * count ≤ length (now list) ⌝ }
+// Whether a verdict is not the one for this number: 1 for a finished board, 0 for another.
+fn verdict_differs(verdict: Verdict, number: usize) -> bool {
+    match verdict {
+        Verdict::Yes => number != 1,
+        Verdict::No => number != 0,
+        Verdict::Refused(_) => true,
+    }
+}
+
+// Whether the board of a record with these decisions is refused, or find or finished on it differs from the list from at on.
+fn entry_differs(
+    list: &[u8],
+    rounds: usize,
+    record: &[u8],
+    decisions: &[u8],
+    at: usize,
+    count: usize,
+) -> bool
+    requires { ⌜ at + 2 * count < length (now list) ⌝ }
 {
     let o = Board::open(record);
     let answer = o.answer;
@@ -136,11 +167,13 @@ fn entry_differs(list: &[u8], record: &[u8], decisions: &[u8], at: usize, count:
     let d = fresh.decide_all(decisions);
     let answer = d.answer;
     let board = d.board;
-    !done(answer) || find_differs(list, at, count, board)
+    !done(answer)
+        || find_differs(list, rounds, at, count, board)
+        || verdict_differs(finished::finished(board), byte_at(list, at + 2 * count))
 }
 
 // Goes through the entry at at.
-fn run_entry(list: &[u8], at: usize) -> Run
+fn run_entry(list: &[u8], rounds: usize, at: usize) -> Run
     requires { ⌜ at < length (now list) ⌝ }
 {
     let decisions = at + 2 + number_at(list, at);
@@ -158,7 +191,7 @@ fn run_entry(list: &[u8], at: usize) -> Run
         };
     }
     let count = number_at(list, literals);
-    let end = literals + 2 + 2 * count;
+    let end = literals + 3 + 2 * count;
     if list.len() < end {
         return Run {
             differs: true,
@@ -168,6 +201,7 @@ fn run_entry(list: &[u8], at: usize) -> Run
     Run {
         differs: entry_differs(
             list,
+            rounds,
             &list[at + 2..decisions],
             &list[decisions + 2..literals],
             literals + 2,
@@ -181,16 +215,18 @@ fn run_entry(list: &[u8], at: usize) -> Run
 fn replay(list: &[u8]) -> Tally {
     let mut boards = 0;
     let mut differ = 0;
-    let mut at = data_start(list);
-    if list.len() < at {
+    let start = data_start(list);
+    if list.len() < start {
         return Tally {
             boards,
             differ,
             whole: false,
         };
     }
+    let rounds = number_at(list, start);
+    let mut at = start + 2;
     while at < list.len() {
-        let r = run_entry(list, at);
+        let r = run_entry(list, rounds, at);
         boards += 1;
         if r.differs {
             differ += 1;

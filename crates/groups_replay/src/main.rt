@@ -1,10 +1,11 @@
 // Replays a list of boards from standard input: the groups, kinds, reaches and fences that are computed are compared with those
 // that the list says.
 //
-// A head of lines ends with an empty line. Then come entries to the end: u16 length, that many bytes of record, u16 number of
-// decisions, and the decisions, u16 each. Then for each cell a u16 name of its potential group; for each cell a u16 name of its
-// block; for each cell a u8 kind; for each cell a u16 name of its owner. Then the u16 number of arrow blocks, and for each by rising
-// name: u16 name, u16 size of its reach, for each cell a u8 mark of its reach, u16 number of literals of its fence, and the
+// A head of lines ends with an empty line. Then come two u16, how often the labels and how often the kinds of each board are computed
+// before they are compared: two runs that differ in one of them tell its time. Then come entries to the end: u16 length, that many bytes
+// of record, u16 number of decisions, and the decisions, u16 each. Then for each cell a u16 name of its potential group; for each cell a
+// u16 name of its block; for each cell a u8 kind; for each cell a u16 name of its owner. Then the u16 number of arrow blocks, and for each
+// by rising name: u16 name, u16 size of its reach, for each cell a u8 mark of its reach, u16 number of literals of its fence, and the
 // literals, u16 each. A u16 has its high byte first; where there is no group, the name is 65535.
 use board::Board;
 use libc::STDOUT_FILENO;
@@ -29,6 +30,12 @@ struct Run {
     blocks: usize,
     differ: usize,
     end: usize,
+}
+
+// How often labels and kinds are computed.
+struct Rounds {
+    labels: usize,
+    kinds: usize,
 }
 
 // Whether an arrow block differs, and where it ends in the list, 0 where the list ends inside it.
@@ -326,9 +333,51 @@ fn mark_arrows(arrows: &[u16; 1024], total: usize, marks: &mut [u8; 1024]) -> bo
     false
 }
 
+// Computes the names of blocks or of potential groups this many times, each time in the same array.
+fn label_in_rounds(
+    rounds: usize,
+    cells: &[u8; 1024],
+    is_potential: bool,
+    h: usize,
+    w: usize,
+    names: &mut [u16; 1024],
+)
+    requires { ⌜ (h ≤ 32) × (w ≤ 32) ⌝ }
+{
+    let mut i = 0;
+    while i < rounds {
+        groups::compute_connected_components(cells, is_potential, h, w, names);
+        i += 1;
+    }
+}
+
+// Computes kinds and owners this many times, each time in the same arrays.
+fn kinds_in_rounds(
+    rounds: usize,
+    cells: &[u8; 1024],
+    blocks: &[u16; 1024],
+    on_arrow: &[u8; 1024],
+    h: usize,
+    w: usize,
+    arrowed: &mut [u8; 1024],
+    kinds: &mut [u8; 1024],
+    owners: &mut [u16; 1024],
+)
+    requires { ⌜ (h ≤ 32) × (w ≤ 32) ⌝ }
+{
+    let mut i = 0;
+    while i < rounds {
+        kinds::compute_board_info_detailed(
+            cells, blocks, on_arrow, h, w, arrowed, kinds, owners,
+        );
+        i += 1;
+    }
+}
+
 // Whether the names of the potential groups differ from those that the list has at at.
 fn potential_groups_differ(
     list: &[u8],
+    rounds: Rounds,
     at: usize,
     n: usize,
     cells: &[u8; 1024],
@@ -338,7 +387,7 @@ fn potential_groups_differ(
     requires { ⌜ (at + 2 * n ≤ length (now list)) × (h ≤ 32) × (w ≤ 32) ⌝ }
 {
     let mut names = no_names();
-    groups::compute_connected_components(cells, true, h, w, &mut names);
+    label_in_rounds(rounds.labels, cells, true, h, w, &mut names);
     names_differ(list, at, n, &names)
 }
 
@@ -365,6 +414,7 @@ fn kinds_differ(
 // Computes blocks, kinds and owners, and compares them and the arrow blocks with those that the list has at at.
 fn run_kinds(
     list: &[u8],
+    rounds: Rounds,
     at: usize,
     n: usize,
     cells: &[u8; 1024],
@@ -376,11 +426,12 @@ fn run_kinds(
     ensures { λ r. ⌜ (r .blocks ≤ 1024) × (r .differ ≤ 1026) ⌝ }
 {
     let mut blocks = no_names();
-    groups::compute_connected_components(cells, false, h, w, &mut blocks);
+    label_in_rounds(rounds.labels, cells, false, h, w, &mut blocks);
     let mut arrowed = no_marks();
     let mut kinds = no_marks();
     let mut owners = no_names();
-    kinds::compute_board_info_detailed(
+    kinds_in_rounds(
+        rounds.kinds,
         cells,
         &blocks,
         on_arrow,
@@ -411,7 +462,7 @@ fn broken() -> Run
 }
 
 // Computes the groups and kinds of a board, and compares them with those that the list has at at.
-fn run_board(list: &[u8], at: usize, b: Board) -> Run
+fn run_board(list: &[u8], rounds: Rounds, at: usize, b: Board) -> Run
     requires { ⌜ at ≤ length (now list) ⌝ }
     ensures { λ r. ⌜ (r .blocks ≤ 1024) × (r .differ ≤ 1027) ⌝ }
 {
@@ -434,8 +485,8 @@ fn run_board(list: &[u8], at: usize, b: Board) -> Run
         return broken();
     }
     let cells = b.cells;
-    let differs = potential_groups_differ(list, at, n, &cells, h, w);
-    let found = run_kinds(list, at + 2 * n, n, &cells, &on_arrow, h, w);
+    let differs = potential_groups_differ(list, rounds, at, n, &cells, h, w);
+    let found = run_kinds(list, rounds, at + 2 * n, n, &cells, &on_arrow, h, w);
     Run {
         blocks: found.blocks,
         differ: found.differ + one_if(differs),
@@ -444,7 +495,7 @@ fn run_board(list: &[u8], at: usize, b: Board) -> Run
 }
 
 // Opens the record of the entry at at, adds its decisions and compares the board.
-fn run_entry(list: &[u8], at: usize) -> Run
+fn run_entry(list: &[u8], rounds: Rounds, at: usize) -> Run
     requires { ⌜ at < length (now list) ⌝ }
     ensures { λ r. ⌜ (r .blocks ≤ 1024) × (r .differ ≤ 1027) ⌝ }
 {
@@ -468,7 +519,23 @@ fn run_entry(list: &[u8], at: usize) -> Run
     if number(answer) != 0 {
         return broken();
     }
-    run_board(list, decisions_end, board)
+    run_board(list, rounds, decisions_end, board)
+}
+
+// The rounds at at, none where the list ends before them.
+fn rounds_at(list: &[u8], at: usize) -> Rounds
+    requires { ⌜ at ≤ length (now list) ⌝ }
+{
+    if list.len() < at + 4 {
+        return Rounds {
+            labels: 0,
+            kinds: 0,
+        };
+    }
+    Rounds {
+        labels: number_at(list, at),
+        kinds: number_at(list, at + 2),
+    }
 }
 
 // Goes through the entries.
@@ -478,8 +545,8 @@ fn replay(list: &[u8]) -> Tally
     let mut boards = 0;
     let mut blocks = 0;
     let mut differ = 0;
-    let mut at = data_start(list);
-    if list.len() < at {
+    let start = data_start(list);
+    if list.len() < start {
         return Tally {
             boards,
             blocks,
@@ -487,8 +554,10 @@ fn replay(list: &[u8]) -> Tally
             whole: false,
         };
     }
+    let rounds = rounds_at(list, start);
+    let mut at = start + 4;
     while at < list.len() {
-        let r = run_entry(list, at);
+        let r = run_entry(list, rounds, at);
         boards += 1;
         blocks += r.blocks;
         differ += r.differ;

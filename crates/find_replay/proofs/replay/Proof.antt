@@ -9,16 +9,22 @@ use Rattle.find_replay.proofs.replay.Statement.{statement}
 use Rattle.find_replay.proofs.replay.Tie as tie
 
 abbrev Inv-loop : tie.InvT-loop
-Inv-loop list boards₀ differ₀ at₀ boards differ at = (differ ≤ boards) × (boards ≤ at)
+Inv-loop list boards₀ differ₀ start rounds at₀ boards differ at = (differ ≤ boards) × (boards ≤ at)
 
 abbrev μ-loop : tie.MeasureT-loop
-μ-loop list boards₀ differ₀ at₀ boards differ at = length list - at
+μ-loop list boards₀ differ₀ start rounds at₀ boards differ at = length list - at
 
 data-start-requires : tie.Need-data-start-requires Inv-loop μ-loop
 data-start-requires c κs = search needs
 
 returns : tie.Need-returns Inv-loop μ-loop
 returns c = search needs
+
+number-at-requires : tie.Need-number-at-requires Inv-loop μ-loop
+number-at-requires c κs = search needs
+
+add-at : tie.Need-add-at Inv-loop μ-loop
+add-at c = search needs
 
 loop-holds : tie.Need-loop-holds Inv-loop μ-loop
 loop-holds c = search needs
@@ -52,6 +58,8 @@ replay-spec =
     μ-loop
     data-start-requires
     returns
+    number-at-requires
+    add-at
     loop-holds
     run-entry-requires
     add-boards

@@ -7,16 +7,22 @@ use Rattle.groups_replay.proofs.replay.Statement.{statement}
 use Rattle.groups_replay.proofs.replay.Tie as tie
 
 abbrev Inv-loop : tie.InvT-loop
-Inv-loop list boards₀ blocks₀ differ₀ at₀ boards blocks differ at = (boards ≤ at) × (blocks ≤ 1024 * boards) × (differ ≤ 1027 * boards)
+Inv-loop list boards₀ blocks₀ differ₀ start rounds at₀ boards blocks differ at = (boards ≤ at) × (blocks ≤ 1024 * boards) × (differ ≤ 1027 * boards)
 
 abbrev μ-loop : tie.MeasureT-loop
-μ-loop list boards₀ blocks₀ differ₀ at₀ boards blocks differ at = length list - at
+μ-loop list boards₀ blocks₀ differ₀ start rounds at₀ boards blocks differ at = length list - at
 
 data-start-requires : tie.Need-data-start-requires Inv-loop μ-loop
 data-start-requires c κs = search needs
 
 returns : tie.Need-returns Inv-loop μ-loop
 returns c = search needs
+
+rounds-at-requires : tie.Need-rounds-at-requires Inv-loop μ-loop
+rounds-at-requires c κs = search needs
+
+add-at : tie.Need-add-at Inv-loop μ-loop
+add-at c = search needs
 
 loop-holds : tie.Need-loop-holds Inv-loop μ-loop
 loop-holds c = search needs
@@ -53,6 +59,8 @@ replay-spec =
     μ-loop
     data-start-requires
     returns
+    rounds-at-requires
+    add-at
     loop-holds
     run-entry-requires
     add-boards
