@@ -56,6 +56,7 @@ compare replay FOLDER
 compare program PATH [--seed N] [--count N]
 compare bench [--seed N] [--count ROUNDS]
 compare host [--seed N] [--count N]
+compare fuzz [--seed N] [--count N]
 compare reason < INPUT";
 
 const NOT_AT_HAND: &str = "the original is not at hand: name the folder with its two files \
@@ -83,6 +84,7 @@ fn run(options: &Options) -> Outcome {
         "replay" => lists::replay::run(path()?),
         "program" => commands::program::run(seed, count(2_000), path()?),
         "reason" => reason(),
+        "fuzz" => commands::fuzz::run(seed, count(1_000_000)),
         "finds" | "calls" | "groups" | "lists" | "bench" | "host" if !original::AT_HAND => {
             Err(NOT_AT_HAND.to_string())
         }

@@ -3,6 +3,7 @@
 pub mod bench;
 pub mod calls;
 pub mod finds;
+pub mod fuzz;
 pub mod groups;
 pub mod host;
 mod parts;

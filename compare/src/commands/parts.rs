@@ -20,11 +20,13 @@ use std::time::{Duration, Instant};
 pub type Known = (Decided, Option<Reason>);
 
 /// Of so many tries the shortest counts.
-const TRIES: usize = 3;
+const TRIES: usize = 5;
 
 struct Part {
     name: &'static str,
     program: &'static str,
+    /// So many calls on each board of 32 by 32, more on smaller ones.
+    calls: usize,
     has: fn(&Decided, &Access) -> bool,
     /// The program's list for a board and a number of rounds.
     list: fn(usize, &Known) -> Vec<u8>,
@@ -36,6 +38,7 @@ const PARTS: [Part; 3] = [
     Part {
         name: "find",
         program: "find_replay",
+        calls: 200,
         has: |_, _| true,
         list: |rounds, (board, reason)| finds::timed(rounds, board, reason.as_ref()),
         original: find,
@@ -43,6 +46,7 @@ const PARTS: [Part; 3] = [
     Part {
         name: "labels",
         program: "groups_replay",
+        calls: 1_000,
         has: |_, _| true,
         list: |rounds, (board, _)| groups::timed([rounds, 1], board),
         original: labels,
@@ -50,6 +54,7 @@ const PARTS: [Part; 3] = [
     Part {
         name: "kinds",
         program: "groups_replay",
+        calls: 500,
         // the original computes them there only
         has: |board, access| !two_arrow_cells_in_a_block(&board.puzzle, &access.cells()),
         list: |rounds, (board, _)| groups::timed([1, rounds], board),
@@ -90,8 +95,7 @@ fn programs() -> PathBuf {
 }
 
 fn row(part: &Part, side: usize, boards: &[Known], folder: &Path) -> Result<String, String> {
-    // about the same time for each size
-    let calls = 100 * 1_024 / (side * side);
+    let calls = part.calls * 1_024 / (side * side);
     let mut original = Duration::ZERO;
     let mut ours = Duration::ZERO;
     let mut timed = 0;

@@ -5,6 +5,7 @@ pub mod calls;
 pub mod hosts;
 mod layout;
 pub mod long;
+pub mod mutations;
 pub mod patterns;
 pub mod puzzles;
 pub mod records;

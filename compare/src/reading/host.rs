@@ -1,7 +1,7 @@
 //! The host call: a record, decisions and an output as bytes, a number back.
 
 use super::board::Board;
-use super::reasons::{find, most_literals};
+use super::reasons::{find, most_literals, Reason};
 use super::{Literal, Refusal};
 
 /// The literal count, 0 for none, or the negated refusal number; only literals are written.
@@ -17,13 +17,23 @@ pub fn host_call(record: &[u8], decisions: &[u8], output: &mut [u8]) -> i32 {
     }
 }
 
-/// Opens, decides in order and finds; no literals for none.
-/// Refusals: 1 to 5, 11, then per decision 12, 7, 9, the odd byte last.
+/// The literals of what is found; no literals for none.
 pub fn answer(
     record: &[u8],
     decisions: &[u8],
     output_length: usize,
 ) -> Result<Vec<Literal>, Refusal> {
+    let reason = opened_and_found(record, decisions, output_length)?;
+    Ok(reason.map_or(Vec::new(), |reason| reason.literals))
+}
+
+/// Opens, decides in order and finds.
+/// Refusals: 1 to 5, 11, then per decision 12, 7, 9, the odd byte last.
+pub fn opened_and_found(
+    record: &[u8],
+    decisions: &[u8],
+    output_length: usize,
+) -> Result<Option<Reason>, Refusal> {
     let mut board = Board::open(record)?;
     if output_length < 2 * most_literals(board.puzzle().size) {
         return Err(Refusal::ShortBuffer);
@@ -37,8 +47,7 @@ pub fn answer(
     if odd_byte {
         return Err(Refusal::HostInput);
     }
-    let reason = find(&board, output_length / 2)?;
-    Ok(reason.map_or(Vec::new(), |reason| reason.literals))
+    find(&board, output_length / 2)
 }
 
 /// Most significant first: value (1 bit), five zero bits, index (10).

@@ -1,0 +1,110 @@
+//! `compare fuzz`: the linked host call on mutated input, for a run under a memory checker.
+//!
+//! Record, decisions and output lie in boxes of exactly their length, so that a checker sees every
+//! byte that is read or written beside them; in some calls the output has guard bytes about it in
+//! its box. The answers are compared with the reading's. No original is needed.
+
+use crate::answers::host_facts;
+use crate::generate::boards::{board_of_size, Decided};
+use crate::generate::hosts::{host_input, HostInput};
+use crate::generate::mutations::mutated;
+use crate::generate::puzzles::{any_size, size_up_to};
+use crate::host::{HostCall, HOST_CALL, MISSING};
+use crate::progress::{Outcome, Progress};
+use crate::random::Random;
+use crate::reading::host::{opened_and_found, two_bytes};
+use crate::reading::reasons::Reason;
+use crate::reading::Refusal;
+use crate::tally::Tally;
+use std::time::Instant;
+
+/// So many calls on mutations of the same input.
+const CALLS_OF_A_BOARD: usize = 10;
+
+#[derive(Default)]
+struct Counts {
+    /// None, and reasons 1, 2, 3, 4 (a) and 4 (b).
+    found: [usize; Tally::COLUMNS],
+    /// By refusal number.
+    refused: [usize; 13],
+}
+
+pub fn run(seed: u64, count: usize) -> Outcome {
+    let host_call = HOST_CALL.ok_or(MISSING)?;
+    let start = Instant::now();
+    let mut random = Random::new(seed);
+    let mut progress = Progress::new("fuzz", count);
+    let mut counts = Counts::default();
+    let mut done = 0;
+    while done < count {
+        progress.at(done);
+        let board = board(&mut random);
+        let input = host_input(&mut random, &board);
+        for _ in 0..CALLS_OF_A_BOARD.min(count - done) {
+            let input = mutated(&mut random, &input);
+            match check(&mut random, host_call, &input)? {
+                Ok(reason) => counts.found[Tally::column(reason.as_ref())] += 1,
+                Err(refusal) => counts.refused[usize::from(refusal.number())] += 1,
+            }
+            done += 1;
+        }
+    }
+    println!(
+        "fuzz: {count} calls with seed {seed} in {} seconds",
+        start.elapsed().as_secs()
+    );
+    println!(
+        "none, reasons 1, 2, 3, 4(a), 4(b): {:?}; refused 1 to 12: {:?}",
+        counts.found,
+        &counts.refused[1..]
+    );
+    Ok(())
+}
+
+/// Mostly small ones: they meet every reason too, and a memory checker makes calls slow.
+fn board(random: &mut Random) -> Decided {
+    let size = match random.percent(10) {
+        true => any_size(random),
+        false => size_up_to(random, 6),
+    };
+    board_of_size(random, size)
+}
+
+/// What the reading says, if the host call says the same and leaves every byte as it should.
+fn check(
+    random: &mut Random,
+    host_call: HostCall,
+    input: &HostInput,
+) -> Result<Result<Option<Reason>, Refusal>, String> {
+    let expected = opened_and_found(&input.record, &input.decisions, input.output);
+    let (number, literals) = match &expected {
+        Err(refusal) => (-i32::from(refusal.number()), Vec::new()),
+        Ok(None) => (0, Vec::new()),
+        Ok(Some(reason)) => {
+            let literals = reason.literals.iter().flat_map(|&l| two_bytes(l));
+            (reason.literals.len() as i32, literals.collect())
+        }
+    };
+    let guard = random.pick(&[0, 0, 1, 64]);
+    let salt = random.below(256);
+    let before: Vec<u8> = (0..input.output + 2 * guard)
+        .map(|place| (37 * place + salt) as u8)
+        .collect();
+    let mut after = before.clone();
+    after[guard..guard + literals.len()].copy_from_slice(&literals);
+
+    let record: Box<[u8]> = input.record.as_slice().into();
+    let decisions: Box<[u8]> = input.decisions.as_slice().into();
+    let mut output: Box<[u8]> = before.into();
+    let returned = host_call(&record, &decisions, &mut output[guard..guard + input.output]);
+    let what = if returned != number {
+        format!("the host call returns {returned} and not {number}")
+    } else if *output != *after {
+        "the host call leaves other bytes in or about the output".to_string()
+    } else if *record != *input.record || *decisions != *input.decisions {
+        "the host call changes the record or the decisions".to_string()
+    } else {
+        return Ok(expected);
+    };
+    Err(format!("{}\n{what}", host_facts(input)))
+}
