@@ -8,6 +8,7 @@ mod host;
 mod lists;
 mod options;
 mod original;
+mod processor;
 mod progress;
 mod quota;
 mod random;

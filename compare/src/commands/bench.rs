@@ -6,6 +6,7 @@ use crate::generate::boards::{usual_board, Decided};
 use crate::generate::puzzles::square;
 use crate::host::{HostCall, HOST_CALL, MISSING};
 use crate::original::{problem, Access, Problem};
+use crate::processor::{processor_time, Whose};
 use crate::progress::Outcome;
 use crate::quota::boards_of_each_kind;
 use crate::random::Random;
@@ -14,7 +15,7 @@ use crate::reading::reasons::most_literals;
 use crate::reading::record::encode;
 use crate::reading::Literal;
 use std::hint::black_box;
-use std::time::{Duration, Instant};
+use std::time::Duration;
 
 const SIDES: [usize; 6] = [6, 8, 10, 14, 20, 32];
 
@@ -32,7 +33,7 @@ struct Prepared {
 
 pub fn run(seed: u64, rounds: usize) -> Outcome {
     println!(
-        "microseconds per call, the best of {rounds} rounds over {} boards of each size",
+        "microseconds of processor time per call, the best of {rounds} rounds over {} boards of each size",
         BOARDS.iter().sum::<usize>()
     );
     println!(
@@ -109,9 +110,9 @@ fn row(side: usize, boards: &mut [Prepared], rounds: usize) -> String {
 /// and the allocator as another kind of call left them.
 fn per_call(boards: &mut [Prepared], mut call: impl FnMut(&mut Prepared)) -> Duration {
     boards.iter_mut().for_each(&mut call);
-    let start = Instant::now();
+    let start = processor_time(Whose::Own);
     boards.iter_mut().for_each(&mut call);
-    start.elapsed() / boards.len() as u32
+    (processor_time(Whose::Own) - start) / boards.len() as u32
 }
 
 fn time_original(boards: &mut [Prepared]) -> Duration {

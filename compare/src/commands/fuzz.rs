@@ -96,7 +96,11 @@ fn check(
     let record: Box<[u8]> = input.record.as_slice().into();
     let decisions: Box<[u8]> = input.decisions.as_slice().into();
     let mut output: Box<[u8]> = before.into();
-    let returned = host_call(&record, &decisions, &mut output[guard..guard + input.output]);
+    let returned = host_call(
+        &record,
+        &decisions,
+        &mut output[guard..guard + input.output],
+    );
     let what = if returned != number {
         format!("the host call returns {returned} and not {number}")
     } else if *output != *after {

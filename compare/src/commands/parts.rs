@@ -8,19 +8,20 @@ use super::groups::two_arrow_cells_in_a_block;
 use crate::generate::boards::Decided;
 use crate::lists::{finds, groups};
 use crate::original::{Access, Original};
+use crate::processor::{processor_time, Whose};
 use crate::progress::Outcome;
 use crate::reading::reasons::Reason;
 use std::fs::{self, File};
 use std::hint::black_box;
 use std::path::{Path, PathBuf};
 use std::process::{self, Command};
-use std::time::{Duration, Instant};
+use std::time::Duration;
 
 /// A board with its reason.
 pub type Known = (Decided, Option<Reason>);
 
 /// Of so many tries the shortest counts.
-const TRIES: usize = 5;
+const TRIES: usize = 3;
 
 struct Part {
     name: &'static str,
@@ -38,7 +39,7 @@ const PARTS: [Part; 3] = [
     Part {
         name: "find",
         program: "find_replay",
-        calls: 200,
+        calls: 100,
         has: |_, _| true,
         list: |rounds, (board, reason)| finds::timed(rounds, board, reason.as_ref()),
         original: find,
@@ -46,7 +47,7 @@ const PARTS: [Part; 3] = [
     Part {
         name: "labels",
         program: "groups_replay",
-        calls: 1_000,
+        calls: 500,
         has: |_, _| true,
         list: |rounds, (board, _)| groups::timed([rounds, 1], board),
         original: labels,
@@ -54,7 +55,7 @@ const PARTS: [Part; 3] = [
     Part {
         name: "kinds",
         program: "groups_replay",
-        calls: 500,
+        calls: 250,
         // the original computes them there only
         has: |board, access| !two_arrow_cells_in_a_block(&board.puzzle, &access.cells()),
         list: |rounds, (board, _)| groups::timed([1, rounds], board),
@@ -64,7 +65,7 @@ const PARTS: [Part; 3] = [
 
 pub fn run(boards_by_side: &[(usize, Vec<Known>)]) -> Outcome {
     println!();
-    println!("parts, in microseconds per call: on each board many calls, the best of {TRIES} tries");
+    println!("parts, the same: on each board many calls, the best of {TRIES} tries");
     println!("find: find_inconsistency; the port's find, on a board that is decided");
     println!("labels: compute_board_info_simple; the port's blocks and potential groups");
     println!("kinds: compute_board_info_detailed, where no block has two arrow cells");
@@ -139,9 +140,9 @@ fn time_of_run(program: &Path, list: &[u8]) -> Result<Duration, String> {
     fs::write(&path, list).map_err(shown)?;
     let mut command = Command::new(program);
     command.stdin(File::open(&path).map_err(shown)?);
-    let start = Instant::now();
+    let start = processor_time(Whose::Children);
     let output = command.output();
-    let time = start.elapsed();
+    let time = processor_time(Whose::Children) - start;
     fs::remove_file(&path).map_err(shown)?;
     let output = output.map_err(|error| format!("{}: {error}", program.display()))?;
     let printed = String::from_utf8_lossy(&output.stdout);
@@ -154,11 +155,11 @@ fn time_of_run(program: &Path, list: &[u8]) -> Result<Duration, String> {
 
 fn time_of(calls: usize, mut call: impl FnMut()) -> Duration {
     call();
-    let start = Instant::now();
+    let start = processor_time(Whose::Own);
     for _ in 0..calls {
         call();
     }
-    start.elapsed()
+    processor_time(Whose::Own) - start
 }
 
 fn find(calls: usize, access: &mut Access) -> Duration {

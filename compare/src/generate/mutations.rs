@@ -45,7 +45,9 @@ fn change(random: &mut Random, bytes: &mut Vec<u8>) {
         _ => {
             // the rest is noise
             bytes.truncate(random.below(bytes.len() + 1));
-            bytes.extend((0..random.below(40)).map(|_| random.byte()).collect::<Vec<_>>());
+            for _ in 0..random.below(40) {
+                bytes.push(random.byte());
+            }
         }
     }
 }

@@ -50,7 +50,10 @@ pub fn finds(seed: u64) -> Result<List, String> {
     let mut list = List::new("finds.list", 500_000, seed, what);
     list.answers_are_the_originals();
     list.line(&format!("{} boards: {}.", boards.len(), tally.line()));
-    let number_finished = boards.iter().filter(|(board, _)| is_finished(board)).count();
+    let number_finished = boards
+        .iter()
+        .filter(|(board, _)| is_finished(board))
+        .count();
     list.line(&format!("{number_finished} boards are finished."));
     for line in FORMAT {
         list.line(line);
