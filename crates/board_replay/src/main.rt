@@ -1,5 +1,6 @@
-// Replays a list of calls from standard input: each is made, and what it answers and leaves is compared with what the list says.
-// Then boards that no list of calls could leave, damaged one field at a time: each must be refused with 6 and come back unchanged.
+// Replays a list of calls from standard input: each is made, by value and on a lent board, and what it answers and leaves is compared
+// with what the list says. Then boards that no list of calls could leave, damaged one field at a time: each must be refused with 6 and
+// come back unchanged.
 //
 // A head of lines ends with an empty line. Then come entries to the end: u16 length, that many bytes of record, u16 number of calls,
 // and the calls: u8 kind, and for 0 (decide) u16 index, u8 value, u8 refusal; for 1 (undo) u8 refusal; for 3 (cells) a state for
@@ -12,6 +13,7 @@ use record::Problem;
 ghost use Prim.Native.Nat.{_+_, _≤_, _<_};
 ghost use mathlib.Core.Path.{_≡_};
 ghost use lib.ListN.{length};
+ghost use Rattle.board.specs.Decide.{decideOf, undoOf};
 
 // What was counted, and whether the list ended with an entry.
 struct Tally {
@@ -97,13 +99,99 @@ fn states_differ(list: &[u8], at: usize, n: usize, cells: &[u8; 1024]) -> bool
     false
 }
 
-// The step that a call with this answer makes.
-fn answered(d: Decided, expected: usize, end: usize) -> Step {
+// Whether two arrays differ.
+fn bytes_differ(a: &[u8; 1024], b: &[u8; 1024]) -> bool {
+    let mut i = 0;
+    while i < 1024 {
+        if a[i] != b[i] {
+            return true;
+        }
+        i += 1;
+    }
+    false
+}
+
+fn words_differ(a: &[u16; 1024], b: &[u16; 1024]) -> bool {
+    let mut i = 0;
+    while i < 1024 {
+        if a[i] != b[i] {
+            return true;
+        }
+        i += 1;
+    }
+    false
+}
+
+fn problems_differ(p: Problem, q: Problem) -> bool {
+    if p.height != q.height || p.width != q.width || p.count != q.count {
+        return true;
+    }
+    let a = p.cells;
+    let b = q.cells;
+    if bytes_differ(&a, &b) {
+        return true;
+    }
+    let a = p.arrows;
+    let b = q.arrows;
+    if words_differ(&a, &b) {
+        return true;
+    }
+    let a = p.ends;
+    let b = q.ends;
+    words_differ(&a, &b)
+}
+
+fn boards_differ(x: Board, y: Board) -> bool {
+    let p = x.problem;
+    let q = y.problem;
+    if problems_differ(p, q) || x.decided != y.decided {
+        return true;
+    }
+    let a = x.cells;
+    let b = y.cells;
+    if bytes_differ(&a, &b) {
+        return true;
+    }
+    let a = x.order;
+    let b = y.order;
+    words_differ(&a, &b)
+}
+
+// `decide` on a lent board: what it answers, with the board that it leaves.
+fn decide_lent(board: Board, index: usize, value: u8) -> Decided
+    ensures { λ r. ⌜ r ≡ decideOf board index value ⌝ }
+{
+    let mut lent = board;
+    let answer = board::decide_in(&mut lent, index, value);
+    Decided {
+        answer,
+        board: lent,
+    }
+}
+
+// `undo` on a lent board: what it answers, with the board that it leaves.
+fn undo_lent(board: Board) -> Decided
+    ensures { λ r. ⌜ r ≡ undoOf board ⌝ }
+{
+    let mut lent = board;
+    let answer = board::undo_in(&mut lent);
+    Decided {
+        answer,
+        board: lent,
+    }
+}
+
+// The step of a call by value that is d, and on a lent board l.
+fn answered(d: Decided, l: Decided, expected: usize, end: usize) -> Step {
     let answer = d.answer;
     let board = d.board;
+    let lent_answer = l.answer;
+    let lent = l.board;
     Step {
         board,
-        differs: number(answer) != expected,
+        differs: number(answer) != expected
+            || number(lent_answer) != expected
+            || boards_differ(lent, board),
         end,
     }
 }
@@ -134,8 +222,11 @@ fn make_call(list: &[u8], at: usize, b: Board) -> Step
                 end: 0,
             };
         }
+        let index = number_at(list, at + 1);
+        let value = list[at + 3];
         return answered(
-            b.decide(number_at(list, at + 1), list[at + 3]),
+            b.decide(index, value),
+            decide_lent(b, index, value),
             wide(list[at + 4]),
             at + 5,
         );
@@ -148,7 +239,7 @@ fn make_call(list: &[u8], at: usize, b: Board) -> Step
                 end: 0,
             };
         }
-        return answered(b.undo(), wide(list[at + 1]), at + 2);
+        return answered(b.undo(), undo_lent(b), wide(list[at + 1]), at + 2);
     }
     let n = area(b.problem.height, b.problem.width);
     if kind != 3 {
@@ -258,64 +349,6 @@ fn replay(list: &[u8]) -> Tally {
 
 // ---- damaged boards
 
-// Whether two arrays differ.
-fn bytes_differ(a: &[u8; 1024], b: &[u8; 1024]) -> bool {
-    let mut i = 0;
-    while i < 1024 {
-        if a[i] != b[i] {
-            return true;
-        }
-        i += 1;
-    }
-    false
-}
-
-fn words_differ(a: &[u16; 1024], b: &[u16; 1024]) -> bool {
-    let mut i = 0;
-    while i < 1024 {
-        if a[i] != b[i] {
-            return true;
-        }
-        i += 1;
-    }
-    false
-}
-
-fn problems_differ(p: Problem, q: Problem) -> bool {
-    if p.height != q.height || p.width != q.width || p.count != q.count {
-        return true;
-    }
-    let a = p.cells;
-    let b = q.cells;
-    if bytes_differ(&a, &b) {
-        return true;
-    }
-    let a = p.arrows;
-    let b = q.arrows;
-    if words_differ(&a, &b) {
-        return true;
-    }
-    let a = p.ends;
-    let b = q.ends;
-    words_differ(&a, &b)
-}
-
-fn boards_differ(x: Board, y: Board) -> bool {
-    let p = x.problem;
-    let q = y.problem;
-    if problems_differ(p, q) || x.decided != y.decided {
-        return true;
-    }
-    let a = x.cells;
-    let b = y.cells;
-    if bytes_differ(&a, &b) {
-        return true;
-    }
-    let a = x.order;
-    let b = y.order;
-    words_differ(&a, &b)
-}
-
 // Whether an answer is not refusal 6 with the board b unchanged.
 fn taken(d: Decided, b: Board) -> bool {
     let answer = d.answer;
@@ -327,6 +360,8 @@ fn taken(d: Decided, b: Board) -> bool {
 fn accepted(b: Board) -> bool {
     taken(b.decide(1, 1), b)
         || taken(b.undo(), b)
+        || taken(decide_lent(b, 1, 1), b)
+        || taken(undo_lent(b), b)
         || taken(b.decide_all(b""), b)
         || taken(b.decide_all(b"\x80\x01"), b)
 }
