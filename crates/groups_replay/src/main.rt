@@ -367,9 +367,7 @@ fn kinds_in_rounds(
 {
     let mut i = 0;
     while i < rounds {
-        kinds::compute_board_info_detailed(
-            cells, blocks, on_arrow, h, w, arrowed, kinds, owners,
-        );
+        kinds::compute_board_info_detailed(cells, blocks, on_arrow, h, w, arrowed, kinds, owners);
         i += 1;
     }
 }
