@@ -13,6 +13,7 @@ use Rattle.grid.specs.Side.{sized}
 use Rattle.record.specs.Record.{Outcome, ok, refused}
 use Rattle.board.specs.Board.{Literal}
 use Rattle.kinds.specs.Kinds.{word}
+use Rattle.kinds.specs.Inside.{puzzleWith}
 use Rattle.reasons.specs.Reasons.{Found, findReason}
 use Rattle.reasons.specs.Arrays.{linesOf, ArrowArrays}
 use Rattle.reasons.specs.Pairs.{FoundAs}
@@ -46,9 +47,9 @@ found-literals (some r) {before} {after} {k} x =
 
 -- and they are no more than an output has to have room for
 pub few-literals : (h w : ℕ) {arrows ends : List ℕ} {number total : ℕ} (cells : List ℕ) {k : ℕ} {buffer : List ℕ} → ArrowArrays (h * w) arrows ends number total
-    → Literals (findReason (sized h w) (linesOf arrows ends number) cells) k buffer → k ≤ 3 * (h * w) + 1
+    → Literals (findReason (puzzleWith (sized h w) (linesOf arrows ends number)) cells) k buffer → k ≤ 3 * (h * w) + 1
 unfolding size
-few-literals h w {arrows} {ends} {number} cells d l = rw (l .many) (reason-length (sized h w) (linesOf arrows ends number) cells (d .few) (l .reason) (l .is))
+few-literals h w {arrows} {ends} {number} cells d l = rw (l .many) (reason-length (puzzleWith (sized h w) (linesOf arrows ends number)) cells (d .few) (l .reason) (l .is))
 
 -- none, as the host has it
 pub none-told : {f : Found} (output : List ℕ) → f ≡ none → (pos 0 ≡ returned (ok f)) × (output ≡ outputAfter (ok f) output)

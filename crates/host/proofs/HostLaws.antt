@@ -28,9 +28,11 @@ use Rattle.board.specs.declared.Opened.{Opened}
 use Rattle.board.proofs.ProblemForm.{size-most}
 use Rattle.board.proofs.Standing.{Standing, none, after-standing}
 use Rattle.board.proofs.CallLaws.{standing-well, decide-number, decide-left}
+use Rattle.kinds.specs.Inside.{puzzleWith}
 use Rattle.reasons.specs.Reasons.{findReason, findOn}
 use Rattle.reasons.specs.Arrays.{linesOf}
 use Rattle.reasons.specs.Find.{cellsOn, reasonOn, enough}
+use Rattle.reasons.proofs.BoardArrays.{codes-aside}
 use Rattle.reasons.proofs.Demand3.{reason-on}
 use Rattle.host.specs.Host.{acceptOr, decideBytes, hostFinds, Opens}
 
@@ -85,9 +87,9 @@ bytes-standing g (a ∷ b ∷ rest) {ds} {es} s e =
 
 -- the reason on a board, by its arrays
 pub reason-held : (q : Problem) (cells order : List ℕ) (decided : ℕ)
-    → reasonOn (held q cells order decided) ≡ findReason (sized (q .height) (q .width)) (linesOf (q .arrows) (q .ends) (q .count)) (take (q .height * q .width) cells)
+    → reasonOn (held q cells order decided) ≡ findReason (puzzleWith (sized (q .height) (q .width)) (linesOf (q .arrows) (q .ends) (q .count))) (take (q .height * q .width) cells)
 unfolding reasonOn cellsOn gridOf puzzleOf size
-reason-held q cells order decided = refl
+reason-held q cells order decided = sym (codes-aside (puzzleOf q) (take (q .height * q .width) cells))
 
 -- ---- the call, step by step
 

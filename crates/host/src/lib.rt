@@ -10,6 +10,7 @@ ghost use lib.ListN.{length, take, drop};
 ghost use Rattle.grid.specs.Lists.{last};
 ghost use Rattle.grid.specs.Side.{sized};
 ghost use Rattle.record.specs.Record.{ok};
+ghost use Rattle.kinds.specs.Inside.{puzzleWith};
 ghost use Rattle.reasons.specs.Reasons.{findReason};
 ghost use Rattle.reasons.specs.Arrays.{linesOf, ArrowArrays};
 ghost use Rattle.host.specs.Host.{bytesOf, hostFinds, returned, outputAfter, Opens};
@@ -54,8 +55,8 @@ fn find_on<'a>(
     output: &mut [u8],
 ) -> i32
     requires { ⌜ (h ≤ 32) × (w ≤ 32) × (2 * (3 * (h * w) + 1) ≤ length (now output)) × ArrowArrays (h * w) (now arrows) (now ends) number (last 0 (take number (now ends))) ⌝ }
-    ensures { λ r. ⌜ (r ≡ returned (ok (findReason (sized h w) (linesOf (now (arrows .entry)) (now (ends .entry)) number) (take (h * w) (now (cells .entry))))))
-        × (now (output .exit) ≡ outputAfter (ok (findReason (sized h w) (linesOf (now (arrows .entry)) (now (ends .entry)) number) (take (h * w) (now (cells .entry))))) (now (output .entry))) ⌝ }
+    ensures { λ r. ⌜ (r ≡ returned (ok (findReason (puzzleWith (sized h w) (linesOf (now (arrows .entry)) (now (ends .entry)) number)) (take (h * w) (now (cells .entry))))))
+        × (now (output .exit) ≡ outputAfter (ok (findReason (puzzleWith (sized h w) (linesOf (now (arrows .entry)) (now (ends .entry)) number)) (take (h * w) (now (cells .entry))))) (now (output .entry))) ⌝ }
 {
     let mut literals = no_literals();
     let found = reasons::find_inconsistency(cells, arrows, ends, number, h, w, &mut literals);

@@ -146,7 +146,7 @@ find-short b buffer h l =
     (rw (h, t) refl, rw (h, t) refl)
 
 -- a reason goes by the grid and the arrows alone
-codes-aside : (p : Puzzle) (cells : List ℕ) → findReason (puzzleWith (p .grid) (p .arrows)) cells ≡ findReason p cells
+pub codes-aside : (p : Puzzle) (cells : List ℕ) → findReason (puzzleWith (p .grid) (p .arrows)) cells ≡ findReason p cells
 unfolding findReason reason1 reason1At reason2 view viewWith kindsOf kindAt blocksBeside arrowBlock
 codes-aside p cells = refl
 

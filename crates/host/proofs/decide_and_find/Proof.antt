@@ -16,6 +16,7 @@ use Rattle.board.specs.Form.{wellFormed}
 use Rattle.board.specs.Decide.{decideFrom}
 use Rattle.board.specs.Inside.{held, allPlaced}
 use Rattle.board.specs.declared.Board.{Board}
+use Rattle.kinds.specs.Inside.{puzzleWith}
 use Rattle.reasons.specs.Reasons.{Found, findReason}
 use Rattle.reasons.specs.Arrays.{linesOf}
 use Rattle.reasons.proofs.BoardArrays.{board-sizes, board-arrays}
@@ -54,7 +55,7 @@ placed c = c .place-all .ensures (start c .args .t1 .problem) refl (well (start 
 abbrev reason : tie.After-place-all → Found
 reason c =
     let q = start c .args .t1 .problem in
-    findReason (sized (q .height) (q .width)) (linesOf (q .arrows) (q .ends) (q .count)) (take (q .height * q .width) (c .place-all .last .0))
+    findReason (puzzleWith (sized (q .height) (q .width)) (linesOf (q .arrows) (q .ends) (q .count))) (take (q .height * q .width) (c .place-all .last .0))
 
 -- it is what the call finds where all decisions are accepted
 finds : (c : tie.After-enum-told) (s : List ℕ) → Opens s (start (c .before .before) .args .t1)

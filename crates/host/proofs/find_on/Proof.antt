@@ -8,6 +8,7 @@ use mir.Syntax.{w32}
 use mir.ValLaws.{toZ-pos}
 use Rattle.grid.specs.Side.{sized}
 use Rattle.grid.proofs.SideLaws.{area}
+use Rattle.kinds.specs.Inside.{puzzleWith}
 use Rattle.reasons.specs.Reasons.{Found, findReason}
 use Rattle.reasons.specs.Arrays.{linesOf}
 use Rattle.reasons.proofs.Findings.{nothing-found, not-refused}
@@ -18,7 +19,7 @@ use Rattle.host.proofs.find_on.Tie as tie
 
 -- the first reason on the arrays
 abbrev reason : tie.Start → Found
-reason s = findReason (sized (s .args .h) (s .args .w)) (linesOf (s .args .arrows .now) (s .args .ends .now) (s .args .number)) (take (s .args .h * s .args .w) (s .args .cells .now))
+reason s = findReason (puzzleWith (sized (s .args .h) (s .args .w)) (linesOf (s .args .arrows .now) (s .args .ends .now) (s .args .number))) (take (s .args .h * s .args .w) (s .args .cells .now))
 
 -- the cells are few
 cells-few : (s : tie.Start) → s .args .h * s .args .w ≤ 1024
