@@ -30,10 +30,10 @@ use Rattle.kinds.proofs.Decide.{all-decided, reach-decided}
 -- ---- kinds by tests
 
 -- kindAt, with its tests as arguments
-abbrev kindOf : Bool → Bool → Bool → ℕ → List ℕ → Kind
+abbrev pub kindOf : Bool → Bool → Bool → ℕ → List ℕ → Kind
 kindOf e s a m l = cond e vacant (cond s (cond a (inBlock m) floating) (kindBeside l))
 
-in-of : (e s a : Bool) (m : ℕ) (l : List ℕ) (f : ℕ) → So (isIn f (kindOf e s a m l)) → So s × So a × (m ≡ f)
+pub in-of : (e s a : Bool) (m : ℕ) (l : List ℕ) (f : ℕ) → So (isIn f (kindOf e s a m l)) → So s × So a × (m ≡ f)
 unfolding isIn kindBeside
 in-of true s a m l f h = absurd (false≢true h)
 in-of false true true m l f h = (refl, refl, eqb-true m f h)
@@ -42,7 +42,7 @@ in-of false false a m [] f h = absurd (false≢true h)
 in-of false false a m (x ∷ []) f h = absurd (false≢true h)
 in-of false false a m (x ∷ y ∷ l) f h = absurd (false≢true h)
 
-beside-of : (e s a : Bool) (m : ℕ) (l : List ℕ) (f : ℕ) → So (isBeside f (kindOf e s a m l)) → (e ≡ false) × (s ≡ false) × (l ≡ f ∷ [])
+pub beside-of : (e s a : Bool) (m : ℕ) (l : List ℕ) (f : ℕ) → So (isBeside f (kindOf e s a m l)) → (e ≡ false) × (s ≡ false) × (l ≡ f ∷ [])
 unfolding isBeside kindBeside
 beside-of true s a m l f h = absurd (false≢true h)
 beside-of false true true m l f h = absurd (false≢true h)

@@ -14,3 +14,5 @@ pub mod Ordering
 pub mod Fences
 pub mod FenceList
 pub mod ChainLaws
+pub mod NearLaws
+pub mod NearReach

@@ -96,7 +96,7 @@ module _ (p : Puzzle) (small : size (p .grid) ≤ 1024) (cells K O : List ℕ) (
   float-low i l o = omega (arith, label-least g (has isFloating (v .kinds)) i i l l (here o))
 
   module _ (f : ℕ) where
-    near-is : (m : ℕ) → nearAmong K O g f (size g) m ≡ floatNear v f m
+    pub near-is : (m : ℕ) → nearAmong K O g f (size g) m ≡ floatNear v f m
     unfolding nearAmong nearAt floatNear has cellsOf view viewWith
     near-is m = any-same _ _ (upto (size g)) (λ i x. at i (upto-mem (size g) x))
       where
@@ -108,7 +108,7 @@ module _ (p : Puzzle) (small : size (p .grid) ≤ 1024) (cells K O : List ℕ) (
         at : (i : ℕ) → i < size g → (eqb (getD K i 0) 2 && eqb (getD O i 0) f && any (λ j. eqb (getD K j 0) 4 && eqb (getD O j 0) m) (neighbours g i)) ≡ (isBeside f (kind i) && any (λ j. isFloating (kind j) && eqb (float j) m) (neighbours g i))
         at i l = rw (inner i l, code-get i l, owner-get i l, beside-by (kind i) (float i) f)
 
-    near-out : (m : ℕ) → size g ≤ m → floatNear v f m ≡ false
+    pub near-out : (m : ℕ) → size g ≤ m → floatNear v f m ≡ false
     unfolding floatNear has cellsOf view viewWith
     near-out m h = so-false (floatNear v f m) (λ s.
         let r = any-mem _ (upto (size g)) s in
@@ -120,10 +120,10 @@ module _ (p : Puzzle) (small : size (p .grid) ≤ 1024) (cells K O : List ℕ) (
 
     -- near: the marks of the floating groups in the reach
     module _ (near : List ℕ) (M : Marks near (nearAmong K O g f (size g))) where
-      groups-are : near ≡ maskOf g (floatNear v f)
+      pub groups-are : near ≡ maskOf g (floatNear v f)
       groups-are = marks-mask g (floatNear v f) small near-out (marks-same _ (floatNear v f) (λ m _. near-is m) M)
 
-      reaches-is : (i : ℕ) → i < size g → reachesAt K O near f i ≡ inReach v f i
+      pub reaches-is : (i : ℕ) → i < size g → reachesAt K O near f i ≡ inReach v f i
       unfolding reachesAt inReach has
       reaches-is i l = rw (code-get i l, owner-get i l)
           (reaches-by (kind i) (float i) f near (floatNear v f (float i)) (λ o. omega (arith, float-low i l o))

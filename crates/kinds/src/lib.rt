@@ -1,4 +1,6 @@
 // The kinds of a board's cells, the reach of an arrow block and its fence.
+pub mod near;
+
 ghost use mathlib.Core.Path.{_≡_};
 ghost use Prim.Native.Nat.{ℕ, _+_, _*_, _≤_, _<_};
 ghost use mathlib.Core.Bool.{Bool, _&&_, _||_};
