@@ -322,12 +322,17 @@ fn in_line(arrows: &[u16; 1024], total: usize) -> bool
     true
 }
 
-// Marks the cells of all arrows; whether the first total places hold indices of cells.
-fn mark_arrows(arrows: &[u16; 1024], total: usize, marks: &mut [u8; 1024]) -> bool
+// Marks the names of the arrow blocks; whether the first total places of arrows hold indices of cells.
+fn mark_arrows(
+    arrows: &[u16; 1024],
+    total: usize,
+    blocks: &[u16; 1024],
+    marks: &mut [u8; 1024],
+) -> bool
     requires { ⌜ length (now arrows) ≡ 1024 ⌝ }
 {
     if in_line(arrows, total) {
-        groups::mark_arrow_cells(arrows, total, marks);
+        kinds::mark_arrow_blocks(arrows, total, blocks, marks);
         return true;
     }
     false
@@ -356,10 +361,9 @@ fn kinds_in_rounds(
     rounds: usize,
     cells: &[u8; 1024],
     blocks: &[u16; 1024],
-    on_arrow: &[u8; 1024],
+    arrowed: &[u8; 1024],
     h: usize,
     w: usize,
-    arrowed: &mut [u8; 1024],
     kinds: &mut [u8; 1024],
     owners: &mut [u16; 1024],
 )
@@ -367,7 +371,7 @@ fn kinds_in_rounds(
 {
     let mut i = 0;
     while i < rounds {
-        kinds::compute_board_info_detailed(cells, blocks, on_arrow, h, w, arrowed, kinds, owners);
+        kinds::compute_board_info_detailed(cells, blocks, arrowed, h, w, kinds, owners);
         i += 1;
     }
 }
@@ -409,38 +413,35 @@ fn kinds_differ(
     names_differ(list, at + 3 * n, n, owners)
 }
 
-// Computes blocks, kinds and owners, and compares them and the arrow blocks with those that the list has at at.
+// Computes kinds and owners, and compares them, the blocks and the arrow blocks with those that the list has at at.
 fn run_kinds(
     list: &[u8],
     rounds: Rounds,
     at: usize,
     n: usize,
     cells: &[u8; 1024],
-    on_arrow: &[u8; 1024],
+    blocks: &[u16; 1024],
+    arrowed: &[u8; 1024],
     h: usize,
     w: usize,
 ) -> Run
     requires { ⌜ (at + 5 * n + 2 ≤ length (now list)) × (n ≤ 1024) × (h ≤ 32) × (w ≤ 32) ⌝ }
     ensures { λ r. ⌜ (r .blocks ≤ 1024) × (r .differ ≤ 1026) ⌝ }
 {
-    let mut blocks = no_names();
-    label_in_rounds(rounds.labels, cells, false, h, w, &mut blocks);
-    let mut arrowed = no_marks();
     let mut kinds = no_marks();
     let mut owners = no_names();
     kinds_in_rounds(
         rounds.kinds,
         cells,
-        &blocks,
-        on_arrow,
+        blocks,
+        arrowed,
         h,
         w,
-        &mut arrowed,
         &mut kinds,
         &mut owners,
     );
-    let differs = kinds_differ(list, at, n, &blocks, &kinds, &owners);
-    let found = run_blocks(list, at + 5 * n, cells, &kinds, &owners, &arrowed, h, w);
+    let differs = kinds_differ(list, at, n, blocks, &kinds, &owners);
+    let found = run_blocks(list, at + 5 * n, cells, &kinds, &owners, arrowed, h, w);
     Run {
         blocks: found.blocks,
         differ: found.differ + one_if(differs),
@@ -457,6 +458,30 @@ fn broken() -> Run
         differ: 1,
         end: 0,
     }
+}
+
+// Computes blocks and arrow blocks, and compares them and the kinds with those that the list has at at.
+fn run_arrows(
+    list: &[u8],
+    rounds: Rounds,
+    at: usize,
+    n: usize,
+    cells: &[u8; 1024],
+    arrows: &[u16; 1024],
+    total: usize,
+    h: usize,
+    w: usize,
+) -> Run
+    requires { ⌜ (at + 5 * n + 2 ≤ length (now list)) × (n ≤ 1024) × (h ≤ 32) × (w ≤ 32) × (length (now arrows) ≡ 1024) ⌝ }
+    ensures { λ r. ⌜ (r .blocks ≤ 1024) × (r .differ ≤ 1026) ⌝ }
+{
+    let mut blocks = no_names();
+    label_in_rounds(rounds.labels, cells, false, h, w, &mut blocks);
+    let mut arrowed = no_marks();
+    if !mark_arrows(arrows, total, &blocks, &mut arrowed) {
+        return broken();
+    }
+    run_kinds(list, rounds, at, n, cells, &blocks, &arrowed, h, w)
 }
 
 // Computes the groups and kinds of a board, and compares them with those that the list has at at.
@@ -478,13 +503,10 @@ fn run_board(list: &[u8], rounds: Rounds, at: usize, b: Board) -> Run
     }
     let arrows = b.problem.arrows;
     let ends = b.problem.ends;
-    let mut on_arrow = no_marks();
-    if !mark_arrows(&arrows, arrow_total(&ends, b.problem.count), &mut on_arrow) {
-        return broken();
-    }
+    let total = arrow_total(&ends, b.problem.count);
     let cells = b.cells;
     let differs = potential_groups_differ(list, rounds, at, n, &cells, h, w);
-    let found = run_kinds(list, rounds, at + 2 * n, n, &cells, &on_arrow, h, w);
+    let found = run_arrows(list, rounds, at + 2 * n, n, &cells, &arrows, total, h, w);
     Run {
         blocks: found.blocks,
         differ: found.differ + one_if(differs),

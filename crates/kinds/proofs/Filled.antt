@@ -8,17 +8,17 @@ use native.Mathlib.Omega.{arith}
 use mathlib.Core.Bool.{Bool, true, false, cond, _&&_, _||_}
 use mathlib.Core.Path.{_≡_, refl, sym, ap, _∙_, subst}
 use mathlib.Core.List.{List, [], _∷_, _++_, map}
-use lib.Dec.{eqb}
+use lib.Dec.{eqb, ltb}
 use lib.ListN.{length, getD, set, replicate, length-append, length-set, length-replicate, getD-replicate}
 use lib.Seq.{ext-getD, getD-set-same, getD-set-other, set-getD}
-use borrow.Author.Tests.{eq-eqb, ne-eqb}
+use borrow.Author.Tests.{eq-eqb, ne-eqb, lt-ltb, le-ltb}
 use Rattle.grid.specs.Lists.{range, upto, filter, any, arrayOf}
 use Rattle.grid.specs.Grid.{Grid, size, cellsOf, neighbours}
 use Rattle.grid.proofs.ListLaws.{length-range, filter-length, length-map-range, getD-map-range}
 use Rattle.grid.proofs.ArrayLaws.{array-length, array-in, array-out, array-more}
 use Rattle.groups.specs.Groups.{maskOf}
 use Rattle.kinds.specs.Kinds.{kindCode, ownerBy}
-use Rattle.kinds.specs.Inside.{Marks, arrowAmong, kindIn, codesIn, ownersIn, nearAt, nearAmong, reaches, reachesAt, Counted, miss, hit, Reached}
+use Rattle.kinds.specs.Inside.{Marks, nameAt, nameAmong, nameTwice, Met, kindIn, codesIn, ownersIn, nearAt, nearAmong, reaches, reachesAt, Counted, miss, hit, Reached}
 
 -- ---- one more
 
@@ -174,15 +174,48 @@ module _ {M : List ℕ} (t : ℕ → Bool) (has tag f : ℕ) (k : Marks M t) whe
 
 -- ---- the marks of arrow blocks
 
-pub among-none : {M : List ℕ} (blocks ons : List ℕ) → Marks M (λ m. false) → Marks M (arrowAmong blocks ons 0)
-unfolding arrowAmong upto range any
-among-none blocks ons k = k
+-- a cell in no group, one in a group
+pub met-none : {M : List ℕ} (f : ℕ) → 1024 ≤ f → (t : ℕ → Bool) → Marks M t → Met f t M false
+met-none f h t k = record {
+  marked = marks-same t (λ m. t m || eqb f m) (λ m l. rw (ne-eqb f m (λ e. omega (arith, e))) (sym (or-false (t m)))) k;
+  before = rw (le-ltb f 1024 h) refl;
+}
 
-pub among-more : {M : List ℕ} (blocks ons : List ℕ) (i : ℕ) → Marks M (λ m. arrowAmong blocks ons i m || (eqb (getD ons i 0) 1 && eqb (getD blocks i 0) m)) → Marks M (arrowAmong blocks ons (i + 1))
-unfolding arrowAmong
-among-more blocks ons i k =
-    marks-same (λ m. arrowAmong blocks ons i m || (eqb (getD ons i 0) 1 && eqb (getD blocks i 0) m)) (arrowAmong blocks ons (i + 1))
-    (λ m l. sym (any-more (λ j. eqb (getD ons j 0) 1 && eqb (getD blocks j 0) m) i)) k
+pub met-some : {M : List ℕ} (f : ℕ) (met : Bool) → f < 1024 → met ≡ eqb (getD M f 0) 1 → (t : ℕ → Bool) → Marks M t → Met f t (set M f 1) met
+met-some f met h e t k = record {
+  marked = marks-set t f h k;
+  before = e ∙ ap (λ (x : ℕ). eqb x 1) (k .at f h) ∙ mark-test (t f) ∙ rw (lt-ltb f 1024 h) refl;
+}
+
+module _ (names line : List ℕ) where
+  pub among-none : {M : List ℕ} → Marks M (λ m. false) → Marks M (nameAmong names line 0)
+  unfolding nameAmong upto range any
+  among-none k = k
+
+  pub among-more : {M : List ℕ} (k : ℕ) → Marks M (λ m. nameAmong names line k m || eqb (nameAt names line k) m) → Marks M (nameAmong names line (k + 1))
+  unfolding nameAmong
+  among-more k q =
+      marks-same (λ m. nameAmong names line k m || eqb (nameAt names line k) m) (nameAmong names line (k + 1))
+      (λ m l. sym (any-more (λ j. eqb (nameAt names line j) m) k)) q
+
+  pub twice-none : false ≡ nameTwice names line 0
+  unfolding nameTwice upto range any
+  twice-none = refl
+
+  pub twice-more : (k : ℕ) → nameTwice names line (k + 1) ≡ (nameTwice names line k || (ltb (nameAt names line k) 1024 && nameAmong names line k (nameAt names line k)))
+  unfolding nameTwice
+  twice-more k = any-more (λ j. ltb (nameAt names line j) 1024 && nameAmong names line j (nameAt names line j)) k
+
+  -- the cell was met before, or was not
+  pub twice-met : (k : ℕ) {met : Bool} → met ≡ (ltb (nameAt names line k) 1024 && nameAmong names line k (nameAt names line k)) → met ≡ true → true ≡ nameTwice names line (k + 1)
+  twice-met k e y = sym (rw (twice-more k, ← e, y) (or-true (nameTwice names line k)))
+    where
+      or-true : (b : Bool) → (b || true) ≡ true
+      or-true true = refl
+      or-true false = refl
+
+  pub twice-new : (k : ℕ) {met twice : Bool} → met ≡ (ltb (nameAt names line k) 1024 && nameAmong names line k (nameAt names line k)) → met ≡ false → twice ≡ nameTwice names line k → twice ≡ nameTwice names line (k + 1)
+  twice-new k e n q = q ∙ sym (rw (twice-more k, ← e, n) (or-false (nameTwice names line k)))
 
 -- ---- the kinds of the cells passed
 

@@ -9,6 +9,7 @@ pub mod Insertion
 pub mod Traversal
 pub mod Owners
 pub mod Views
+pub mod ArrowMarks
 pub mod Reaches
 pub mod Ordering
 pub mod Fences

@@ -11,21 +11,20 @@ use mathlib.Core.List.{List, [], _∷_, map, List·Memᴰ, List·Memᴰ·head, L
 use lib.Dec.{eqb, ltb}
 use lib.ListN.{length, getD, take, List·getD-eq-default}
 use lib.Seq.{getD-take}
-use borrow.Author.Tests.{eqb-true, ne-eqb, lt-ltb}
+use borrow.Author.Tests.{lt-ltb}
 use Rattle.grid.specs.Lists.{upto, any, filter, once}
 use Rattle.grid.specs.Grid.{Grid, size, cellsOf, neighbours}
 use Rattle.grid.specs.Side.{sized}
 use Rattle.grid.specs.Link.{here}
-use Rattle.grid.proofs.ListLaws.{split, so-false, and-true, any-mem, upto-mem, length-map-range, getD-map-range}
+use Rattle.grid.proofs.ListLaws.{split, and-true, length-map-range, getD-map-range}
 use Rattle.grid.proofs.GridLaws.{beside as side, on-grid}
 use Rattle.record.specs.Record.{Puzzle}
 use Rattle.board.specs.Board.{empty, square}
-use Rattle.groups.specs.Groups.{labels, labelAt, labelArray, maskOf}
-use Rattle.groups.specs.Arrows.{onArrow}
+use Rattle.groups.specs.Groups.{labels, labelAt, labelArray}
 use Rattle.groups.proofs.GroupLaws.{label-least}
 use Rattle.kinds.specs.Kinds.{Kind, vacant, barrier, floating, inBlock, beside, isFloating, kindBeside, arrowBlock, blocksBeside, kindAt, kindsOf, has, view, viewWith, kindCode, ownerBy, kindArray, ownerArray}
-use Rattle.kinds.specs.Inside.{puzzleWith, Marks, arrowAmong, arrowAt, arrowsAt, kindIn, codesIn, ownersIn, floats, Given, Detailed, Unnamed, Sofar}
-use Rattle.kinds.proofs.Filled.{marks-same, marks-mask, mask-at, mark-test, filled-at, filled-past, filled-is, filled-length, filled-same, owners-length}
+use Rattle.kinds.specs.Inside.{puzzleWith, arrowAt, arrowsAt, kindIn, codesIn, ownersIn, floats, Given, Held, Unnamed, Sofar}
+use Rattle.kinds.proofs.Filled.{mask-at, mark-test, filled-at, filled-past, filled-is, filled-length, filled-same, owners-length}
 use Rattle.kinds.proofs.Traversal.{sofar-labels}
 
 -- two tests that agree on a list's members
@@ -34,12 +33,9 @@ unfolding any
 any-same t u [] h = refl
 any-same t u (x ∷ l) h = rw (h x (List·Memᴰ·head refl), any-same t u l (λ y m. h y (List·Memᴰ·tail m)))
 
-module _ (p : Puzzle) (small : size (p .grid) ≤ 1024) (cells blocks ons : List ℕ) (given : Given p cells blocks ons) where
+module _ (p : Puzzle) (small : size (p .grid) ≤ 1024) (cells blocks A : List ℕ) (given : Given p cells blocks A) where
   abbrev g : Grid
   g = p .grid
-
-  abbrev arrows : List (List ℕ)
-  arrows = p .arrows
 
   -- the name of the block of a square
   abbrev label : ℕ → ℕ
@@ -58,81 +54,44 @@ module _ (p : Puzzle) (small : size (p .grid) ≤ 1024) (cells blocks ons : List
   unfolding labelArray labelAt cellsOf
   block-at i l = ap (λ (b : List ℕ). getD b i 0) (given .named) ∙ filled-at 1024 (labelAt g (square cells)) (size g) i l
 
-  on-at : (i : ℕ) → i < size g → eqb (getD ons i 0) 1 ≡ onArrow arrows i
-  on-at i l = ap (λ (m : List ℕ). eqb (getD m i 0) 1) (given .marked) ∙ ap (λ (x : ℕ). eqb x 1) (mask-at g (onArrow arrows) i l) ∙ mark-test (onArrow arrows i)
-
-  -- ---- arrow blocks
-
-  among-is : (f : ℕ) → f < 1024 → arrowAmong blocks ons (size g) f ≡ arrowed f
-  unfolding arrowAmong arrowBlock cellsOf
-  among-is f h = any-same (λ i. eqb (getD ons i 0) 1 && eqb (getD blocks i 0) f) (λ i. square cells i && eqb (label i) f && onArrow arrows i) (upto (size g)) (λ i m. at i (upto-mem (size g) m))
-    where
-      by : (on s : Bool) (x : ℕ) → (on && eqb (cond s x 1024) f) ≡ (s && eqb x f && on)
-      by true true x = go (eqb x f)
-        where
-          go : (b : Bool) → b ≡ (b && true)
-          go true = refl
-          go false = refl
-      by true false x = ne-eqb 1024 f (λ e. omega (arith, e))
-      by false true x = go (eqb x f)
-        where
-          go : (b : Bool) → false ≡ (b && false)
-          go true = refl
-          go false = refl
-      by false false x = refl
-
-      at : (i : ℕ) → i < size g → (eqb (getD ons i 0) 1 && eqb (getD blocks i 0) f) ≡ (square cells i && eqb (label i) f && onArrow arrows i)
-      at i l = rw (on-at i l, block-at i l) (by (onArrow arrows i) (square cells i) (label i))
-
-  arrowed-out : (m : ℕ) → size g ≤ m → arrowed m ≡ false
-  unfolding arrowBlock cellsOf
-  arrowed-out m h = so-false (arrowed m) (λ s.
-      let r = any-mem _ (upto (size g)) s in
-      let q = and-true (square cells (r .0) && eqb (label (r .0)) m) _ (r .2) in
-      let q′ = and-true (square cells (r .0)) _ (q .0) in
-      omega (arith, label-below (r .0) (upto-mem (size g) (r .1)) (q′ .0), eqb-true (label (r .0)) m (q′ .1)))
-
-  arrow-mask : (A : List ℕ) → Marks A (arrowAmong blocks ons (size g)) → A ≡ maskOf g arrowed
-  arrow-mask A k = marks-mask g arrowed small arrowed-out (marks-same (arrowAmong blocks ons (size g)) arrowed among-is k)
-
   -- ---- kinds, with the marks of arrow blocks in A
-  module _ (A : List ℕ) (k : Marks A (arrowAmong blocks ons (size g))) where
-    mark-at : (f : ℕ) → f < 1024 → eqb (getD A f 0) 1 ≡ arrowed f
-    mark-at f h = ap (λ (x : ℕ). eqb x 1) (k .at f h) ∙ mark-test (arrowAmong blocks ons (size g) f) ∙ among-is f h
 
-    -- the cell is a square of an arrow block
-    abbrev inArrow : ℕ → Bool
-    inArrow j = square cells j && arrowed (label j)
+  mark-at : (f : ℕ) → f < size g → eqb (getD A f 0) 1 ≡ arrowed f
+  mark-at f h = ap (λ (m : List ℕ). eqb (getD m f 0) 1) (given .marked) ∙ ap (λ (x : ℕ). eqb x 1) (mask-at g arrowed f h) ∙ mark-test (arrowed f)
 
-    arrow-at : (j : ℕ) → j < size g → arrowAt blocks A j ≡ cond (inArrow j) (label j) 1024
-    unfolding arrowAt
-    arrow-at j l = by (square cells j) refl
-      where
-        by : (s : Bool) → square cells j ≡ s → cond (ltb (getD blocks j 0) 1024 && eqb (getD A (getD blocks j 0) 0) 1) (getD blocks j 0) 1024 ≡ cond (s && arrowed (label j)) (label j) 1024
-        by true e =
-            let b : getD blocks j 0 ≡ label j = block-at j l ∙ rw e in
-            let low : label j < 1024 = omega (arith, label-below j l e) in
-            rw (b, lt-ltb (label j) 1024 low, mark-at (label j) low)
-        by false e =
-            let b : getD blocks j 0 ≡ 1024 = block-at j l ∙ rw e in
-            rw b
+  -- the cell is a square of an arrow block
+  abbrev inArrow : ℕ → Bool
+  inArrow j = square cells j && arrowed (label j)
 
-    in-arrow-low : (j : ℕ) → j < size g → ltb (arrowAt blocks A j) 1024 ≡ inArrow j
-    in-arrow-low j l = rw (arrow-at j l) (by (inArrow j) refl)
-      where
-        by : (b : Bool) → inArrow j ≡ b → ltb (cond b (label j) 1024) 1024 ≡ b
-        by true e = lt-ltb (label j) 1024 (omega (arith, label-below j l (and-true (square cells j) (arrowed (label j)) e .0)))
-        by false e = refl
+  arrow-at : (j : ℕ) → j < size g → arrowAt blocks A j ≡ cond (inArrow j) (label j) 1024
+  unfolding arrowAt
+  arrow-at j l = by (square cells j) refl
+    where
+      by : (s : Bool) → square cells j ≡ s → cond (ltb (getD blocks j 0) 1024 && eqb (getD A (getD blocks j 0) 0) 1) (getD blocks j 0) 1024 ≡ cond (s && arrowed (label j)) (label j) 1024
+      by true e =
+          let b : getD blocks j 0 ≡ label j = block-at j l ∙ rw e in
+          let low : label j < 1024 = omega (arith, label-below j l e) in
+          rw (b, lt-ltb (label j) 1024 low, mark-at (label j) (label-below j l e))
+      by false e =
+          let b : getD blocks j 0 ≡ 1024 = block-at j l ∙ rw e in
+          rw b
 
-    arrows-at : (l : List ℕ) → ((x : ℕ) → List·Memᴰ x l → x < size g) → arrowsAt blocks A l ≡ map label (filter inArrow l)
-    unfolding arrowsAt filter
-    arrows-at [] h = refl
-    arrows-at (x ∷ l) h = rw (in-arrow-low x (h x (List·Memᴰ·head refl))) (by (inArrow x) refl (arrows-at l (λ y m. h y (List·Memᴰ·tail m))))
-      where
-        by : (b : Bool) → inArrow x ≡ b → filter (λ f. ltb f 1024) (map (arrowAt blocks A) l) ≡ map label (filter inArrow l)
-            → cond b (arrowAt blocks A x ∷ filter (λ f. ltb f 1024) (map (arrowAt blocks A) l)) (filter (λ f. ltb f 1024) (map (arrowAt blocks A) l)) ≡ map label (cond b (x ∷ filter inArrow l) (filter inArrow l))
-        by true e q = rw (arrow-at x (h x (List·Memᴰ·head refl)), e, q)
-        by false e q = q
+  in-arrow-low : (j : ℕ) → j < size g → ltb (arrowAt blocks A j) 1024 ≡ inArrow j
+  in-arrow-low j l = rw (arrow-at j l) (by (inArrow j) refl)
+    where
+      by : (b : Bool) → inArrow j ≡ b → ltb (cond b (label j) 1024) 1024 ≡ b
+      by true e = lt-ltb (label j) 1024 (omega (arith, label-below j l (and-true (square cells j) (arrowed (label j)) e .0)))
+      by false e = refl
+
+  arrows-at : (l : List ℕ) → ((x : ℕ) → List·Memᴰ x l → x < size g) → arrowsAt blocks A l ≡ map label (filter inArrow l)
+  unfolding arrowsAt filter
+  arrows-at [] h = refl
+  arrows-at (x ∷ l) h = rw (in-arrow-low x (h x (List·Memᴰ·head refl))) (by (inArrow x) refl (arrows-at l (λ y m. h y (List·Memᴰ·tail m))))
+    where
+      by : (b : Bool) → inArrow x ≡ b → filter (λ f. ltb f 1024) (map (arrowAt blocks A) l) ≡ map label (filter inArrow l)
+          → cond b (arrowAt blocks A x ∷ filter (λ f. ltb f 1024) (map (arrowAt blocks A) l)) (filter (λ f. ltb f 1024) (map (arrowAt blocks A) l)) ≡ map label (cond b (x ∷ filter inArrow l) (filter inArrow l))
+      by true e q = rw (arrow-at x (h x (List·Memᴰ·head refl)), e, q)
+      by false e q = q
 
 -- a kind's number tells whether it is floating
 code-floating : (k : Kind) → eqb (kindCode k) 4 ≡ isFloating k
@@ -194,8 +153,7 @@ module _ (blocks A : List ℕ) (g : Grid) (values : List ℕ) (n : ℕ) (small :
   none-named K L e q = rw (e, q) unnamed
 
 -- ---- the view, from the arrays of the kinds and owners of its cells. values is the array of the cells
-module _ (p : Puzzle) (small : size (p .grid) ≤ 1024) (values blocks ons A : List ℕ)
-    (given : Given p (take (size (p .grid)) values) blocks ons) (marks : Marks A (arrowAmong blocks ons (size (p .grid)))) where
+module _ (p : Puzzle) (small : size (p .grid) ≤ 1024) (values blocks A : List ℕ) (given : Given p (take (size (p .grid)) values) blocks A) where
   abbrev grid : Grid
   grid = p .grid
 
@@ -213,7 +171,7 @@ module _ (p : Puzzle) (small : size (p .grid) ≤ 1024) (values blocks ons A : L
   kind-square : (i : ℕ) → i < size grid → So (square cells i) → cond (ltb (arrowAt blocks A i) 1024) (inBlock (arrowAt blocks A i)) floating ≡ cond (arrowBlock p cells (labels grid (square cells)) (getD (labels grid (square cells)) i 0)) (inBlock (getD (labels grid (square cells)) i 0)) floating
   kind-square i l q =
       let e : (square cells i && F) ≡ F = rw q in
-      rw (in-arrow-low p small cells blocks ons given A marks i l, arrow-at p small cells blocks ons given A marks i l, e) (by F)
+      rw (in-arrow-low p small cells blocks A given i l, arrow-at p small cells blocks A given i l, e) (by F)
     where
       m : ℕ
       m = getD (labels grid (square cells)) i 0
@@ -234,7 +192,7 @@ module _ (p : Puzzle) (small : size (p .grid) ≤ 1024) (values blocks ons A : L
   unfolding kindIn kindAt blocksBeside empty square
   kind-is i l =
       rw (← (getD-take (size grid) values i 0 l)) (kind-pick (empty cells i) (square cells i) _ _ _ _ (kind-square i l)
-      (ap (λ (t : List ℕ). kindBeside (once t)) (arrows-at p small cells blocks ons given A marks (neighbours grid i) (λ x m. on-grid grid l (side grid i m)))))
+      (ap (λ (t : List ℕ). kindBeside (once t)) (arrows-at p small cells blocks A given (neighbours grid i) (λ x m. on-grid grid l (side grid i m)))))
 
   -- the list of kinds
   kind-get : (i : ℕ) → i < size grid → getD kinds i vacant ≡ kind i
@@ -307,15 +265,12 @@ module _ (p : Puzzle) (small : size (p .grid) ≤ 1024) (values blocks ons A : L
       back : (i : ℕ) → size grid ≤ i → i < 1024 → getD L i 0 ≡ 1024
       back i l h = S .others i (float-out i l) ∙ owner-past i l h
 
--- what the three passes leave
-pub detailed : (h w : ℕ) → h * w ≤ 1024 → (values blocks ons A K L₀ L : List ℕ) → Marks A (arrowAmong blocks ons (h * w))
-    → K ≡ codesIn blocks A (sized h w) values (h * w) → L₀ ≡ ownersIn blocks A (sized h w) values (h * w) → Sofar (sized h w) (floats K) L₀ (h * w) L
-    → (arrows : List (List ℕ)) → Given (puzzleWith (sized h w) arrows) (take (h * w) values) blocks ons → Detailed (puzzleWith (sized h w) arrows) (take (h * w) values) A K L
+-- what the two passes leave
+pub detailed : (h w : ℕ) → h * w ≤ 1024 → (values blocks A K L₀ L : List ℕ) → K ≡ codesIn blocks A (sized h w) values (h * w) → L₀ ≡ ownersIn blocks A (sized h w) values (h * w)
+    → Sofar (sized h w) (floats K) L₀ (h * w) L
+    → (arrows : List (List ℕ)) → Given (puzzleWith (sized h w) arrows) (take (h * w) values) blocks A → Held (view (puzzleWith (sized h w) arrows) (take (h * w) values)) K L
 unfolding size
-detailed h w small values blocks ons A K L₀ L m k o S arrows given = record {
-  arrow-blocks = arrow-mask (puzzleWith (sized h w) arrows) small (take (h * w) values) blocks ons given A m;
-  held = record {
-    kind = k ∙ kinds-are (puzzleWith (sized h w) arrows) small values blocks ons A given m;
-    owner = owners-are (puzzleWith (sized h w) arrows) small values blocks ons A given m L (rw (k, o) at S);
-  };
+detailed h w small values blocks A K L₀ L k o S arrows given = record {
+  kind = k ∙ kinds-are (puzzleWith (sized h w) arrows) small values blocks A given;
+  owner = owners-are (puzzleWith (sized h w) arrows) small values blocks A given L (rw (k, o) at S);
 }

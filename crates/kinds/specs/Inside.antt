@@ -12,8 +12,7 @@ use Rattle.grid.specs.Side.{InGrid}
 use Rattle.record.specs.Record.{Puzzle}
 use Rattle.board.specs.Board.{square}
 use Rattle.groups.specs.Groups.{Joined, labels, noGroup, labelArray, maskOf}
-use Rattle.groups.specs.Arrows.{onArrow}
-use Rattle.kinds.specs.Kinds.{Kind, vacant, barrier, floating, inBlock, beside, kindBeside, arrowBlock, View, view, floatNear, reach, fence, word, reachMask, kindCode, ownerBy, kindArray, ownerArray}
+use Rattle.kinds.specs.Kinds.{Kind, vacant, barrier, floating, inBlock, beside, kindBeside, arrowBlock, View, floatNear, reach, fence, word, reachMask, kindCode, ownerBy, kindArray, ownerArray}
 use Rattle.kinds.specs.declared.Owner.{Owner}
 use Rattle.kinds.specs.declared.Owner.the-variants.{Nobody, One, Many}
 use Rattle.kinds.specs.declared.DetailedCellKind.{DetailedCellKind}
@@ -34,24 +33,34 @@ pub record Marks (marks : List ℕ) (test : ℕ → Bool) : Type 0 where
 abbrev pub puzzleWith : Grid → List (List ℕ) → Puzzle
 puzzleWith g arrows = record { grid = g; given = []; arrows = arrows }
 
--- what the arrays hold: the names of the blocks and the arrow cells of a board
-pub record Given (p : Puzzle) (cells blocks onArrows : List ℕ) : Type 0 where
+-- what the arrays hold: the names of the blocks of a board, and marks at the names of its arrow blocks
+pub record Given (p : Puzzle) (cells blocks arrowed : List ℕ) : Type 0 where
   pub named : blocks ≡ labelArray (p .grid) (square cells)
-  pub marked : onArrows ≡ maskOf (p .grid) (onArrow (p .arrows))
+  pub marked : arrowed ≡ maskOf (p .grid) (arrowBlock p cells (labels (p .grid) (square cells)))
 
 -- the arrays hold the kinds and the owners of a view
 pub record Held (v : View) (kinds owners : List ℕ) : Type 0 where
   pub kind : kinds ≡ kindArray v
   pub owner : owners ≡ ownerArray v
 
--- what is computed of them: the names of the arrow blocks, the kinds and the owners
-pub record Detailed (p : Puzzle) (cells arrowed kinds owners : List ℕ) : Type 0 where
-  pub arrow-blocks : arrowed ≡ maskOf (p .grid) (arrowBlock p cells (labels (p .grid) (square cells)))
-  pub held : Held (view p cells) kinds owners
+-- the cells in a line, and the names of their groups
+module _ (names line : List ℕ) where
+  -- the name of the group of the cell at place k
+  abbrev pub nameAt : ℕ → ℕ
+  nameAt k = getD names (getD line k 0) 0
 
--- among the first k cells one of the block named f is marked as an arrow cell
-unfoldable pub arrowAmong : List ℕ → List ℕ → ℕ → ℕ → Bool
-arrowAmong blocks onArrows k f = any (λ i. eqb (getD onArrows i 0) 1 && eqb (getD blocks i 0) f) (upto k)
+  -- one of the first k cells is in the group named f
+  unfoldable pub nameAmong : ℕ → ℕ → Bool
+  nameAmong k f = any (λ j. eqb (nameAt j) f) (upto k)
+
+  -- one of the first k cells is in the same group as one before it
+  unfoldable pub nameTwice : ℕ → Bool
+  nameTwice k = any (λ j. ltb (nameAt j) 1024 && nameAmong j (nameAt j)) (upto k)
+
+-- the name f is marked, if a group has it, and met tells whether it was marked before
+pub record Met (f : ℕ) (t : ℕ → Bool) (marks : List ℕ) (met : Bool) : Type 0 where
+  pub marked : Marks marks (λ m. t m || eqb f m)
+  pub before : met ≡ (ltb f 1024 && t f)
 
 -- ---- kinds
 

@@ -10,9 +10,10 @@ ghost use lib.ListN.{length, getD, set, take, replicate};
 ghost use Rattle.grid.specs.Lists.{any};
 ghost use Rattle.grid.specs.Grid.{neighbours};
 ghost use Rattle.grid.specs.Side.{sized, InGrid};
+ghost use Rattle.groups.specs.Arrows.{Line};
 ghost use Rattle.kinds.specs.Kinds.{view, kindCode, ownerBy, reachMask};
 ghost use Rattle.kinds.specs.Chains.{ChainsFrom, Chains};
-ghost use Rattle.kinds.specs.Inside.{Limits, puzzleWith, Given, Held, Detailed, Marks, arrowAmong, kindFrom, meetOf, Owned, arrowAt, arrowsAt, kindIn, codesIn, ownersIn, floats, Walked, Walkable, Unnamed, Sofar, nearAt, nearAmong, reaches, Counted, Reached, Reach, Place, Shifted, Inserted, Ordered, Room, Whole, ofBlock, rivals, touched, adds, Fenced};
+ghost use Rattle.kinds.specs.Inside.{Limits, puzzleWith, Given, Held, Marks, nameAmong, nameTwice, Met, kindFrom, meetOf, Owned, arrowAt, arrowsAt, kindIn, codesIn, ownersIn, floats, Walked, Walkable, Unnamed, Sofar, nearAt, nearAmong, reaches, Counted, Reached, Reach, Place, Shifted, Inserted, Ordered, Room, Whole, ofBlock, rivals, touched, adds, Fenced};
 use grid::Side;
 
 // No mark is set.
@@ -44,20 +45,40 @@ fn mark_name(tags: &[u8; 1024], tag: u8, names: &[u16; 1024], j: usize, marks: &
     marks[f as usize] = 1;
 }
 
-// Marks the name of each block that has an arrow cell.
+// Marks the name of the group of cell i, if it is in one; whether it was marked before.
+fn mark_group(names: &[u16; 1024], i: usize, marks: &mut [u8; 1024]) -> bool
+    requires { ⌜ i < 1024 ⌝ }
+    ensures { λ r. ⌜ ((t : ℕ → Bool) → Marks (now (marks .entry)) t → Met (getD (now (names .entry)) i 0) t (now (marks .exit)) r) ⌝ }
+{
+    let f = names[i];
+    if 1024 <= f {
+        return false;
+    }
+    let met = marks[f as usize] == 1;
+    marks[f as usize] = 1;
+    met
+}
+
+// Marks the name of each block that has an arrow cell; whether a block has been met twice. Arrows holds the arrow cells in its first
+// places. It does the same for potential groups.
 pub fn mark_arrow_blocks(
-    blocks: &[u16; 1024],
-    on_arrow: &[u8; 1024],
-    n: usize,
+    arrows: &[u16; 1024],
+    total: usize,
+    names: &[u16; 1024],
     marks: &mut [u8; 1024],
-)
-    requires { ⌜ n ≤ 1024 ⌝ }
-    ensures { λ _. ⌜ Marks (now (marks .exit)) (arrowAmong (now (blocks .entry)) (now («on_arrow» .entry)) n) ⌝ }
+) -> bool
+    requires { ⌜ Line (now arrows) total ⌝ }
+    ensures { λ r. ⌜ Marks (now (marks .exit)) (nameAmong (now (names .entry)) (now (arrows .entry)) total) × (r ≡ nameTwice (now (names .entry)) (now (arrows .entry)) total) ⌝ }
 {
     clear(marks);
-    for i in 0..n {
-        mark_name(on_arrow, 1, blocks, i, marks);
+    let mut twice = false;
+    for k in 0..total {
+        let met = mark_group(names, arrows[k] as usize, marks);
+        if met {
+            twice = true;
+        }
     }
+    twice
 }
 
 // The arrow blocks that a cell touches.
@@ -278,17 +299,15 @@ fn name_floating_groups(kinds: &[u8; 1024], owners: &mut [u16; 1024], h: usize, 
 pub fn compute_board_info_detailed(
     cells: &[u8; 1024],
     blocks: &[u16; 1024],
-    on_arrow: &[u8; 1024],
+    arrowed: &[u8; 1024],
     h: usize,
     w: usize,
-    arrowed: &mut [u8; 1024],
     kinds: &mut [u8; 1024],
     owners: &mut [u16; 1024],
 )
     requires { ⌜ Limits h w ⌝ }
-    ensures { λ _. ⌜ ((arrows : List (List ℕ)) → Given (puzzleWith (sized h w) arrows) (take (h * w) (now (cells .entry))) (now (blocks .entry)) (now («on_arrow» .entry)) → Detailed (puzzleWith (sized h w) arrows) (take (h * w) (now (cells .entry))) (now (arrowed .exit)) (now (kinds .exit)) (now (owners .exit))) ⌝ }
+    ensures { λ _. ⌜ ((arrows : List (List ℕ)) → Given (puzzleWith (sized h w) arrows) (take (h * w) (now (cells .entry))) (now (blocks .entry)) (now (arrowed .entry)) → Held (view (puzzleWith (sized h w) arrows) (take (h * w) (now (cells .entry)))) (now (kinds .exit)) (now (owners .exit))) ⌝ }
 {
-    mark_arrow_blocks(blocks, on_arrow, h * w, arrowed);
     compute_cell_kinds(cells, blocks, arrowed, h, w, kinds, owners);
     name_floating_groups(kinds, owners, h, w);
 }

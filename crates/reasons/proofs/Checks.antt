@@ -19,7 +19,7 @@ use Rattle.groups.specs.Groups.{marksOf, maskOf, labelArray, counts}
 use Rattle.groups.specs.Arrows.{onArrow, Line}
 use Rattle.groups.proofs.MarkLaws.{arrow-marks}
 use Rattle.groups.proofs.LabelLaws.{labels-potential, labels-blocks}
-use Rattle.kinds.specs.Inside.{puzzleWith, Held, Given}
+use Rattle.kinds.specs.Inside.{puzzleWith, Held}
 use Rattle.kinds.specs.Kinds.{view}
 use Rattle.board.specs.Board.{Literal}
 use Rattle.reasons.specs.declared.Name.{Name}
@@ -30,7 +30,7 @@ use Rattle.reasons.specs.declared.Finding.{Finding}
 use Rattle.reasons.specs.declared.Finding.the-variants.{Nothing, Reason, Refused}
 use Rattle.reasons.specs.Reasons.{Found, each, path, reason1, reason2, reason34, findReason}
 use Rattle.reasons.specs.Buffer.{Wrote}
-use Rattle.reasons.specs.Arrays.{foundAt, foundWay, SameBlock, Crossing, ArrowArrays, linesOf, PotentialArrays, Ready}
+use Rattle.reasons.specs.Arrays.{foundAt, foundWay, SameBlock, Crossing, ArrowArrays, linesOf, PotentialArrays, BlockArrays, Listed, Ready}
 use Rattle.reasons.specs.Search.{PathEnds, listFrom}
 use Rattle.reasons.specs.Pairs.{FoundAs, Fit, Whole, viewOn}
 use Rattle.reasons.proofs.Findings.{found-none, wrote-found, nothing-found, not-refused, found-first, found-next}
@@ -96,6 +96,9 @@ module _ (h w : ℕ) (tall : h ≤ 32) (wide : w ≤ 32) {arrows ends : List ℕ
   pub line-is : Line arrows total
   line-is = record { long = d .places .long; within = d .within; cells = λ k h. d .places .cells k }
 
+  pub listed-is : {onarrow : List ℕ} → onarrow ≡ marksOf (take total arrows) → Listed arrows total onarrow
+  listed-is m = record { line = line-is; marks = m }
+
   -- the potential groups and the blocks that were labelled
   pub potentials-held : (cells : List ℕ) {labels onarrow : List ℕ} → labels ≡ labelArray (sized h w) (counts true (take (h * w) cells)) → onarrow ≡ marksOf (take total arrows)
       → PotentialArrays (puzzleWith (sized h w) (linesOf arrows ends number)) (take (h * w) cells) labels onarrow
@@ -105,14 +108,14 @@ module _ (h w : ℕ) (tall : h ≤ 32) (wide : w ≤ 32) {arrows ends : List ℕ
   }
 
   pub blocks-held : (cells : List ℕ) {labels onarrow : List ℕ} → labels ≡ labelArray (sized h w) (counts false (take (h * w) cells)) → onarrow ≡ marksOf (take total arrows)
-      → Given (puzzleWith (sized h w) (linesOf arrows ends number)) (take (h * w) cells) labels onarrow
+      → BlockArrays (puzzleWith (sized h w) (linesOf arrows ends number)) (take (h * w) cells) labels onarrow
   blocks-held cells l m = record {
-    named = l ∙ labels-blocks (sized h w) (take (h * w) cells) (rw (← sized-size h w) (area h w tall wide));
-    marked = m ∙ marks-are;
+    blocks-are = l ∙ labels-blocks (sized h w) (take (h * w) cells) (rw (← sized-size h w) (area h w tall wide));
+    arrows-are = m ∙ marks-are;
   }
 
 -- a board that is ready, with its kinds
-pub whole-of : {h w : ℕ} {cells arrows ends blocks onarrow kinds owners : List ℕ} {number : ℕ} → Ready h w cells arrows ends number blocks onarrow
+pub whole-of : {h w : ℕ} {cells arrows ends blocks arrowed kinds owners : List ℕ} {number : ℕ} → Ready h w cells arrows ends number blocks arrowed
     → Held (viewOn h w (linesOf arrows ends number) cells) kinds owners → Whole h w cells arrows ends kinds owners number
 whole-of r k = record {
   held = k;

@@ -19,7 +19,7 @@ use Rattle.groups.specs.Groups.{Joined, labels, labelArray, maskOf, group, name
 use Rattle.groups.specs.Arrows.{onArrow}
 use Rattle.groups.proofs.GroupLaws.{group-mem, linked-label}
 use Rattle.reasons.specs.Reasons.{Found, orElse, firstOf, reason2, reason2At}
-use Rattle.reasons.specs.Arrays.{Kept, arrowsOf, Firsts, firstName, foundWay, SameBlock, Crossing}
+use Rattle.reasons.specs.Arrays.{BlockArrays, Kept, arrowsOf, Firsts, firstName, foundWay, SameBlock, Crossing}
 use Rattle.reasons.specs.declared.Name.{Name}
 use Rattle.reasons.specs.declared.Name.the-variants.{At, Nobody}
 use Rattle.reasons.specs.declared.Ends.{Ends}
@@ -27,7 +27,6 @@ use Rattle.reasons.specs.declared.Ends.the-variants.{Between, Nowhere}
 use Rattle.reasons.proofs.Pass.{upto-more, filter-more}
 use Rattle.reasons.proofs.Views.{filter-upto}
 use Rattle.reasons.proofs.Ranks.{label-test, label-group, mask-test, first-upto}
-use Rattle.kinds.specs.Inside.{Given}
 use Rattle.reasons.proofs.Boundary.{filter-filter}
 
 -- ---- one cell is kept
@@ -207,7 +206,7 @@ module _ (g : Grid) (cells first second : List ℕ) (L : ℕ → List ℕ) (q : 
   all-blocks (x ∷ xs) h = let r = all-blocks xs (λ f m. h f (List·Memᴰ·tail m)) in one-block x (L x) refl (h x (List·Memᴰ·head refl)) xs (r .0) (r .1)
 
 -- reason 2 by the first name that has a second arrow cell
-pub crossing-is : (puzzle : Puzzle) (cells blocks onarrow : List ℕ) (n : ℕ) (first second : List ℕ) → n ≤ 1024 → n ≡ size (puzzle .grid) → Given puzzle cells blocks onarrow
+pub crossing-is : (puzzle : Puzzle) (cells blocks onarrow : List ℕ) (n : ℕ) (first second : List ℕ) → n ≤ 1024 → n ≡ size (puzzle .grid) → BlockArrays puzzle cells blocks onarrow
     → Firsts blocks onarrow n n first second
     → Crossing puzzle cells (endsAt first second (firstName (λ f. eqb (getD blocks f 0) f && not (eqb (getD second f 0) 1024)) (upto n)))
 unfolding reason2 names cellsOf test
@@ -236,7 +235,7 @@ crossing-is puzzle cells blocks onarrow n first second s e B F =
     q i = p i && eqb (getD (labels g p) i 0) i
 
     own : (f : ℕ) → f < size g → eqb (getD blocks f 0) f ≡ q f
-    own f h = ap (λ (l : List ℕ). eqb (getD l f 0) f) (B .named) ∙ label-test g p f f h (omega arith)
+    own f h = ap (λ (l : List ℕ). eqb (getD l f 0) f) (B .blocks-are) ∙ label-test g p f f h (omega arith)
 
     swap : (a b : Bool) → (a && b) ≡ (b && a)
     swap true true = refl
@@ -247,8 +246,8 @@ crossing-is puzzle cells blocks onarrow n first second s e B F =
     list : (f : ℕ) → f < 1024 → arrowsOf blocks onarrow n f ≡ L f
     list f h =
         ap (λ (m : ℕ). arrowsOf blocks onarrow m f) e
-        ∙ filter-upto _ _ (size g) (λ i l. ap (λ (m : List ℕ). eqb (getD m i 0) 1 && eqb (getD blocks i 0) f) (B .marked)
-        ∙ ap (λ (m : List ℕ). eqb (getD (maskOf g (onArrow arrows)) i 0) 1 && eqb (getD m i 0) f) (B .named)
+        ∙ filter-upto _ _ (size g) (λ i l. ap (λ (m : List ℕ). eqb (getD m i 0) 1 && eqb (getD blocks i 0) f) (B .arrows-are)
+        ∙ ap (λ (m : List ℕ). eqb (getD (maskOf g (onArrow arrows)) i 0) 1 && eqb (getD m i 0) f) (B .blocks-are)
         ∙ ap (λ (t : Bool). t && eqb (getD (labelArray g p) i 0) f) (mask-test g (onArrow arrows) i l) ∙ swap (onArrow arrows i) (eqb (getD (labelArray g p) i 0) f))
         ∙ sym (filter-filter (onArrow arrows) (λ i. eqb (getD (labelArray g p) i 0) f) (upto (size g)))
         ∙ ap (filter (onArrow arrows)) (label-group g p f h)

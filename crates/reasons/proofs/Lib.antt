@@ -35,3 +35,4 @@ pub mod Boundary
 pub mod Crossings
 pub mod BoardArrays
 pub mod Checks
+pub mod Quick

@@ -13,8 +13,8 @@ use Rattle.grid.specs.Side.{sized}
 use Rattle.record.specs.Record.{Puzzle}
 use Rattle.record.specs.Problem.{arrowCells, arrowsFrom}
 use Rattle.board.specs.Board.{Literal, filled, square}
-use Rattle.groups.specs.Groups.{Joined, labels, group, labelArray, maskOf}
-use Rattle.groups.specs.Arrows.{onArrow}
+use Rattle.groups.specs.Groups.{Joined, labels, group, labelArray, maskOf, marksOf}
+use Rattle.groups.specs.Arrows.{onArrow, Line}
 use Rattle.reasons.specs.Reasons.{Found, each, boundary, breadthFirst, path, reason2}
 use Rattle.reasons.specs.declared.Name.{Name}
 use Rattle.reasons.specs.declared.Name.the-variants.{At, Nobody}
@@ -35,6 +35,20 @@ linesOf arrows ends count = arrowsFrom arrows 0 (take count ends)
 pub record PotentialArrays (p : Puzzle) (cells groups onarrow : List ℕ) : Type 0 where
   pub groups-are : groups ≡ labelArray (p .grid) (filled cells)
   pub arrows-are : onarrow ≡ maskOf (p .grid) (onArrow (p .arrows))
+
+-- the blocks of the cells, and the arrow cells
+pub record BlockArrays (p : Puzzle) (cells blocks onarrow : List ℕ) : Type 0 where
+  pub blocks-are : blocks ≡ labelArray (p .grid) (square cells)
+  pub arrows-are : onarrow ≡ maskOf (p .grid) (onArrow (p .arrows))
+
+-- the first `total` cells of an array are those that are marked
+pub record Listed (arrows : List ℕ) (total : ℕ) (onarrow : List ℕ) : Type 0 where
+  pub line : Line arrows total
+  pub marks : onarrow ≡ marksOf (take total arrows)
+
+-- cell i is a square of a group that is not marked
+unfoldable pub strandedAt : List ℕ → List ℕ → List ℕ → ℕ → Bool
+strandedAt cells groups marks i = eqb (getD cells i 0) 1 && not (eqb (getD marks (getD groups i 0) 0) 1)
 
 -- the rank of a cell in the search for reason 1: an arrow cell, another square, any other
 unfoldable pub rankAt : List ℕ → List ℕ → ℕ → ℕ
@@ -101,7 +115,7 @@ pub record Crossing (p : Puzzle) (cells : List ℕ) (ends : Ends) : Type 0 where
 -- the blocks are those of some arrows
 pub record Blocked (h w : ℕ) (cells blocks onarrow : List ℕ) : Type 0 where
   pub arrows : List (List ℕ)
-  pub held : Given (puzzleWith (sized h w) arrows) (take (h * w) cells) blocks onarrow
+  pub held : BlockArrays (puzzleWith (sized h w) arrows) (take (h * w) cells) blocks onarrow
 
 -- the arrays hold the arrows of a board of n cells: their cells one after another, `total` of them, and where each of `number` arrows ends
 pub record ArrowArrays (n : ℕ) (arrows ends : List ℕ) (number total : ℕ) : Type 0 where
@@ -115,8 +129,8 @@ pub record ArrowArrays (n : ℕ) (arrows ends : List ℕ) (number total : ℕ) :
   pub inside : (a : List ℕ) → List·Memᴰ a (linesOf arrows ends number) → (i : ℕ) → List·Memᴰ i a → i < n
   pub few : (a : List ℕ) → List·Memᴰ a (linesOf arrows ends number) → length a ≤ n
 
--- the arrays hold a board with its arrows, its blocks and its arrow cells
-pub record Ready (h w : ℕ) (cells arrows ends : List ℕ) (number : ℕ) (blocks onarrow : List ℕ) : Type 0 where
+-- the arrays hold a board with its arrows, its blocks and its arrow blocks
+pub record Ready (h w : ℕ) (cells arrows ends : List ℕ) (number : ℕ) (blocks arrowed : List ℕ) : Type 0 where
   pub total : ℕ
   pub drawn : ArrowArrays (h * w) arrows ends number total
-  pub held : Given (puzzleWith (sized h w) (linesOf arrows ends number)) (take (h * w) cells) blocks onarrow
+  pub held : Given (puzzleWith (sized h w) (linesOf arrows ends number)) (take (h * w) cells) blocks arrowed

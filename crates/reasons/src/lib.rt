@@ -19,7 +19,7 @@ ghost use Rattle.groups.specs.Groups.{labelArray};
 ghost use Rattle.kinds.specs.Kinds.{View, block, word};
 ghost use Rattle.reasons.specs.Reasons.{each, reason1, reason2, path, mostApart, reason34, findReason};
 ghost use Rattle.reasons.specs.Buffer.{Wrote};
-ghost use Rattle.reasons.specs.Arrays.{CellArray, PotentialArrays, rankAt, Ranked, firstName, foundAt, boundaryOf, Kept, Firsts, Crossing, Blocked, ArrowArrays, Ready, linesOf};
+ghost use Rattle.reasons.specs.Arrays.{CellArray, PotentialArrays, BlockArrays, Listed, rankAt, Ranked, firstName, foundAt, boundaryOf, strandedAt, Kept, Firsts, Crossing, Blocked, ArrowArrays, Ready, linesOf};
 ghost use Rattle.reasons.specs.Pairs.{Fit, FoundAs, viewOn};
 ghost use Rattle.reasons.specs.Find.{findOf, bufferAfter};
 ghost use Rattle.kinds.specs.Inside.{puzzleWith, Held, Given};
@@ -259,13 +259,14 @@ fn rank(cells: &[u8; 1024], onarrow: &[u8; 1024], i: usize) -> u8
     requires { ⌜ i < 1024 ⌝ }
     ensures { λ r. ⌜ r ≡ rankAt (now (cells .entry)) (now (onarrow .entry)) i ⌝ }
 {
-    if onarrow[i] == 1 {
-        return 2;
-    }
+    let mut rank = 0;
     if cells[i] == 1 {
-        return 1;
+        rank = 1;
     }
-    0
+    if onarrow[i] == 1 {
+        rank = 2;
+    }
+    rank
 }
 
 // Raises the mark of the group named f, if it is one, to a rank.
@@ -503,7 +504,7 @@ fn find_crossing(
     second: &mut [u16; 1024],
 ) -> Ends
     requires { ⌜ (n ≤ 1024) × (length (now first) ≡ 1024) × (length (now second) ≡ 1024) ⌝ }
-    ensures { λ r. ⌜ ((p : Puzzle) (cells : List ℕ) → Given p cells (now (blocks .entry)) (now (onarrow .entry)) → n ≡ size (p .grid) → Crossing p cells r) ⌝ }
+    ensures { λ r. ⌜ ((p : Puzzle) (cells : List ℕ) → BlockArrays p cells (now (blocks .entry)) (now (onarrow .entry)) → n ≡ size (p .grid) → Crossing p cells r) ⌝ }
     ensures { λ _. ⌜ (length (now (first .exit)) ≡ 1024) × (length (now (second .exit)) ≡ 1024) ⌝ }
 {
     keep_arrow_cells(blocks, onarrow, n, first, second);
@@ -514,19 +515,53 @@ fn find_crossing(
     }
 }
 
-// Reason 1, if it applies.
+// Is cell i a square of a group that is not marked?
+fn is_stranded(cells: &[u8; 1024], groups: &[u16; 1024], marks: &[u8; 1024], i: usize) -> bool
+    requires { ⌜ (i < 1024) × (length (now marks) ≡ 1024) ⌝ }
+    ensures { λ r. ⌜ r ≡ strandedAt (now (cells .entry)) (now (groups .entry)) (now (marks .entry)) i ⌝ }
+{
+    if cells[i] != 1 {
+        return false;
+    }
+    let f = wide(groups[i]);
+    if 1024 <= f {
+        return true;
+    }
+    marks[f] != 1
+}
+
+// Is there a square of a group that is not marked?
+fn has_stranded(cells: &[u8; 1024], groups: &[u16; 1024], marks: &[u8; 1024], n: usize) -> bool
+    requires { ⌜ (n ≤ 1024) × (length (now marks) ≡ 1024) ⌝ }
+    ensures { λ r. ⌜ r ≡ any (strandedAt (now (cells .entry)) (now (groups .entry)) (now (marks .entry))) (upto n) ⌝ }
+{
+    for i in 0..n {
+        if is_stranded(cells, groups, marks, i) {
+            return true;
+        }
+    }
+    false
+}
+
+// Reason 1, if it applies. Mostly each square is in a group with an arrow cell, which is quick to see.
 fn check_potential_groups(
     cells: &[u8; 1024],
+    arrows: &[u16; 1024],
+    total: usize,
     groups: &[u16; 1024],
     onarrow: &[u8; 1024],
     h: usize,
     w: usize,
     buffer: &mut [u16],
 ) -> Finding
-    requires { ⌜ Fit h w (now buffer) ⌝ }
-    ensures { λ r. ⌜ ((arrows : List (List ℕ)) → PotentialArrays (puzzleWith (sized h w) arrows) (take (h * w) (now (cells .entry))) (now (groups .entry)) (now (onarrow .entry)) → FoundAs (reason1 (puzzleWith (sized h w) arrows) (take (h * w) (now (cells .entry)))) (now (buffer .entry)) (now (buffer .exit)) r) ⌝ }
+    requires { ⌜ Fit h w (now buffer) × Listed (now arrows) total (now onarrow) ⌝ }
+    ensures { λ r. ⌜ ((lines : List (List ℕ)) → PotentialArrays (puzzleWith (sized h w) lines) (take (h * w) (now (cells .entry))) (now (groups .entry)) (now (onarrow .entry)) → FoundAs (reason1 (puzzleWith (sized h w) lines) (take (h * w) (now (cells .entry)))) (now (buffer .entry)) (now (buffer .exit)) r) ⌝ }
 {
     let mut marks = [0u8; 1024];
+    kinds::mark_arrow_blocks(arrows, total, groups, &mut marks);
+    if !has_stranded(cells, groups, &marks, h * w) {
+        return Finding::Nothing;
+    }
     let name = find_stranded(cells, groups, onarrow, h * w, &mut marks);
     match name {
         Name::At(f) => {
@@ -537,18 +572,26 @@ fn check_potential_groups(
     }
 }
 
-// Reason 2, if it applies.
+// Reason 2, if it applies. Mostly no two arrow cells are in one block, which is quick to see. Arrowed marks the arrow blocks afterwards.
 fn check_blocks(
     cells: &[u8; 1024],
+    arrows: &[u16; 1024],
+    total: usize,
     blocks: &[u16; 1024],
     onarrow: &[u8; 1024],
+    arrowed: &mut [u8; 1024],
     h: usize,
     w: usize,
     buffer: &mut [u16],
 ) -> Finding
-    requires { ⌜ Fit h w (now buffer) × Blocked h w (now cells) (now blocks) (now onarrow) ⌝ }
-    ensures { λ r. ⌜ ((arrows : List (List ℕ)) → Given (puzzleWith (sized h w) arrows) (take (h * w) (now (cells .entry))) (now (blocks .entry)) (now (onarrow .entry)) → FoundAs (reason2 (puzzleWith (sized h w) arrows) (take (h * w) (now (cells .entry)))) (now (buffer .entry)) (now (buffer .exit)) r) ⌝ }
+    requires { ⌜ Fit h w (now buffer) × Blocked h w (now cells) (now blocks) (now onarrow) × Listed (now arrows) total (now onarrow) ⌝ }
+    ensures { λ r. ⌜ ((lines : List (List ℕ)) → BlockArrays (puzzleWith (sized h w) lines) (take (h * w) (now (cells .entry))) (now (blocks .entry)) (now (onarrow .entry)) → FoundAs (reason2 (puzzleWith (sized h w) lines) (take (h * w) (now (cells .entry)))) (now (buffer .entry)) (now (buffer .exit)) r) ⌝ }
+    ensures { λ _. ⌜ ((lines : List (List ℕ)) → BlockArrays (puzzleWith (sized h w) lines) (take (h * w) (now (cells .entry))) (now (blocks .entry)) (now (onarrow .entry)) → Given (puzzleWith (sized h w) lines) (take (h * w) (now (cells .entry))) (now (blocks .entry)) (now (arrowed .exit))) ⌝ }
 {
+    let twice = kinds::mark_arrow_blocks(arrows, total, blocks, arrowed);
+    if !twice {
+        return Finding::Nothing;
+    }
     let mut first = [0u16; 1024];
     let mut second = [0u16; 1024];
     let ends = find_crossing(blocks, onarrow, h * w, &mut first, &mut second);
@@ -579,24 +622,22 @@ fn check_arrows(
     ends: &[u16; 1024],
     number: usize,
     blocks: &[u16; 1024],
-    onarrow: &[u8; 1024],
+    arrowed: &[u8; 1024],
     h: usize,
     w: usize,
     buffer: &mut [u16],
 ) -> Finding
-    requires { ⌜ Fit h w (now buffer) × Ready h w (now cells) (now arrows) (now ends) number (now blocks) (now onarrow) ⌝ }
+    requires { ⌜ Fit h w (now buffer) × Ready h w (now cells) (now arrows) (now ends) number (now blocks) (now arrowed) ⌝ }
     ensures { λ r. ⌜ FoundAs (reason34 (viewOn h w (linesOf (now (arrows .entry)) (now (ends .entry)) number) (now (cells .entry)))) (now (buffer .entry)) (now (buffer .exit)) r ⌝ }
 {
-    let mut arrowed = [0u8; 1024];
     let mut kinds = [0u8; 1024];
     let mut owners = [0u16; 1024];
     kinds::compute_board_info_detailed(
         cells,
         blocks,
-        onarrow,
+        arrowed,
         h,
         w,
-        &mut arrowed,
         &mut kinds,
         &mut owners,
     );
@@ -619,9 +660,10 @@ pub fn find_inconsistency<'a>(
 {
     let mut onarrow = [0u8; 1024];
     let mut labels = [0u16; 1024];
-    groups::mark_arrow_cells(arrows, arrow_total(ends, number), &mut onarrow);
+    let total = arrow_total(ends, number);
+    groups::mark_arrow_cells(arrows, total, &mut onarrow);
     groups::compute_connected_components(cells, true, h, w, &mut labels);
-    let first = check_potential_groups(cells, &labels, &onarrow, h, w, buffer);
+    let first = check_potential_groups(cells, arrows, total, &labels, &onarrow, h, w, buffer);
     match first {
         Finding::Nothing => {}
         Finding::Reason(count) => {
@@ -632,7 +674,18 @@ pub fn find_inconsistency<'a>(
         }
     }
     groups::compute_connected_components(cells, false, h, w, &mut labels);
-    let second = check_blocks(cells, &labels, &onarrow, h, w, buffer);
+    let mut arrowed = [0u8; 1024];
+    let second = check_blocks(
+        cells,
+        arrows,
+        total,
+        &labels,
+        &onarrow,
+        &mut arrowed,
+        h,
+        w,
+        buffer,
+    );
     match second {
         Finding::Nothing => check_arrows(
             cells,
@@ -640,7 +693,7 @@ pub fn find_inconsistency<'a>(
             ends,
             number,
             &labels,
-            &onarrow,
+            &arrowed,
             h,
             w,
             buffer,

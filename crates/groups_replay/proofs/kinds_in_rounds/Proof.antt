@@ -6,10 +6,10 @@ use Rattle.groups_replay.proofs.kinds_in_rounds.Statement.{statement}
 use Rattle.groups_replay.proofs.kinds_in_rounds.Tie as tie
 
 abbrev Inv-loop : tie.InvT-loop
-Inv-loop rounds cells blocks on-arrow h w arrowed₀ kinds₀ owners₀ i₀ arrowed kinds owners i = Unit {0}
+Inv-loop rounds cells blocks arrowed h w kinds₀ owners₀ i₀ kinds owners i = Unit {0}
 
 abbrev μ-loop : tie.MeasureT-loop
-μ-loop rounds cells blocks on-arrow h w arrowed₀ kinds₀ owners₀ i₀ arrowed kinds owners i = rounds - i
+μ-loop rounds cells blocks arrowed h w kinds₀ owners₀ i₀ kinds owners i = rounds - i
 
 loop-holds : tie.Need-loop-holds Inv-loop μ-loop
 loop-holds c = search needs

@@ -1,42 +1,28 @@
--- The three passes one after the other.
+-- The two passes one after the other.
 -- Assumes nothing.
-use native.Mathlib.Omega.{arith}
 use Rattle.grid.proofs.SideLaws.{area}
 use Rattle.kinds.proofs.Views.{none-named, detailed}
 use borrow.Author.Needs.{needs}
 use Rattle.kinds.proofs.compute_board_info_detailed.Statement.{statement}
 use Rattle.kinds.proofs.compute_board_info_detailed.Tie as tie
 
-mul-mark-arrow-blocks : tie.Need-mul-mark-arrow-blocks
-mul-mark-arrow-blocks c = omega (arith, area (c .args .h) (c .args .w) (c .pre .tall) (c .pre .wide))
-
-mark-arrow-blocks-requires : tie.Need-mark-arrow-blocks-requires
-mark-arrow-blocks-requires c κs =
-    let s = c .before in
-    area (s .args .h) (s .args .w) (s .pre .tall) (s .pre .wide)
-
 compute-cell-kinds-requires : tie.Need-compute-cell-kinds-requires
 compute-cell-kinds-requires c κs = search needs
 
 name-floating-groups-requires : tie.Need-name-floating-groups-requires
 name-floating-groups-requires c κs =
-    let s = c .before .before .before .before .before .before .before .before in
+    let s = c .before .before .before .before .before in
     let k = c .before .before .compute-cell-kinds in
     (s .pre, none-named _ _ _ _ _ (area (s .args .h) (s .args .w) (s .pre .tall) (s .pre .wide)) _ _ (k .ensures .0) (k .ensures .1))
 
 returns : tie.Need-returns
 returns c =
-    let s = c .before .before .before .before .before .before .before .before .before in
+    let s = c .before .before .before .before .before .before in
     let k = c .before .before .before .compute-cell-kinds in
-    λ arrows given. detailed (s .args .h) (s .args .w) (area (s .args .h) (s .args .w) (s .pre .tall) (s .pre .wide)) (s .args .cells .now) (s .args .blocks .now) (s .args .on-arrow .now) _ _ _ _
-    (c .before .before .before .before .before .before .before .mark-arrow-blocks .ensures) (k .ensures .0) (k .ensures .1) (c .name-floating-groups .ensures) arrows given
+    λ arrows given. detailed (s .args .h) (s .args .w) (area (s .args .h) (s .args .w) (s .pre .tall) (s .pre .wide)) (s .args .cells .now) (s .args .blocks .now) (s .args .arrowed .now) _ _ _
+    (k .ensures .0) (k .ensures .1) (c .name-floating-groups .ensures) arrows given
 
 pub compute-board-info-detailed-spec : {M : Type 1} → statement M
 compute-board-info-detailed-spec =
     tie.close
-    (tie.spec
-    mul-mark-arrow-blocks
-    mark-arrow-blocks-requires
-    compute-cell-kinds-requires
-    name-floating-groups-requires
-    returns)
+    (tie.spec compute-cell-kinds-requires name-floating-groups-requires returns)

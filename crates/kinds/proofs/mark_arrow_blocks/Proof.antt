@@ -1,43 +1,60 @@
--- The loop's invariant: the names of the blocks of the arrow cells passed are marked.
+-- The loop's invariant: the names of the groups of the arrow cells passed are marked.
 -- Assumes nothing.
 use Prim.Native.Nat.{_≤_, _-_}
-use mathlib.Core.Path.{_≡_}
+use mathlib.Core.Logic.{⊎-elim}
+use mathlib.Core.Path.{_≡_, _∙_}
 use borrow.Author.Needs.{needs}
 use native.Mathlib.Omega.{arith}
-use Rattle.kinds.specs.Inside.{Marks, arrowAmong}
-use Rattle.kinds.proofs.Filled.{marks-none, among-none, among-more}
+use Rattle.kinds.specs.Inside.{Marks, nameAmong, nameTwice}
+use Rattle.kinds.proofs.Filled.{marks-none, among-none, among-more, twice-none, twice-met, twice-new}
 use Rattle.kinds.proofs.mark_arrow_blocks.Statement.{statement}
 use Rattle.kinds.proofs.mark_arrow_blocks.Tie as tie
 
 abbrev Inv-loop : tie.InvT-loop
-Inv-loop blocks on-arrow n marks₀ i₀ marks i = (i ≤ n) × Marks marks (arrowAmong blocks on-arrow i)
+Inv-loop arrows total names marks₀ twice₀ k₀ marks twice k = (k ≤ total) × Marks marks (nameAmong names arrows k) × (twice ≡ nameTwice names arrows k)
 
 abbrev μ-loop : tie.MeasureT-loop
-μ-loop blocks on-arrow n marks₀ i₀ marks i = n - i
+μ-loop arrows total names marks₀ twice₀ k₀ marks twice k = total - k
 
 clear-requires : tie.Need-clear-requires Inv-loop μ-loop
 clear-requires c κs = search needs
 
 loop-holds : tie.Need-loop-holds Inv-loop μ-loop
-loop-holds c = (omega arith, among-none _ _ (rw (c .clear .ensures) marks-none))
+loop-holds c = (omega arith, among-none _ _ (rw (c .clear .ensures) marks-none), twice-none _ _)
 
-mark-name-requires : tie.Need-mark-name-requires Inv-loop μ-loop
-mark-name-requires c κs = search needs
+mul-mark-group : tie.Need-mul-mark-group Inv-loop μ-loop
+mul-mark-group c = omega (arith, c .before .before .before .before .pre .within)
 
-add-i : tie.Need-add-i Inv-loop μ-loop
-add-i c = search needs
+element-copy-out-mark-group : tie.Need-element-copy-out-mark-group Inv-loop μ-loop
+element-copy-out-mark-group c = omega (arith, c .before .before .before .before .pre .within)
+
+cast-mark-group : tie.Need-cast-mark-group Inv-loop μ-loop
+cast-mark-group c =
+    let s = c .before .before .before .before .before in
+    omega (arith, s .pre .cells (c .before .before .loop .k) (c .before .loop-test .taken))
+
+mark-group-requires : tie.Need-mark-group-requires Inv-loop μ-loop
+mark-group-requires c κs =
+    let s = c .before .before .before .before .before .before in
+    s .pre .cells (c .before .before .before .loop .k) (c .before .before .loop-test .taken)
+
+add-k : tie.Need-add-k Inv-loop μ-loop
+add-k c = search needs
 
 loop-less : tie.Need-loop-less Inv-loop μ-loop
 loop-less c = search needs
 
 loop-again : tie.Need-loop-again Inv-loop μ-loop
-loop-again c = (omega arith, among-more _ _ _ (c .mark-name .ensures _ (c .before .before .before .loop .inv .1)))
+loop-again c =
+    let l = c .before .before .before .before .before .loop in
+    let m = c .before .mark-group .ensures _ (l .inv .1) in
+    (omega arith, among-more _ _ _ (m .marked), ⊎-elim (λ w. w .1 ∙ twice-met _ _ _ (m .before) (w .0 .taken)) (λ w. w .1 ∙ twice-new _ _ _ (m .before) (w .0 .left) (l .inv .2)) (c .if1 .came))
 
 returns : tie.Need-returns Inv-loop μ-loop
 returns c =
     let v = c .before .loop .inv in
-    let e : c .before .loop .i ≡ c .before .before .before .before .args .n = omega (arith, v .0, c .loop-test .left) in
-    rw e at (v .1)
+    let e : c .before .loop .k ≡ c .before .before .before .before .args .total = omega (arith, v .0, c .loop-test .left) in
+    (rw e at (v .1), rw e at (v .2))
 
 pub mark-arrow-blocks-spec : {M : Type 1} → statement M
 mark-arrow-blocks-spec =
@@ -47,8 +64,11 @@ mark-arrow-blocks-spec =
     μ-loop
     clear-requires
     loop-holds
-    mark-name-requires
-    add-i
+    mul-mark-group
+    element-copy-out-mark-group
+    cast-mark-group
+    mark-group-requires
+    add-k
     loop-less
     loop-again
     returns)

@@ -11,10 +11,10 @@ compute-board-info-detailed-requires c κs = search needs
 
 search-pairs-requires : tie.Need-search-pairs-requires
 search-pairs-requires c κs =
-    let s = c .before .before .before .before .before .before .before .before in (
+    let s = c .before .before .before .before .before .before .before in (
       s .pre .0,
       whole-of (s .pre .1)
-          (c .before .before .before .compute-board-info-detailed .ensures (linesOf (s .args .arrows .now) (s .args .ends .now) (s .args .number)) (s .pre .1 .held) .held),
+          (c .before .before .before .compute-board-info-detailed .ensures (linesOf (s .args .arrows .now) (s .args .ends .now) (s .args .number)) (s .pre .1 .held)),
     )
 
 same-length : tie.Need-same-length

@@ -1,3 +1,4 @@
+use mathlib.Core.Logic.{⊎-elim}
 use mathlib.Core.Path.{refl}
 use borrow.Author.Tests.{eq-eqb, ne-eqb}
 use Rattle.reasons.specs.Arrays.{rankAt}
@@ -8,21 +9,20 @@ use Rattle.reasons.proofs.rank.Tie as tie
 element-copy-out-if1 : tie.Need-element-copy-out-if1
 element-copy-out-if1 c = search needs
 
-returns : tie.Need-returns
-unfolding rankAt
-returns c = rw (eq-eqb _ _ (c .if1 .taken)) refl
-
 element-copy-out-if2 : tie.Need-element-copy-out-if2
 element-copy-out-if2 c = search needs
 
+returns : tie.Need-returns
+unfolding rankAt
+returns c = rw (eq-eqb _ _ (c .if2 .taken)) refl
+
 returns-2 : tie.Need-returns-2
 unfolding rankAt
-returns-2 c = rw (ne-eqb _ _ (c .before .before .if1 .left), eq-eqb _ _ (c .if2 .taken)) refl
-
-returns-3 : tie.Need-returns-3
-unfolding rankAt
-returns-3 c = rw (ne-eqb _ _ (c .before .before .if1 .left), ne-eqb _ _ (c .if2 .left)) refl
+returns-2 c =
+    ⊎-elim
+    (λ w. rw (ne-eqb _ _ (c .if2 .left), eq-eqb _ _ (w .0 .taken)) (w .1))
+    (λ w. rw (ne-eqb _ _ (c .if2 .left), ne-eqb _ _ (w .0 .left)) (w .1))
+    (c .before .before .if1 .came)
 
 pub rank-spec : {M : Type 1} → statement M
-rank-spec =
-    tie.close (tie.spec element-copy-out-if1 returns element-copy-out-if2 returns-2 returns-3)
+rank-spec = tie.close (tie.spec element-copy-out-if1 element-copy-out-if2 returns returns-2)
