@@ -18,7 +18,9 @@ pub mod NonEmpty
 pub mod BufferLaws
 pub mod Pass
 pub mod Views
+pub mod ChainWalks
 pub mod Shifts
+pub mod ShiftChains
 pub mod PairPlaces
 pub mod PairNames
 pub mod Findings

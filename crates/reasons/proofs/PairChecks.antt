@@ -9,17 +9,16 @@ use mathlib.Core.Option.{none, some}
 use lib.ListN.{length, getD, set, take, take-append-drop}
 use lib.Seq.{slice, getD-take}
 use borrow.Author.Tests.{lt-ltb, le-ltb}
-use Rattle.grid.specs.Lists.{any, filter, init, tail}
+use Rattle.grid.specs.Lists.{filter, init, tail}
 use Rattle.grid.specs.Grid.{size}
 use Rattle.board.specs.Board.{Literal, empty, undecided}
 use Rattle.groups.specs.Arrows.{Pair}
-use Rattle.groups.specs.Rules.{fits}
 use Rattle.kinds.specs.Kinds.{View, view, viewWith, block, reach, fence, word}
 use Rattle.kinds.specs.Inside.{Held, Fenced}
 use Rattle.reasons.specs.Buffer.{Wrote}
 use Rattle.reasons.specs.Pairs.{reason4aAt, reason4bAt, pairAt, viewOn, blockCellFence}
 use Rattle.reasons.specs.Reasons.{given, each, mostApart, blockName, reasonGrow, reason3At, gap, reasonShrink}
-use Rattle.reasons.specs.Shift.{blockIn}
+use Rattle.reasons.specs.Shift.{blockIn, shiftFits}
 use Rattle.reasons.proofs.BufferLaws.{wrote-more}
 use Rattle.reasons.proofs.PairPlaces.{slice-tail, slice-init}
 use Rattle.reasons.proofs.Views.{block-by, filter-agree}
@@ -27,12 +26,12 @@ use Rattle.reasons.proofs.Views.{block-by, filter-agree}
 -- the pair p, and the names f and e of the blocks of its squares
 module _ (v : View) (p : Pair) (f e : ℕ) (last : f ≡ getD (v .blocks) (p .last) 0) (cur : e ≡ getD (v .blocks) (p .cur) 0) where
   -- some shift of last's block lies in cur's reach, or none
-  pub shift-none : any (fits (v .grid) (block v f) (reach v e) f) (reach v e) ≡ true → reason3At v p ≡ none
-  unfolding reason3At blockName given
+  pub shift-none : shiftFits v f e ≡ true → reason3At v p ≡ none
+  unfolding reason3At blockName given shiftFits
   shift-none t = rw (← last, ← cur, t) refl
 
-  pub shift-some : any (fits (v .grid) (block v f) (reach v e) f) (reach v e) ≡ false → reason3At v p ≡ some (blockCellFence v f (p .cur) e)
-  unfolding reason3At reasonGrow blockName given blockCellFence
+  pub shift-some : shiftFits v f e ≡ false → reason3At v p ≡ some (blockCellFence v f (p .cur) e)
+  unfolding reason3At reasonGrow blockName given blockCellFence shiftFits
   shift-some t = rw (← last, ← cur, t) refl
 
   -- cur's reach is large enough, or not

@@ -2,30 +2,27 @@
 -- Assumes nothing.
 use Prim.Native.Nat.{ℕ, _+_, _-_, _*_, _≤_, _<_}
 use native.Mathlib.Omega.{arith}
-use mathlib.Core.Path.{_≡_, refl, subst, _∙_}
+use mathlib.Core.Path.{_≡_, _∙_}
 use mathlib.Core.Bool.{true, false}
 use mathlib.Core.List.{List, _++_, List·Memᴰ}
 use lib.ListN.{length, getD}
 use lib.Seq.{slice}
-use Rattle.grid.specs.Lists.{any, filter, upto}
-use Rattle.grid.specs.Side.{sized}
+use Rattle.grid.specs.Lists.{filter, upto}
 use Rattle.grid.proofs.ListLaws.{filter-mem, upto-mem}
 use Rattle.grid.proofs.SideLaws.{area}
 use Rattle.board.specs.Board.{empty, square}
 use Rattle.groups.specs.Arrows.{Pair}
-use Rattle.groups.specs.Rules.{fits}
 use Rattle.kinds.specs.Kinds.{View, view, viewWith, block, reach}
 use Rattle.reasons.specs.Arrays.{CellArray}
 use Rattle.reasons.specs.Buffer.{Wrote}
 use Rattle.reasons.specs.Pairs.{reason4aAt, reason4bAt, pairAt, FoundAs, viewOn, Scene, blockCellFence}
 use Rattle.reasons.specs.Reasons.{each, mostApart, gap, reason3At}
-use Rattle.reasons.specs.Shift.{blockIn, Gathered, BlockPlaces, Places}
+use Rattle.reasons.specs.Shift.{blockIn, Gathered, Places, shiftFits}
 use Rattle.reasons.specs.declared.Finding.the-variants.{Nothing, Reason}
 use Rattle.reasons.proofs.Findings.{found-none, wrote-found}
-use Rattle.reasons.proofs.PairChecks.{shift-none, shift-some, growth-none, growth-some, gap-none, gap-some, gap-places, most-taken, empty-agree, block-in}
+use Rattle.reasons.proofs.PairChecks.{shift-none, shift-some, growth-none, growth-some, gap-none, gap-some, gap-places, most-taken, empty-agree}
 use Rattle.reasons.proofs.PairNames.{scene-owner}
 use Rattle.reasons.proofs.PairPlaces.{slice-mem}
-use Rattle.kinds.specs.Inside.{Held}
 use Rattle.reasons.proofs.Shifts.{inIt, in-few, gathered-places, block-places}
 
 -- the cells of a block that were gathered lie on the grid
@@ -33,17 +30,8 @@ pub gathered-inside : (h w : ℕ) (kinds owners : List ℕ) (f : ℕ) {r c r′ 
     → Gathered w (blockIn kinds owners (h * w) f) r c r′ c′ k → Places h w r′ c′ k
 unfolding blockIn
 gathered-inside h w kinds owners f p q s =
-    block-places h w p q (omega (arith, s .many, in-few w kinds owners f (h * w), area h w p q))
-    (λ i m. upto-mem (h * w) (filter-mem (inIt w kinds owners f) (upto (h * w)) m .0)) (gathered-places s)
-
--- .. and are those of the board
-pub gathered-block : (h w : ℕ) (lines : List (List ℕ)) (cells : List ℕ) {kinds owners : List ℕ} → Held (viewOn h w lines cells) kinds owners
-    → (f : ℕ) {r c r′ c′ : List ℕ} {k : ℕ} → Gathered w (blockIn kinds owners (h * w) f) r c r′ c′ k → BlockPlaces w (block (viewOn h w lines cells) f) r′ c′ k
-gathered-block h w lines cells held f {r′ = r′} {c′ = c′} {k = k} s = subst (λ (b : List ℕ). BlockPlaces w b r′ c′ k) (block-in h w lines cells held f) (gathered-places s)
-
-pub view-grid : (h w : ℕ) (lines : List (List ℕ)) (cells : List ℕ) → viewOn h w lines cells .grid ≡ sized h w
-unfolding view viewWith
-view-grid h w lines cells = refl
+    block-places h w p q (omega (arith, s .many, in-few kinds owners f (h * w), area h w p q))
+    (λ i m. upto-mem (h * w) (filter-mem (inIt kinds owners f) (upto (h * w)) m .0)) (gathered-places s)
 
 -- two squares of an arrow, and the names of their blocks in the array
 module _ {h w : ℕ} {lines : List (List ℕ)} {cells arrows kinds owners : List ℕ} {last cur : ℕ} (s : Scene h w lines cells arrows kinds owners last (cur + 1)) (order : last < cur)
@@ -65,10 +53,10 @@ module _ {h w : ℕ} {lines : List (List ℕ)} {cells arrows kinds owners : List
 
   module _ {b : List ℕ} where
     -- reason 3
-    pub no-shift : any (fits (board .grid) (block board f) (reach board e) f) (reach board e) ≡ true → FoundAs (reason3At board both) b b Nothing
+    pub no-shift : shiftFits board f e ≡ true → FoundAs (reason3At board both) b b Nothing
     no-shift t = rw (shift-none board both f e last-name cur-name t) (found-none b)
 
-    pub shift-found : any (fits (board .grid) (block board f) (reach board e) f) (reach board e) ≡ false → {a : List ℕ} {k : ℕ} → Wrote (blockCellFence board f (getD arrows cur 0) e) b a k → FoundAs (reason3At board both) b a (Reason k)
+    pub shift-found : shiftFits board f e ≡ false → {a : List ℕ} {k : ℕ} → Wrote (blockCellFence board f (getD arrows cur 0) e) b a k → FoundAs (reason3At board both) b a (Reason k)
     unfolding pairAt
     shift-found t w = rw (shift-some board both f e last-name cur-name t) (wrote-found w)
 

@@ -2,7 +2,7 @@
 -- Assumes nothing.
 use Prim.Native.Nat.{ℕ, _+_, _*_, _≤_, _<_}
 use native.Mathlib.Omega.{arith}
-use mathlib.Core.Path.{_≡_, refl, ap, _∙_}
+use mathlib.Core.Path.{_≡_, refl, sym, ap, _∙_}
 use mathlib.Core.Bool.{true, false}
 use mathlib.Core.List.{List}
 use lib.ListN.{getD, take}
@@ -11,14 +11,15 @@ use borrow.Author.Tests.{eqb-true, eq-eqb}
 use Rattle.grid.specs.Lists.{upto}
 use Rattle.grid.specs.Grid.{Grid, size, cellsOf}
 use Rattle.grid.specs.Side.{sized}
+use Rattle.grid.specs.Link.{linked-end}
 use Rattle.grid.proofs.ListLaws.{true-and, mem-any, getD-map-range}
 use Rattle.grid.proofs.GridLaws.{in-cells}
 use Rattle.record.specs.Record.{Puzzle}
 use Rattle.board.specs.Board.{empty, square}
 use Rattle.groups.specs.Groups.{labels}
 use Rattle.groups.specs.Arrows.{onArrow}
-use Rattle.groups.proofs.GroupLaws.{linked-size, label-own}
-use Rattle.kinds.specs.Kinds.{view, viewWith, vacant, inBlock, arrowBlock, kindAt, kindsOf, ownerBy, ownerArray}
+use Rattle.groups.proofs.GroupLaws.{linked-size, label-own, label-linked}
+use Rattle.kinds.specs.Kinds.{view, viewWith, vacant, inBlock, arrowBlock, kindAt, kindsOf, kindCode, ownerBy, kindArray, ownerArray}
 use Rattle.kinds.specs.Inside.{puzzleWith}
 use Rattle.reasons.specs.Pairs.{NextSquare, viewOn, Scene}
 use Rattle.reasons.proofs.Views.{array-at}
@@ -71,6 +72,33 @@ module _ (p : Puzzle) (cells : List ℕ) (i : ℕ) (on : i < size (p .grid)) (sq
   unfolding view viewWith
   name-inside = linked-size g (square cells) on (label-own g (square cells) i on sq)
 
+  -- its name is a cell of the block
+  name-square : square cells (getD blocks i 0) ≡ true
+  name-square = linked-end (label-own g (square cells) i on sq)
+
+  name-full : empty cells (getD blocks i 0) ≡ false
+  unfolding empty square
+  name-full = rw (eqb-true (getD cells (getD blocks i 0) 0) 1 name-square) refl
+
+  name-own : getD blocks (getD blocks i 0) 0 ≡ getD blocks i 0
+  name-own = sym (label-linked g (square cells) i (getD blocks i 0) on (label-own g (square cells) i on sq))
+
+  name-on : getD blocks i 0 < size g
+  name-on = linked-size g (square cells) on (label-own g (square cells) i on sq)
+
+  name-kind : getD (kindsOf p cells blocks) (getD blocks i 0) vacant ≡ inBlock (getD blocks i 0)
+  unfolding kindsOf kindAt cellsOf upto
+  name-kind =
+      let z : 0 + getD blocks i 0 ≡ getD blocks i 0 = omega arith in
+      getD-map-range (kindAt p cells blocks) 0 (size g) (getD blocks i 0) vacant name-on
+      ∙ ap (kindAt p cells blocks) z
+      ∙ rw (name-full, name-square, name-own, in-arrow-block) refl
+
+  -- .. whose number says so
+  pub name-code : getD (kindArray (view p cells)) (getD (view p cells .blocks) i 0) 0 ≡ 1
+  unfolding kindArray view viewWith kindCode
+  name-code = array-at g 0 (λ j. kindCode (getD (kindsOf p cells blocks) j vacant)) 0 (getD blocks i 0) name-on ∙ rw name-kind refl
+
 -- the same by a scene
 module _ {h w : ℕ} {lines : List (List ℕ)} {cells arrows kinds owners : List ℕ} {from to : ℕ} (s : Scene h w lines cells arrows kinds owners from to) where
   -- a part of it
@@ -94,3 +122,10 @@ module _ {h w : ℕ} {lines : List (List ℕ)} {cells arrows kinds owners : List
     scene-name =
         rw scene-owner
         (name-inside (puzzleWith (sized h w) lines) (take (h * w) cells) (getD arrows k 0) (s .inside k p q) (square-taken cells (h * w) (getD arrows k 0) (s .inside k p q) ∙ sq) (s .on-arrow k p q))
+
+    -- the name is a cell of an arrow block
+    pub scene-kind : getD kinds (getD owners (getD arrows k 0) 0) 0 ≡ 1
+    unfolding size
+    scene-kind =
+        rw (scene-owner, s .held .kind)
+        (name-code (puzzleWith (sized h w) lines) (take (h * w) cells) (getD arrows k 0) (s .inside k p q) (square-taken cells (h * w) (getD arrows k 0) (s .inside k p q) ∙ sq) (s .on-arrow k p q))

@@ -12,6 +12,8 @@ use Rattle.board.specs.Board.{Literal, square}
 use Rattle.groups.specs.Arrows.{onArrow, Pair}
 use Rattle.kinds.specs.Kinds.{View, view, block, reach, fence, reachMask}
 use Rattle.reasons.specs.Reasons.{Found, given, each, mostApart, blockName, reasonGrow, reason3At, gap, reasonShrink, reason4At}
+use Rattle.kinds.specs.Chains.{Chains}
+use Rattle.kinds.specs.Near.{Sizes}
 use Rattle.reasons.specs.Arrays.{CellArray, linesOf}
 use Rattle.reasons.specs.Find.{findingBy, bufferBy}
 use Rattle.kinds.specs.Inside.{puzzleWith, Held}
@@ -66,11 +68,21 @@ pub record Fit (h w : ℕ) (buffer : List ℕ) : Type 0 where
   pub wide : w ≤ 32
   pub room : 3 * (h * w) + 1 ≤ length buffer
 
+-- the kinds are those of some board
+pub record Shown (h w : ℕ) (cells kinds owners : List ℕ) : Type 0 where
+  pub lines : List (List ℕ)
+  pub held : Held (viewOn h w lines cells) kinds owners
+
 -- the kinds are those of some board, and the reach of its arrow block f is marked
 pub record Seen (h w : ℕ) (cells kinds owners marks : List ℕ) (f : ℕ) : Type 0 where
   pub lines : List (List ℕ)
   pub held : Held (viewOn h w lines cells) kinds owners
   pub marked : marks ≡ reachMask (viewOn h w lines cells) f
+
+-- the cells of each owner are linked and counted
+pub record Grouped (owners head next sizes : List ℕ) (n : ℕ) : Type 0 where
+  pub chains : Chains owners head next n
+  pub counts : Sizes owners n sizes
 
 -- the kinds are those of some board, and the places from `from` up to `to` are those of one of its arrows
 pub record Line (h w : ℕ) (cells arrows kinds owners : List ℕ) (from to : ℕ) : Type 0 where

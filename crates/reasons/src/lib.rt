@@ -641,7 +641,25 @@ fn check_arrows(
         &mut kinds,
         &mut owners,
     );
-    pairs::search_pairs(cells, arrows, ends, number, &kinds, &owners, h, w, buffer)
+    let mut head = [0u16; 1024];
+    let mut next = [0u16; 1024];
+    let mut sizes = [0u16; 1024];
+    kinds::chain_cells(&owners, h * w, &mut head, &mut next);
+    kinds::near::count_cells(&owners, h * w, &mut sizes);
+    pairs::search_pairs(
+        cells,
+        arrows,
+        ends,
+        number,
+        &kinds,
+        &owners,
+        &head,
+        &next,
+        &sizes,
+        h,
+        w,
+        buffer,
+    )
 }
 
 // The first reason that applies, on the arrays of a board that is known to be well formed: for `find`, which has tested its board, and

@@ -1,59 +1,91 @@
-use Prim.Native.Nat.{ℕ, _-_, _≤_}
+use Prim.Native.Nat.{ℕ, _-_}
 use native.Mathlib.Omega.{arith}
-use mathlib.Core.Path.{_≡_, refl, sym, _∙_}
+use mathlib.Core.Path.{_≡_, refl, ap, _∙_}
 use mathlib.Core.Logic.{⊎-elim}
-use mathlib.Core.Bool.{true, false}
-use mathlib.Core.List.{List}
-use borrow.Author.Needs.{needs}
+use mathlib.Core.List.{List, [], _∷_, _++_}
 use lib.ListN.{length}
-use Rattle.grid.specs.Lists.{upto, range, filter}
-use Rattle.reasons.specs.Shift.{blockIn}
-use Rattle.reasons.proofs.Shifts.{in-few, in-count}
+use Rattle.grid.specs.Lists.{filter}
+use Rattle.kinds.specs.Chains.{Chains}
+use Rattle.reasons.proofs.ChainWalks.{Walk, walk-start, walk-few, walk-high, walk-more, walk-less, walk-end, blockOf, block-few, block-all, count-in, count-out}
+use borrow.Author.Needs.{needs}
 use Rattle.reasons.proofs.pairs.count_block.Statement.{statement}
 use Rattle.reasons.proofs.pairs.count_block.Tie as tie
 
--- the cells of the block below i are counted
+-- the cells of the block that were passed are counted
 record Amid (kinds owners : List ℕ) (n f count i : ℕ) : Type 0 where
-  high : i ≤ n
-  so-far : count ≡ length (blockIn kinds owners i f)
+  passed : List ℕ
+  walk : Walk owners n f passed i
+  so-far : count ≡ length (blockOf kinds passed)
 
 abbrev Inv-loop : tie.InvT-loop
-Inv-loop kinds owners n f count₀ i₀ count i = Amid kinds owners n f count i
+Inv-loop kinds head next f count₀ i₀ count i = (owners : List ℕ) (n : ℕ) → Chains owners head next n → Amid kinds owners n f count i
 
 abbrev μ-loop : tie.MeasureT-loop
-μ-loop kinds owners n f count₀ i₀ count i = n - i
+μ-loop kinds head next f count₀ i₀ count i = 1024 - i
+
+mul-i : tie.Need-mul-i Inv-loop μ-loop
+mul-i c = search needs
+
+element-copy-out-i : tie.Need-element-copy-out-i Inv-loop μ-loop
+element-copy-out-i c = search needs
+
+
+cast-i : tie.Need-cast-i Inv-loop μ-loop
+cast-i c = let s = c .before in let C = s .pre .0 .chains in omega (arith, walk-high C (s .args .f) (s .pre .1) (walk-start C (s .args .f) (s .pre .1)))
 
 loop-holds : tie.Need-loop-holds Inv-loop μ-loop
-unfolding blockIn upto range filter
-loop-holds c = record { high = omega arith; so-far = refl }
+unfolding filter
+loop-holds c = let s = c .before in λ owners n C. record { passed = []; walk = walk-start C (s .args .f) (s .pre .1); so-far = refl }
 
-in-block-requires : tie.Need-in-block-requires Inv-loop μ-loop
-in-block-requires c κs = omega (arith, c .loop-test .taken, c .before .before .pre)
+element-copy-out-if1 : tie.Need-element-copy-out-if1 Inv-loop μ-loop
+element-copy-out-if1 c = omega (arith, c .loop-test .taken)
 
 add-count : tie.Need-add-count Inv-loop μ-loop
 add-count c =
-    let s = c .before .before .before .loop in
-    let a = c .before .before .before .before in
-    omega (arith, s .inv .so-far, in-few 1 (a .args .kinds .now) (a .args .owners .now) (a .args .f) (s .i), c .before .before .loop-test .taken, a .pre)
+    let s = c .before .before .before .before .before in
+    let C = s .pre .0 .chains in
+    let I = c .before .before .before .loop .inv (s .pre .0 .owners) (s .pre .0 .size) C in
+    omega (arith, I .so-far, block-few (s .args .kinds .now) (I .passed), walk-few C (s .args .f) (s .pre .1) (I .walk) (c .before .before .loop-test .taken), c .before .before .loop-test .taken)
 
-add-i : tie.Need-add-i Inv-loop μ-loop
-add-i c = search needs
+mul-i-2 : tie.Need-mul-i-2 Inv-loop μ-loop
+mul-i-2 c = omega (arith, c .before .before .loop-test .taken)
+
+element-copy-out-i-2 : tie.Need-element-copy-out-i-2 Inv-loop μ-loop
+element-copy-out-i-2 c = omega (arith, c .before .before .loop-test .taken)
+
+cast-i-2 : tie.Need-cast-i-2 Inv-loop μ-loop
+cast-i-2 c =
+    let s = c .before .before .before .before .before .before in
+    let C = s .pre .0 .chains in
+    let I = c .before .before .before .before .loop .inv (s .pre .0 .owners) (s .pre .0 .size) C in
+    omega (arith, walk-high C (s .args .f) (s .pre .1) (walk-more C (s .args .f) (s .pre .1) (I .walk) (c .before .before .before .loop-test .taken)))
 
 loop-less : tie.Need-loop-less Inv-loop μ-loop
-loop-less c = search needs
+loop-less c =
+    let s = c .before .before .before .before .before .before in
+    let C = s .pre .0 .chains in
+    let I = c .before .before .before .before .loop .inv (s .pre .0 .owners) (s .pre .0 .size) C in
+    walk-less C (s .args .f) (s .pre .1) (I .walk) (c .before .before .before .loop-test .taken)
 
 loop-again : tie.Need-loop-again Inv-loop μ-loop
 loop-again c =
-    let s = c .before .before .before .loop in
-    let a = c .before .before .before .before .args in
-    let more = in-count 1 (a .kinds .now) (a .owners .now) (a .f) (s .i) in
-    record { high = omega (arith, c .before .before .loop-test .taken); so-far = ⊎-elim (λ v. omega (arith, v .1, s .inv .so-far, more true (sym (v .0 .taken) ∙ c .before .in-block .ensures))) (λ v. omega (arith, v .1, s .inv .so-far, more false (sym (v .0 .left) ∙ c .before .in-block .ensures))) (c .if1 .came) }
+    let s = c .before .before .before .before .before .before in
+    let l = c .before .before .before .before .loop in
+    λ owners n C.
+    let I = l .inv owners n C in
+    record {
+      passed = I .passed ++ (l .i ∷ []);
+      walk = walk-more C (s .args .f) (s .pre .1) (I .walk) (c .before .before .before .loop-test .taken);
+      so-far = ⊎-elim (λ v. omega (arith, v .1, I .so-far, count-in (s .args .kinds .now) (I .passed) (l .i) (v .0 .taken)))
+          (λ v. omega (arith, v .1, I .so-far, count-out (s .args .kinds .now) (I .passed) (l .i) (v .0 .left))) (c .before .if1 .came);
+    }
 
 returns : tie.Need-returns Inv-loop μ-loop
 returns c =
-    let s = c .before .loop in
-    let e : s .i ≡ c .before .before .args .n = omega (arith, c .loop-test .left, s .inv .high) in
-    rw (← e) (s .inv .so-far)
+    let s = c .before .before .before in
+    λ owners n C.
+    let I = c .before .loop .inv owners n C in
+    I .so-far ∙ ap length (ap (blockOf (s .args .kinds .now)) (walk-end C (s .args .f) (s .pre .1) (I .walk) (c .loop-test .left)) ∙ block-all (s .args .kinds .now) owners n (s .args .f))
 
 pub count-block-spec : {M : Type 1} → statement M
 count-block-spec =
@@ -61,10 +93,15 @@ count-block-spec =
     (tie.spec
     Inv-loop
     μ-loop
+    mul-i
+    element-copy-out-i
+    cast-i
     loop-holds
-    in-block-requires
+    element-copy-out-if1
     add-count
-    add-i
+    mul-i-2
+    element-copy-out-i-2
+    cast-i-2
     loop-less
     loop-again
     returns)

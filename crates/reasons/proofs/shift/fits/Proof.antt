@@ -1,36 +1,42 @@
-use Prim.Native.Nat.{ℕ, _-_, _/_, _%_, _≤_, _<_}
+use Prim.Native.Nat.{ℕ, _-_, _*_, _/_, _%_, _≤_, _<_}
 use native.Mathlib.Omega.{arith}
 use mathlib.Core.Path.{_≡_, sym, _∙_}
 use mathlib.Core.Bool.{Bool, false}
 use mathlib.Core.List.{List}
 use borrow.Author.Count.{below-none, below-more}
-use borrow.Author.Needs.{needs}
-use Rattle.grid.specs.Lists.{any, upto}
+use lib.ListN.{getD}
+use Rattle.grid.specs.Lists.{any}
 use Rattle.grid.specs.Side.{InPlace}
 use Rattle.grid.proofs.SideLaws.{in-place}
+use Rattle.kinds.specs.Chains.{cellsFrom}
+use Rattle.kinds.specs.Inside.{Limits, reachesAt}
 use Rattle.reasons.specs.Shift.{fitsAt}
-use Rattle.reasons.proofs.Shifts.{some-upto, none-upto, fits-view}
+use Rattle.reasons.proofs.ShiftChains.{fits-own, fits-float, fits-none}
+use borrow.Author.Needs.{needs}
 use Rattle.reasons.proofs.shift.fits.Statement.{statement}
 use Rattle.reasons.proofs.shift.fits.Tie as tie
 
--- some shift to a cell of row y fits
-abbrev test : ℕ → ℕ → List ℕ → List ℕ → ℕ → List ℕ → ℕ → ℕ → ℕ → Bool
-test h w rows columns count marks fy fx y = any (fitsAt h w rows columns count marks fy fx y) (upto w)
+-- some shift to a cell of the group m fits
+abbrev test : ℕ → ℕ → List ℕ → List ℕ → ℕ → List ℕ → List ℕ → List ℕ → ℕ → ℕ → ℕ → ℕ → Bool
+test h w rows columns count kinds owners near e fy fx m = any (fitsAt h w rows columns count (reachesAt kinds owners near e) fy fx) (cellsFrom owners (h * w) m 0)
 
--- none to one before row y does
-record Amid (h w : ℕ) (rows columns : List ℕ) (count : ℕ) (marks : List ℕ) (fy fx y : ℕ) : Type 0 where
-  high : y ≤ h
-  passed : (j : ℕ) → j < y → test h w rows columns count marks fy fx j ≡ false
+-- none to one of the first k groups does
+record Amid (total : ℕ) (groups : List ℕ) (test : ℕ → Bool) (k : ℕ) : Type 0 where
+  high : k ≤ total
+  passed : (j : ℕ) → j < k → test (getD groups j 0) ≡ false
 
 abbrev Inv-loop : tie.InvT-loop
-Inv-loop h w rows columns count marks f fy fx y₀ y = Amid h w rows columns count marks fy fx y
+Inv-loop h w rows columns count kinds owners head next near groups total e f fy fx k₀ k = Amid total groups (test h w rows columns count kinds owners near e fy fx) k
 
 abbrev μ-loop : tie.MeasureT-loop
-μ-loop h w rows columns count marks f fy fx y₀ y = h - y
+μ-loop h w rows columns count kinds owners head next near groups total e f fy fx k₀ k = total - k
 
 -- the first cell has a row and a column
 first : (c : tie.Start Inv-loop μ-loop) → InPlace (c .args .h) (c .args .w) (c .args .f / c .args .w) (c .args .f % c .args .w)
 first c = in-place (record { tall = c .pre .0 .tall; wide = c .pre .0 .wide; within = c .pre .1 })
+
+limits : (c : tie.Start Inv-loop μ-loop) → Limits (c .args .h) (c .args .w)
+limits c = record { tall = c .pre .0 .tall; wide = c .pre .0 .wide }
 
 div-fy : tie.Need-div-fy Inv-loop μ-loop
 div-fy c = omega (arith, first c .column)
@@ -38,34 +44,58 @@ div-fy c = omega (arith, first c .column)
 rem-fx : tie.Need-rem-fx Inv-loop μ-loop
 rem-fx c = omega (arith, first c .column)
 
-loop-holds : tie.Need-loop-holds Inv-loop μ-loop
-loop-holds c = record { high = omega arith; passed = below-none _ }
-
-fits-in-row-requires : tie.Need-fits-in-row-requires Inv-loop μ-loop
-fits-in-row-requires c κs = let p = c .before .before .pre in let q = first (c .before .before) in (p .0, q .row, q .column, c .loop-test .taken)
+fits-chain-requires : tie.Need-fits-chain-requires Inv-loop μ-loop
+fits-chain-requires c κs = let p = c .pre in (p .0, first c .row, first c .column, p .2, p .3)
 
 returns : tie.Need-returns Inv-loop μ-loop
 returns c =
-    let y = c .before .before .before .loop .y in
-    let n = c .before .before .before .before .args in
-    λ v e s b m. sym (some-upto (test (n .h) (n .w) (n .rows .now) (n .columns .now) (n .count) (n .marks .now) (n .f / n .w) (n .f % n .w)) (n .h) y (c .before .before .loop-test .taken) (sym (c .before .fits-in-row .ensures) ∙ c .if1 .taken)) ∙ fits-view (n .h) (n .w) v e (n .f) s b m
+    let s = c .before .before in
+    let a = s .args in
+    λ lines cells held floats arrow places. sym (fits-own (a .h) (a .w) (limits s) lines cells (a .e) (a .f) held floats arrow places (sym (c .before .fits-chain .ensures) ∙ c .if1 .taken))
 
-add-y : tie.Need-add-y Inv-loop μ-loop
-add-y c = search needs
+loop-holds : tie.Need-loop-holds Inv-loop μ-loop
+loop-holds c = record { high = omega arith; passed = below-none _ }
+
+mul-fits-chain : tie.Need-mul-fits-chain Inv-loop μ-loop
+mul-fits-chain c = omega (arith, c .loop-test .taken, c .before .before .before .before .pre .4 .few)
+
+element-copy-out-fits-chain : tie.Need-element-copy-out-fits-chain Inv-loop μ-loop
+element-copy-out-fits-chain c = omega (arith, c .loop-test .taken, c .before .before .before .before .pre .4 .few)
+
+fits-chain-requires-2 : tie.Need-fits-chain-requires-2 Inv-loop μ-loop
+fits-chain-requires-2 c κs =
+    let s = c .before .before .before .before .before in
+    let p = s .pre in
+    (p .0, first s .row, first s .column, p .2, p .4 .small (c .before .before .loop .k) (c .before .loop-test .taken))
+
+returns-2 : tie.Need-returns-2 Inv-loop μ-loop
+returns-2 c =
+    let s = c .before .before .before .before .before .before .before in
+    let a = s .args in
+    λ lines cells held floats arrow places.
+    sym (fits-float (a .h) (a .w) (limits s) lines cells (a .e) (a .f) held floats arrow places (sym (c .before .before .before .before .before .before .fits-chain .ensures) ∙ c .before .before .before .before .before .if1 .left)
+    (c .before .before .before .before .loop .k) (c .before .before .before .loop-test .taken) (sym (c .before .fits-chain2 .ensures) ∙ c .if2 .taken))
+
+add-k : tie.Need-add-k Inv-loop μ-loop
+add-k c = search needs
 
 loop-less : tie.Need-loop-less Inv-loop μ-loop
 loop-less c = search needs
 
+
 loop-again : tie.Need-loop-again Inv-loop μ-loop
 loop-again c =
-    let s = c .before .before .before .loop in
-    record { high = omega (arith, c .before .before .loop-test .taken); passed = below-more _ (s .y) (s .inv .passed) (sym (c .before .fits-in-row .ensures) ∙ c .if1 .left) }
+    let l = c .before .before .before .before .loop in
+    record { high = omega (arith, c .before .before .before .loop-test .taken); passed = below-more _ (l .k) (l .inv .passed) (sym (c .before .fits-chain2 .ensures) ∙ c .if2 .left) }
 
-returns-2 : tie.Need-returns-2 Inv-loop μ-loop
-returns-2 c =
+returns-3 : tie.Need-returns-3 Inv-loop μ-loop
+returns-3 c =
+    let s = c .before .before .before .before in
+    let a = s .args in
     let l = c .before .loop in
-    let n = c .before .before .args in
-    λ v e s b m. sym (none-upto (test (n .h) (n .w) (n .rows .now) (n .columns .now) (n .count) (n .marks .now) (n .f / n .w) (n .f % n .w)) (n .h) (λ j h. l .inv .passed j (omega (arith, c .loop-test .left, l .inv .high)))) ∙ fits-view (n .h) (n .w) v e (n .f) s b m
+    λ lines cells held floats arrow places.
+    sym (fits-none (a .h) (a .w) (limits s) lines cells (a .e) (a .f) held floats arrow places (sym (c .before .before .before .fits-chain .ensures) ∙ c .before .before .if1 .left)
+    (λ j h. l .inv .passed j (omega (arith, h, c .loop-test .left))))
 
 pub fits-spec : {M : Type 1} → statement M
 fits-spec =
@@ -75,10 +105,14 @@ fits-spec =
     μ-loop
     div-fy
     rem-fx
-    loop-holds
-    fits-in-row-requires
+    fits-chain-requires
     returns
-    add-y
+    loop-holds
+    mul-fits-chain
+    element-copy-out-fits-chain
+    fits-chain-requires-2
+    returns-2
+    add-k
     loop-less
     loop-again
-    returns-2)
+    returns-3)

@@ -1,66 +1,58 @@
-use Prim.Native.Nat.{_<_}
+use Prim.Native.Nat.{_/_, _%_, _<_}
 use native.Mathlib.Omega.{arith}
-use mathlib.Core.Path.{refl}
-use borrow.Author.Tests.{eq-eqb, ne-eqb}
 use mir.Syntax.{w32}
 use mir.ValLaws.{toZ-ofZ}
-use Rattle.grid.proofs.SideLaws.{index-small}
+use Rattle.grid.specs.Side.{InPlace}
+use Rattle.grid.proofs.SideLaws.{in-place}
 use Rattle.grid.proofs.ShiftLaws.{way-small}
 use Rattle.reasons.specs.Shift.{fitsAt}
 use borrow.Author.Needs.{needs}
 use Rattle.reasons.proofs.shift.fits_at.Statement.{statement}
 use Rattle.reasons.proofs.shift.fits_at.Tie as tie
 
-mul-if1 : tie.Need-mul-if1
-mul-if1 c = let p = c .pre in omega (arith, index-small (c .args .y) (c .args .x) (p .0 .tall) (p .0 .wide) (p .3) (p .4))
+-- cell t has a row and a column
+place : (c : tie.Start) → InPlace (c .args .h) (c .args .w) (c .args .t / c .args .w) (c .args .t % c .args .w)
+place c = in-place (record { tall = c .pre .0 .tall; wide = c .pre .0 .wide; within = c .pre .3 })
 
-add-if1 : tie.Need-add-if1
-add-if1 c = let p = c .pre in omega (arith, index-small (c .args .y) (c .args .x) (p .0 .tall) (p .0 .wide) (p .3) (p .4))
-
-element-copy-out-if1 : tie.Need-element-copy-out-if1
-element-copy-out-if1 c = let p = c .pre in omega (arith, index-small (c .args .y) (c .args .x) (p .0 .tall) (p .0 .wide) (p .3) (p .4))
-
-returns : tie.Need-returns
-unfolding fitsAt
-returns c = rw (ne-eqb _ _ (c .if1 .taken)) refl
+div-offset : tie.Need-div-offset
+div-offset c = omega (arith, place c .column)
 
 offset-requires : tie.Need-offset-requires
-offset-requires c κs = search needs
+offset-requires c κs = (omega (arith, c .pre .1, c .pre .0 .tall), omega (arith, place c .row, c .pre .0 .tall))
+
+rem-offset : tie.Need-rem-offset
+rem-offset c = omega (arith, place (c .before) .column)
 
 offset-requires-2 : tie.Need-offset-requires-2
-offset-requires-2 c κs = search needs
+offset-requires-2 c κs = let s = c .before in (omega (arith, s .pre .2, s .pre .0 .wide), omega (arith, place s .column, s .pre .0 .wide))
 
 fits-by-requires : tie.Need-fits-by-requires
 fits-by-requires c κs =
-    let a = c .before .before .before .before in
-    let p = a .pre in
+    let s = c .before .before in
+    let a = s .args in
+    let p = s .pre in
+    let q = place s in
     let ey = toZ-ofZ w32 (c .before .offset .result) (record { sfits = c .before .offset .ok }) in
-    let ex = toZ-ofZ w32 (c .offset2 .result) (record { sfits = c .offset2 .ok }) in
-    let fy< : a .args .fy < 1024 = omega arith in
-    let fx< : a .args .fx < 1024 = omega arith in
-    let y< : a .args .y < 1024 = omega arith in
-    let x< : a .args .x < 1024 = omega arith in (
+    let ex = toZ-ofZ w32 (c .offset2 .result) (record { sfits = c .offset2 .ok }) in (
       p .0,
-      rw (ey, c .before .offset .ensures) (search (way-small, needs)),
-      rw (ex, c .offset2 .ensures) (search (way-small, needs)),
+      rw (ey, c .before .offset .ensures) (way-small (a .fy) (a .t / a .w) (omega (arith, p .1, p .0 .tall)) (omega (arith, q .row, p .0 .tall))),
+      rw (ex, c .offset2 .ensures) (way-small (a .fx) (a .t % a .w) (omega (arith, p .2, p .0 .wide)) (omega (arith, q .column, p .0 .wide))),
     )
 
-returns-2 : tie.Need-returns-2
+returns : tie.Need-returns
 unfolding fitsAt
-returns-2 c =
+returns c =
     let ey = toZ-ofZ w32 (c .before .before .offset .result) (record { sfits = c .before .before .offset .ok }) in
     let ex = toZ-ofZ w32 (c .before .offset2 .result) (record { sfits = c .before .offset2 .ok }) in
-    rw (eq-eqb _ _ (c .before .before .before .if1 .left)) (rw (ey, ex, c .before .before .offset .ensures, c .before .offset2 .ensures) at (c .fits-by .ensures))
+    rw (ey, ex, c .before .before .offset .ensures, c .before .offset2 .ensures) at (c .fits-by .ensures)
 
 pub fits-at-spec : {M : Type 1} → statement M
 fits-at-spec =
     tie.close
     (tie.spec
-    mul-if1
-    add-if1
-    element-copy-out-if1
-    returns
+    div-offset
     offset-requires
+    rem-offset
     offset-requires-2
     fits-by-requires
-    returns-2)
+    returns)

@@ -12,25 +12,26 @@ use borrow.Author.Tests.{not-true, not-false}
 use lib.IntN.{ℤ}
 use lib.ListN.{getD}
 use Rattle.grid.specs.Side.{shiftedOf}
-use Rattle.reasons.specs.Shift.{marked, allMarked}
+use Rattle.kinds.specs.Inside.{reachesAt}
+use Rattle.reasons.specs.Shift.{landsIn, allLand}
 use Rattle.reasons.proofs.Shifts.{all-upto, not-all}
 use Rattle.reasons.proofs.shift.fits_by.Statement.{statement}
 use Rattle.reasons.proofs.shift.fits_by.Tie as tie
 
--- the cell at place k comes to a marked cell
-abbrev test : ℕ → ℕ → List ℕ → List ℕ → List ℕ → ℤ → ℤ → ℕ → Bool
-test h w rows columns marks dy dx k = marked marks (shiftedOf h w (getD rows k 0) (getD columns k 0) dy dx)
+-- the cell at place k comes into the reach
+abbrev test : ℕ → ℕ → List ℕ → List ℕ → (ℕ → Bool) → ℤ → ℤ → ℕ → Bool
+test h w rows columns reached dy dx k = landsIn reached (shiftedOf h w (getD rows k 0) (getD columns k 0) dy dx)
 
 -- so do those before it
-record Amid (h w : ℕ) (rows columns : List ℕ) (count : ℕ) (marks : List ℕ) (dy dx : ℤ) (k : ℕ) : Type 0 where
+record Amid (h w : ℕ) (rows columns : List ℕ) (count : ℕ) (reached : ℕ → Bool) (dy dx : ℤ) (k : ℕ) : Type 0 where
   high : k ≤ count
-  passed : (j : ℕ) → j < k → test h w rows columns marks dy dx j ≡ true
+  passed : (j : ℕ) → j < k → test h w rows columns reached dy dx j ≡ true
 
 abbrev Inv-loop : tie.InvT-loop
-Inv-loop h w rows columns count marks dy dx k₀ k = Amid h w rows columns count marks (toZ w32 dy) (toZ w32 dx) k
+Inv-loop h w rows columns count kinds owners near e dy dx k₀ k = Amid h w rows columns count (reachesAt kinds owners near e) (toZ w32 dy) (toZ w32 dx) k
 
 abbrev μ-loop : tie.MeasureT-loop
-μ-loop h w rows columns count marks dy dx k₀ k = count - k
+μ-loop h w rows columns count kinds owners near e dy dx k₀ k = count - k
 
 loop-holds : tie.Need-loop-holds Inv-loop μ-loop
 loop-holds c = record { high = omega arith; passed = below-none _ }
@@ -70,12 +71,12 @@ lands-in-requires c κs =
     )
 
 returns : tie.Need-returns Inv-loop μ-loop
-unfolding allMarked
+unfolding allLand
 returns c =
     let a = c .before .before .before .before .before .before .before .before in
     let k = c .before .before .before .before .before .before .before .loop .k in
     let out = rw (c .before .before .before .before .wide .ensures, c .before .before .wide2 .ensures, toZ-ofZ w32 (a .args .dy) (a .fits .dy), toZ-ofZ w32 (a .args .dx) (a .fits .dx)) at (c .before .lands-in .ensures) in
-    sym (not-all (test (a .args .h) (a .args .w) (a .args .rows .now) (a .args .columns .now) (a .args .marks .now) (a .args .dy) (a .args .dx)) (a .args .count) k
+    sym (not-all (test (a .args .h) (a .args .w) (a .args .rows .now) (a .args .columns .now) (reachesAt (a .args .kinds .now) (a .args .owners .now) (a .args .near .now) (a .args .e)) (a .args .dy) (a .args .dx)) (a .args .count) k
     (c .before .before .before .before .before .before .loop-test .taken) (sym out ∙ not-true _ (c .if1 .taken)))
 
 add-k : tie.Need-add-k Inv-loop μ-loop
@@ -92,12 +93,12 @@ loop-again c =
     record { high = omega (arith, c .before .before .before .before .before .before .loop-test .taken); passed = below-more _ (s .k) (s .inv .passed) (sym inside ∙ not-false _ (c .if1 .left)) }
 
 returns-2 : tie.Need-returns-2 Inv-loop μ-loop
-unfolding allMarked
+unfolding allLand
 returns-2 c =
     let a = c .before .before in
     let s = c .before .loop in
     let e : s .k ≡ a .args .count = omega (arith, c .loop-test .left, s .inv .high) in
-    sym (all-upto (test (a .args .h) (a .args .w) (a .args .rows .now) (a .args .columns .now) (a .args .marks .now) (a .args .dy) (a .args .dx)) (a .args .count)
+    sym (all-upto (test (a .args .h) (a .args .w) (a .args .rows .now) (a .args .columns .now) (reachesAt (a .args .kinds .now) (a .args .owners .now) (a .args .near .now) (a .args .e)) (a .args .dy) (a .args .dx)) (a .args .count)
     (λ j h. rw (toZ-ofZ w32 (a .args .dy) (a .fits .dy), toZ-ofZ w32 (a .args .dx) (a .fits .dx)) at (s .inv .passed j (omega arith))))
 
 pub fits-by-spec : {M : Type 1} → statement M

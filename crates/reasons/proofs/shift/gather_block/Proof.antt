@@ -1,65 +1,107 @@
-use Prim.Native.Nat.{ℕ, _-_, _≤_}
+use Prim.Native.Nat.{ℕ, _-_}
 use native.Mathlib.Omega.{arith}
-use mathlib.Core.Path.{_≡_, subst}
-use mathlib.Core.List.{List}
+use mathlib.Core.Path.{_≡_, ap, subst, _∙_}
+use mathlib.Core.List.{List, [], _∷_, _++_}
+use lib.Dec.{eqb}
+use lib.ListN.{getD}
+use Rattle.grid.specs.Lists.{filter}
+use Rattle.kinds.specs.Chains.{Chains}
+use Rattle.reasons.specs.Shift.{Gathered}
+use Rattle.reasons.proofs.ChainWalks.{Walk, walk-start, walk-few, walk-high, walk-more, walk-less, walk-end, blockOf, block-more, block-few, block-all}
+use Rattle.reasons.proofs.Shifts.{gathered-none, gathered-more}
 use borrow.Author.Needs.{needs}
-use Rattle.reasons.specs.Shift.{blockIn, Gathered}
-use Rattle.reasons.proofs.Shifts.{gathered-none, gathered-more, in-few}
 use Rattle.reasons.proofs.shift.gather_block.Statement.{statement}
 use Rattle.reasons.proofs.shift.gather_block.Tie as tie
 
--- the cells of the block below i are gathered
+-- the cells of the block that were passed are gathered
 record Amid (kinds owners : List ℕ) (n w f : ℕ) (rows₀ columns₀ rows columns : List ℕ) (count i : ℕ) : Type 0 where
-  high : i ≤ n
-  so-far : Gathered w (blockIn kinds owners i f) rows₀ columns₀ rows columns count
+  passed : List ℕ
+  walk : Walk owners n f passed i
+  so-far : Gathered w (blockOf kinds passed) rows₀ columns₀ rows columns count
 
 abbrev Inv-loop : tie.InvT-loop
-Inv-loop kinds owners n w f rows₀ columns₀ count₀ i₀ rows columns count i = Amid kinds owners n w f rows₀ columns₀ rows columns count i
+Inv-loop kinds head next w f rows₀ columns₀ count₀ i₀ rows columns count i =
+    (owners : List ℕ) (n : ℕ) → Chains owners head next n → Amid kinds owners n w f rows₀ columns₀ rows columns count i
 
 abbrev μ-loop : tie.MeasureT-loop
-μ-loop kinds owners n w f rows₀ columns₀ count₀ i₀ rows columns count i = n - i
+μ-loop kinds head next w f rows₀ columns₀ count₀ i₀ rows columns count i = 1024 - i
+
+mul-i : tie.Need-mul-i Inv-loop μ-loop
+mul-i c = search needs
+
+element-copy-out-i : tie.Need-element-copy-out-i Inv-loop μ-loop
+element-copy-out-i c = search needs
+
+
+cast-i : tie.Need-cast-i Inv-loop μ-loop
+cast-i c = let s = c .before in let C = s .pre .0 .chains in omega (arith, walk-high C (s .args .f) (s .pre .1) (walk-start C (s .args .f) (s .pre .1)))
 
 loop-holds : tie.Need-loop-holds Inv-loop μ-loop
+unfolding filter
 loop-holds c =
-    let a = c .args in
-    record { high = omega arith; so-far = gathered-none (a .w) (a .kinds .now) (a .owners .now) (a .f) (a .rows .now) (a .columns .now) }
+    let s = c .before in
+    λ owners n C. record { passed = []; walk = walk-start C (s .args .f) (s .pre .1); so-far = gathered-none (s .args .w) (s .args .rows .now) (s .args .columns .now) }
 
-in-block-requires : tie.Need-in-block-requires Inv-loop μ-loop
-in-block-requires c κs = omega (arith, c .loop-test .taken, c .before .before .pre .0)
+element-copy-out-keep-place : tie.Need-element-copy-out-keep-place Inv-loop μ-loop
+element-copy-out-keep-place c = omega (arith, c .before .before .loop-test .taken)
 
 keep-place-requires : tie.Need-keep-place-requires Inv-loop μ-loop
 keep-place-requires c κs =
-    let a = c .before .before .before .before .before in
-    let s = c .before .before .before .before .loop in
-    let few = in-few (a .args .w) (a .args .kinds .now) (a .args .owners .now) (a .args .f) (s .i) in
-    let i< = c .before .before .before .loop-test .taken in
-    (omega (arith, few, s .inv .so-far .many, i<, a .pre .0), a .pre .1, omega (arith, i<, a .pre .0))
+    let s = c .before .before .before .before .before .before in
+    let C = s .pre .0 .chains in
+    let I = c .before .before .before .before .loop .inv (s .pre .0 .owners) (s .pre .0 .size) C in
+    let taken = c .before .before .before .loop-test .taken in
+    (omega (arith, I .so-far .many, block-few (s .args .kinds .now) (I .passed), walk-few C (s .args .f) (s .pre .1) (I .walk) taken, taken), s .pre .2, taken)
 
-add-i : tie.Need-add-i Inv-loop μ-loop
-add-i c = search needs
+mul-i-2 : tie.Need-mul-i-2 Inv-loop μ-loop
+mul-i-2 c = omega (arith, c .before .before .before .before .loop-test .taken)
+
+element-copy-out-i-2 : tie.Need-element-copy-out-i-2 Inv-loop μ-loop
+element-copy-out-i-2 c = omega (arith, c .before .before .before .before .loop-test .taken)
+
+cast-i-2 : tie.Need-cast-i-2 Inv-loop μ-loop
+cast-i-2 c =
+    let s = c .before .before .before .before .before .before .before .before in
+    let C = s .pre .0 .chains in
+    let I = c .before .before .before .before .before .before .loop .inv (s .pre .0 .owners) (s .pre .0 .size) C in
+    omega (arith, walk-high C (s .args .f) (s .pre .1) (walk-more C (s .args .f) (s .pre .1) (I .walk) (c .before .before .before .before .before .loop-test .taken)))
 
 loop-less : tie.Need-loop-less Inv-loop μ-loop
-loop-less c = search needs
+loop-less c =
+    let s = c .before .before .before .before .before .before .before .before in
+    let C = s .pre .0 .chains in
+    let I = c .before .before .before .before .before .before .loop .inv (s .pre .0 .owners) (s .pre .0 .size) C in
+    walk-less C (s .args .f) (s .pre .1) (I .walk) (c .before .before .before .before .before .loop-test .taken)
 
 loop-again : tie.Need-loop-again Inv-loop μ-loop
 loop-again c =
-    let a = c .before .before .before .before .before .before in
-    let s = c .before .before .before .before .before .loop in
-    let few = in-few (a .args .w) (a .args .kinds .now) (a .args .owners .now) (a .args .f) (s .i) in
-    let i< = c .before .before .before .before .loop-test .taken in
+    let s = c .before .before .before .before .before .before .before .before in
+    let a = s .args in
+    let l = c .before .before .before .before .before .before .loop in
+    let taken = c .before .before .before .before .before .loop-test .taken in
+    let kept = c .before .keep-place .ensures in
+    λ owners n C.
+    let I = l .inv owners n C in
+    let few = walk-few C (a .f) (s .pre .1) (I .walk) taken in
     record {
-      high = omega (arith, i<);
-      so-far = gathered-more (a .args .w) (a .args .kinds .now) (a .args .owners .now) (a .args .f) (s .i) (s .inv .so-far)
-          (omega (arith, few, s .inv .so-far .many, i<, a .pre .0, a .pre .2)) (omega (arith, few, s .inv .so-far .many, i<, a .pre .0, a .pre .3))
-          (c .before .before .before .in-block .ensures) (c .keep-place .ensures .0) (c .keep-place .ensures .1) (c .keep-place .ensures .2);
+      passed = I .passed ++ (l .i ∷ []);
+      walk = walk-more C (a .f) (s .pre .1) (I .walk) taken;
+      so-far = rw (block-more (a .kinds .now) (I .passed) (l .i))
+          (gathered-more (a .w) (blockOf (a .kinds .now) (I .passed)) (l .i) (I .so-far)
+          (omega (arith, I .so-far .many, block-few (a .kinds .now) (I .passed), few, taken, s .pre .3))
+          (omega (arith, I .so-far .many, block-few (a .kinds .now) (I .passed), few, taken, s .pre .4))
+          (eqb (getD (a .kinds .now) (l .i) 0) 1) (kept .0) (kept .1) (kept .2));
     }
 
 returns : tie.Need-returns Inv-loop μ-loop
 returns c =
-    let a = c .before .before .args in
-    let s = c .before .loop in
-    let e : s .i ≡ a .n = omega (arith, c .loop-test .left, s .inv .high) in
-    subst (λ (k : ℕ). Gathered (a .w) (blockIn (a .kinds .now) (a .owners .now) k (a .f)) (a .rows .now) (a .columns .now) (s .rows) (s .columns) (s .count)) e (s .inv .so-far)
+    let s = c .before .before .before in
+    let a = s .args in
+    let l = c .before .loop in
+    λ owners n C.
+    let I = l .inv owners n C in
+    subst (λ (b : List ℕ). Gathered (a .w) b (a .rows .now) (a .columns .now) (l .rows) (l .columns) (l .count))
+    (ap (blockOf (a .kinds .now)) (walk-end C (a .f) (s .pre .1) (I .walk) (c .loop-test .left)) ∙ block-all (a .kinds .now) owners n (a .f)) (I .so-far)
 
 pub gather-block-spec : {M : Type 1} → statement M
 gather-block-spec =
@@ -67,10 +109,15 @@ gather-block-spec =
     (tie.spec
     Inv-loop
     μ-loop
+    mul-i
+    element-copy-out-i
+    cast-i
     loop-holds
-    in-block-requires
+    element-copy-out-keep-place
     keep-place-requires
-    add-i
+    mul-i-2
+    element-copy-out-i-2
+    cast-i-2
     loop-less
     loop-again
     returns)

@@ -3,12 +3,7 @@ use mathlib.Core.Path.{refl, sym, _∙_}
 use mir.Syntax.{w32}
 use mir.ValLaws.{toZ-ofZ}
 use Rattle.grid.proofs.SideLaws.{area}
-use Rattle.reasons.specs.Shift.{marked}
-use Rattle.reasons.proofs.Shifts.{shifted-inside}
-use native.Mathlib.Omega.{arith}
-use mathlib.Core.Path.{refl, sym}
-use Rattle.grid.proofs.SideLaws.{area}
-use Rattle.reasons.specs.Shift.{marked}
+use Rattle.reasons.specs.Shift.{landsIn}
 use Rattle.reasons.proofs.Shifts.{shifted-inside}
 use borrow.Author.Needs.{needs}
 use Rattle.reasons.proofs.shift.lands_in.Statement.{statement}
@@ -20,8 +15,8 @@ shifted-requires c κs = search needs
 enum-known-side : tie.Need-enum-known-side
 enum-known-side c = search needs
 
-element-copy-out-result : tie.Need-element-copy-out-result
-element-copy-out-result c =
+reached-requires : tie.Need-reached-requires
+reached-requires c κs =
     let a = c .before .before .before .before in
     let n = a .args in
     let ey = toZ-ofZ w32 (n .dy) (a .fits .dy) in
@@ -33,17 +28,17 @@ enum-told : tie.Need-enum-told
 enum-told c = search needs
 
 returns : tie.Need-returns
-unfolding marked
+unfolding landsIn
 returns c =
     let a = c .before .before .before .before .before in
     let n = a .args in
     let ey = toZ-ofZ w32 (n .dy) (a .fits .dy) in
     let ex = toZ-ofZ w32 (n .dx) (a .fits .dx) in
     let found = rw (ey, ex) at (sym (c .before .before .before .before .shifted .ensures) ∙ c .before .before .side .given .1) in
-    rw found refl
+    rw found (c .reached .ensures)
 
 returns-2 : tie.Need-returns-2
-unfolding marked
+unfolding landsIn
 returns-2 c =
     let a = c .before .before .before in
     let n = a .args in
@@ -55,4 +50,4 @@ returns-2 c =
 pub lands-in-spec : {M : Type 1} → statement M
 lands-in-spec =
     tie.close
-    (tie.spec shifted-requires enum-known-side element-copy-out-result enum-told returns returns-2)
+    (tie.spec shifted-requires enum-known-side reached-requires enum-told returns returns-2)
