@@ -18,13 +18,14 @@ use Rattle.record.specs.Record.{Puzzle}
 use Rattle.record.specs.Valid.{Fresh, Valid}
 use Rattle.record.specs.Problem.{problemOf, puzzleOf, gridOf}
 use Rattle.record.proofs.FreshLaws.{fresh-length}
+use Rattle.form.specs.Form.{long, behind, fresh, problemFormed, shown, stated, ordered}
+use Rattle.form.proofs.ArrayTests.{behind-kept, kept-behind, fresh-is, is-fresh}
+use Rattle.form.proofs.ProblemForm.{Formed, formed-is, is-formed, formed-again, valid-formed, size-most}
 use Rattle.board.specs.declared.Board.{Board}
 use Rattle.board.specs.Board.{Literal, valueAt, cellsAfter, decided}
 use Rattle.board.specs.Kept.{boardOf}
-use Rattle.board.specs.Form.{long, behind, fresh, problemFormed, shown, stated, ordered, wellFormed}
+use Rattle.board.specs.Form.{wellFormed}
 use Rattle.board.proofs.Standing.{Standing, none, more, index, standing-low, standing-distinct, cell-value}
-use Rattle.board.proofs.ArrayTests.{behind-kept, kept-behind, fresh-is, is-fresh}
-use Rattle.board.proofs.ProblemForm.{Formed, formed-is, is-formed, formed-again, valid-formed, size-most}
 
 -- ---- decisions on listed cells
 

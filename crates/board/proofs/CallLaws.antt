@@ -22,14 +22,15 @@ use Rattle.record.specs.Problem.{problemOf, puzzleOf, gridOf, numberOf, blank}
 use Rattle.record.specs.declared.Answer.the-variants.{Done}
 use Rattle.record.proofs.RecordLaws.{record-valid}
 use Rattle.record.proofs.WriteLaws.{round-trip, written-bytes}
+use Rattle.form.specs.Form.{problemFormed, sized}
+use Rattle.form.proofs.ProblemForm.{size-most, formed-valid}
 use Rattle.board.specs.declared.Board.{Board}
 use Rattle.board.specs.Board.{Literal, valueAt, cellsAfter, Call, decide, undo, find, decided, after, refusal, afterAll, SameCells, SameDecisions}
 use Rattle.board.specs.Kept.{boardOf, opening, openOf, blankBoard}
-use Rattle.board.specs.Form.{wellFormed, problemFormed, sized}
+use Rattle.board.specs.Form.{wellFormed}
 use Rattle.board.specs.Decide.{area, decideRefusal, undoRefusal, placed, removed, answered, decideOf, undoOf}
 use Rattle.board.specs.Calls.{left, leftAll, Leaves, standing, AfterCalls}
 use Rattle.board.proofs.Standing.{Standing, none, more, index, init-snoc, after-standing, standing-low, cell-value, calls-standing, standing-calls, same-board}
-use Rattle.board.proofs.ProblemForm.{size-most, formed-valid}
 use Rattle.board.proofs.BoardForm.{whole-is, is-whole, decisionsOf, whole-standing, whole-again, standing-whole, standing-length, cell-shown, value-listed, value-free}
 
 -- ---- one more decision, and one less

@@ -16,6 +16,7 @@ use Rattle.record.specs.Problem.{puzzleOf, gridOf}
 use Rattle.record.specs.declared.Problem.{Problem}
 use Rattle.record.specs.declared.Answer.{Answer}
 use Rattle.record.specs.declared.Answer.the-variants.{Done, Refused}
+use Rattle.form.proofs.ProblemForm.{formed-valid}
 use Rattle.board.specs.declared.Board.{Board}
 use Rattle.board.specs.declared.Decided.{Decided}
 use Rattle.board.specs.Board.{decide}
@@ -23,7 +24,6 @@ use Rattle.board.specs.Form.{wellFormed}
 use Rattle.board.specs.Decide.{area, placed, decideOf, refusedWith, onward, decideFrom, decideAllOf}
 use Rattle.board.specs.Inside.{Placing, bits, off, twice, put, held, allPlaced}
 use Rattle.board.proofs.Standing.{Standing, after-standing}
-use Rattle.board.proofs.ProblemForm.{formed-valid}
 use Rattle.board.proofs.BoardForm.{whole-is, decisionsOf, whole-standing, whole-again}
 use Rattle.board.proofs.CallLaws.{standing-well, decide-left}
 use Rattle.board.proofs.Answers.{decide-7, decide-9, decide-done}

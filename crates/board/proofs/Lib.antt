@@ -1,12 +1,7 @@
 pub mod BoardLaws
 pub mod Standing
-pub mod ArrayTests
-pub mod ProblemForm
 pub mod BoardForm
 pub mod CallLaws
-pub mod Passes
-pub mod Marking
-pub mod Steps
 pub mod Verdicts
 pub mod Answers
 pub mod Fold

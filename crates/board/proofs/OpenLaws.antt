@@ -13,10 +13,10 @@ use Rattle.record.specs.declared.Problem.{Problem}
 use Rattle.record.specs.declared.Reading.{Reading}
 use Rattle.record.specs.declared.Answer.{Answer}
 use Rattle.record.proofs.RecordLaws.{record-valid}
+use Rattle.form.proofs.ProblemForm.{size-most}
 use Rattle.board.specs.declared.Opened.{Opened}
 use Rattle.board.specs.Board.{valueAt, cellsAfter}
 use Rattle.board.specs.Kept.{boardOf, blankBoard, opening, openOf}
-use Rattle.board.proofs.ProblemForm.{size-most}
 
 -- an answer beside a board of the problem with nothing decided
 abbrev fresh : Answer → Problem → Opened

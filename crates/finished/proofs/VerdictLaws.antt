@@ -18,12 +18,12 @@ use Rattle.grid.proofs.ListLaws.{all-mem, mem-all, mem-upto, upto-mem, so-false
 use Rattle.record.specs.Problem.{puzzleOf, gridOf}
 use Rattle.record.specs.Valid.{Valid}
 use Rattle.record.proofs.LineLaws.{valid-arrows}
+use Rattle.form.proofs.ProblemForm.{formed-valid, size-most}
 use Rattle.board.specs.Board.{Literal, undecided}
 use Rattle.board.specs.Form.{wellFormed}
 use Rattle.board.specs.declared.Board.{Board}
 use Rattle.board.proofs.BoardLaws.{ValidCells, un-below}
 use Rattle.board.proofs.BoardForm.{whole-is}
-use Rattle.board.proofs.ProblemForm.{formed-valid, size-most}
 use Rattle.groups.specs.Rules.{BlockRules, rulesTest}
 use Rattle.groups.proofs.RulesLaws.{rules-test, test-rules}
 use Rattle.kinds.proofs.Bridge.{Setting}

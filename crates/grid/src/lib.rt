@@ -27,6 +27,13 @@ pub struct Around {
 // Up, down, left, right, each as a row and a column offset.
 const OFFSETS: [[i32; 2]; 4] = [[-1, 0], [1, 0], [0, -1], [0, 1]];
 
+// A number of an array, as an index.
+pub fn wide(x: u16) -> usize
+    ensures { λ r. ⌜ r ≡ x ⌝ }
+{
+    x as usize
+}
+
 // The place `d` steps on, if it is not before the first and is below `limit`.
 fn moved(at: usize, d: i32, limit: usize) -> Step
     requires { ⌜ (at < 1024) × (mag d < 1024) ⌝ }

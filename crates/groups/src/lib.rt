@@ -13,13 +13,6 @@ use grid::Side;
 // The label of a cell that is in no group.
 pub const NO_GROUP: u16 = 1024;
 
-// A cell as an index.
-fn wide(x: u16) -> usize
-    ensures { λ r. ⌜ r ≡ x ⌝ }
-{
-    x as usize
-}
-
 // Whether cell i is to be in a group: in a potential group if it isn't empty, in a block if it is a
 // square.
 fn is_check_cell(cells: &[u8; 1024], is_potential: bool, i: usize) -> bool
@@ -99,7 +92,7 @@ fn spread(
     ensures { λ r. ⌜ Spread (sized h w) (counts «is_potential» (now (cells .entry))) s (now (labels .entry)) (now (stack .entry)) count (now (labels .exit)) (now (stack .exit)) r ⌝ }
 {
     let mut waiting = count - 1;
-    let i = wide(stack[waiting]);
+    let i = grid::wide(stack[waiting]);
     let y = i / w;
     let x = i % w;
     for k in 0..4 {
@@ -170,7 +163,7 @@ pub fn mark_arrow_cells(arrows: &[u16; 1024], total: usize, marks: &mut [u8; 102
 {
     *marks = [0u8; 1024];
     for k in 0..total {
-        let i = wide(arrows[k]);
+        let i = grid::wide(arrows[k]);
         marks[i] = 1;
     }
 }

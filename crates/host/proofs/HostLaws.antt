@@ -17,6 +17,7 @@ use Rattle.record.specs.declared.Problem.{Problem}
 use Rattle.record.specs.declared.Answer.{Answer}
 use Rattle.record.specs.declared.Answer.the-variants.{Done, Refused}
 use Rattle.record.proofs.RecordLaws.{record-valid}
+use Rattle.form.proofs.ProblemForm.{size-most}
 use Rattle.board.specs.Board.{Literal, decide, after, refusal}
 use Rattle.board.specs.Form.{wellFormed}
 use Rattle.board.specs.Kept.{boardOf, opening, openOf}
@@ -25,7 +26,6 @@ use Rattle.board.specs.Inside.{held, allPlaced}
 use Rattle.board.specs.declared.Board.{Board}
 use Rattle.board.specs.declared.Decided.{Decided}
 use Rattle.board.specs.declared.Opened.{Opened}
-use Rattle.board.proofs.ProblemForm.{size-most}
 use Rattle.board.proofs.Standing.{Standing, none, after-standing}
 use Rattle.board.proofs.CallLaws.{standing-well, decide-number, decide-left}
 use Rattle.kinds.specs.Inside.{puzzleWith}

@@ -22,10 +22,11 @@ use Rattle.record.specs.Problem.{arrowCells, endsFrom, problemOf, puzzleOf, gri
 use Rattle.record.specs.declared.Problem.{Problem}
 use Rattle.record.proofs.FreshLaws.{arrows-size, one-length, arrows-length}
 use Rattle.record.proofs.ProblemLaws.{length-ends, problem-puzzle}
-use Rattle.board.specs.Form.{rises, ended, behind, wellFormed}
+use Rattle.form.specs.Form.{rises, ended, behind}
+use Rattle.board.specs.Form.{wellFormed}
 use Rattle.board.specs.declared.Board.{Board}
 use Rattle.board.proofs.BoardForm.{whole-is}
-use Rattle.board.proofs.ProblemForm.{Formed, valid-formed, formed-valid, formed-again, size-most, rises-last}
+use Rattle.form.proofs.ProblemForm.{Formed, valid-formed, formed-valid, formed-again, size-most, rises-last}
 use Rattle.kinds.specs.Kinds.{arrowBlock, blocksBeside, kindAt, kindsOf, view, viewWith}
 use Rattle.kinds.specs.Inside.{puzzleWith}
 use Rattle.reasons.specs.declared.Finding.{Finding}

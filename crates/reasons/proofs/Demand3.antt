@@ -26,7 +26,7 @@ use Rattle.board.specs.Calls.{leftAll, standing}
 use Rattle.board.specs.Form.{wellFormed}
 use Rattle.board.specs.declared.Board.{Board}
 use Rattle.board.proofs.Standing.{Standing, calls-standing, cells-valid, standing-low}
-use Rattle.board.proofs.ProblemForm.{size-most}
+use Rattle.form.proofs.ProblemForm.{size-most}
 use Rattle.board.proofs.BoardForm.{is-whole, standing-whole}
 use Rattle.board.proofs.CallLaws.{opened-left, after-calls}
 use Rattle.kinds.specs.Kinds.{word}

@@ -10,7 +10,7 @@ use borrow.Author.Needs.{needs}
 use borrow.Author.Tests.{not-true, not-false}
 use lib.ListN.{length, getD, drop}
 use Rattle.grid.specs.Lists.{upto, all}
-use Rattle.board.proofs.Passes.{pass-on, pass-fail, pass-end, upto-at, upto-length}
+use Rattle.form.proofs.Passes.{pass-on, pass-fail, pass-end, upto-at, upto-length}
 use Rattle.finished.specs.Finished.{keeps, keepsAll}
 use Rattle.finished.proofs.all_keep_given.Statement.{statement}
 use Rattle.finished.proofs.all_keep_given.Tie as tie

@@ -8,9 +8,9 @@ use borrow.Author.Needs.{needs}
 use borrow.Author.Tests.{not-true, not-false}
 use Rattle.grid.specs.Grid.{size}
 use Rattle.record.specs.Problem.{gridOf}
+use Rattle.form.specs.Form.{problemFormed}
+use Rattle.form.proofs.ProblemForm.{formed-is, size-most}
 use Rattle.board.specs.declared.Board.{Board}
-use Rattle.board.specs.Form.{problemFormed}
-use Rattle.board.proofs.ProblemForm.{formed-is, size-most}
 use Rattle.board.proofs.Verdicts.{board-problem, board-decisions}
 use borrow.Author.Needs.{needs}
 use Rattle.board.proofs.Board.well_formed.Statement.{statement}
