@@ -6,10 +6,9 @@ use native.Mathlib.Omega.{arith}
 use mathlib.Core.Path.{_≡_}
 use mathlib.Core.Bool.{Bool, _||_}
 use Rattle.grid.specs.Side.{sized}
-use Rattle.grid.proofs.SideLaws.{in-place}
+use Rattle.grid.proofs.SideLaws.{cell-small, in-place}
 use Rattle.grid.proofs.AroundLaws.{gathered}
 use Rattle.kinds.specs.Near.{Listed, floatAmong}
-use Rattle.kinds.proofs.Turns.{cell-small}
 use Rattle.kinds.proofs.NearLaws.{sides-none, sides-more, sides-all, sides-off}
 use Rattle.kinds.proofs.near.list_floats_beside.Statement.{statement}
 use Rattle.kinds.proofs.near.list_floats_beside.Tie as tie
