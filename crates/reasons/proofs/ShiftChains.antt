@@ -1,11 +1,11 @@
 -- The shift test over the chains of a block and of the floating groups near it.
 -- Assumes nothing.
-use Prim.Native.Nat.{ℕ, _*_, _/_, _%_, _≤_, _<_}
+use Prim.Native.Nat.{ℕ, _*_, _/_, _%_, _<_}
 use native.Mathlib.Omega.{arith}
 use mathlib.Core.Path.{_≡_, refl, sym, subst, _∙_}
 use mathlib.Core.Bool.{Bool, true, false, _||_}
 use mathlib.Core.List.{List}
-use lib.ListN.{length, getD, take}
+use lib.ListN.{getD, take}
 use Rattle.grid.specs.Lists.{any}
 use Rattle.grid.specs.Grid.{size, row, col}
 use Rattle.grid.specs.Side.{sized}

@@ -4,31 +4,28 @@ use Prim.Native.Nat.{ℕ, zero, suc, _+_, _*_, _/_, _%_, _≤_, _<_}
 use native.Mathlib.Omega.{arith}
 use native.Mathlib.Nat.{mod-lt, div-lt-iff-lt-mul}
 use native.Mathlib.Numerals.{add-one}
-use mathlib.Core.Path.{_≡_, refl, sym, ap, subst, _∙_}
+use mathlib.Core.Path.{_≡_, refl, sym, _∙_}
 use mathlib.Core.Bool.{Bool, true, false, cond, So, _&&_, false≢true}
 use mathlib.Core.List.{List, [], _∷_, _++_, map, map-append, append-nil, append-assoc, List·Memᴰ}
-use lib.Arith.{digits-lt, digits-div, digits-mod}
+use lib.Arith.{digits-lt}
 use lib.Dec.{eqb}
-use lib.IntN.{ℤ, pos, _-ℤ_}
+use lib.IntN.{ℤ}
 use lib.ListN.{length, getD, set, drop, length-append, length-map, length-drop}
 use lib.Seq.{drop-cons, set-at, take-at, getD-take}
-use Rattle.grid.specs.Lists.{any, all, upto, range, filter, member}
+use Rattle.grid.specs.Lists.{all, upto, range, member}
 use Rattle.grid.specs.Grid.{Grid, size, row, col, cellsOf}
 use Rattle.grid.specs.Side.{sized, movedOf, placed, shiftedOf}
 use Rattle.grid.specs.declared.Step.{Step}
 use Rattle.grid.specs.declared.Step.the-variants.{To, Outside}
 use Rattle.grid.specs.declared.Side.{Side}
 use Rattle.grid.specs.declared.Side.the-variants.{At, Off}
-use Rattle.grid.proofs.ListLaws.{so-false, and-true, true-and, any-mem, mem-any, all-mem, mem-all, mem-at, at-mem, upto-mem, mem-upto, filter-length, filter-mem, mem-filter, length-range, mem-member, member-mem}
-use Rattle.grid.proofs.GridLaws.{width-pos, index, in-cells}
+use Rattle.grid.proofs.ListLaws.{so-false, all-mem, mem-all, mem-at, at-mem, upto-mem, mem-upto, filter-length, filter-mem, mem-filter, length-range, mem-member, member-mem}
+use Rattle.grid.proofs.GridLaws.{width-pos, in-cells}
 use Rattle.grid.proofs.SideLaws.{moved-to}
 use Rattle.grid.proofs.ShiftLaws.{landing, landing-at, landing-any, sideIn}
 use Rattle.groups.specs.Rules.{fits}
-use Rattle.groups.proofs.MarkLaws.{mask-at}
-use Rattle.kinds.specs.Kinds.{View, block, inReach, reach, reachMask}
-use Rattle.kinds.proofs.Filled.{upto-more}
+use Rattle.kinds.specs.Kinds.{View, inReach, reach}
 use Rattle.reasons.specs.Shift.{blockIn, Gathered, BlockPlaces, Places, landsIn, allLand, fitsAt}
-use Rattle.reasons.proofs.Pass.{filter-more}
 
 -- ---- the cells of a block in two arrays
 
@@ -115,19 +112,13 @@ block-places h w {b} {count = count} p s few inside q = record {
     some : (k : ℕ) → k < count → 0 < w
     some k l = width-pos (sized h w) (cell k l)
 
--- ---- a test on every number below n, or on some
+-- ---- a test on every number below n
 
 pub all-upto : (p : ℕ → Bool) (n : ℕ) → ((k : ℕ) → k < n → p k ≡ true) → all p (upto n) ≡ true
 all-upto p n h = mem-all p (upto n) (λ k m. h k (upto-mem n m))
 
 pub not-all : (p : ℕ → Bool) (n k : ℕ) → k < n → p k ≡ false → all p (upto n) ≡ false
 not-all p n k h e = so-false _ (λ a. false≢true (sym e ∙ all-mem p (upto n) a k (mem-upto n h)))
-
-pub some-upto : (p : ℕ → Bool) (n k : ℕ) → k < n → p k ≡ true → any p (upto n) ≡ true
-some-upto p n k h e = mem-any p (upto n) (mem-upto n h) e
-
-pub none-upto : (p : ℕ → Bool) (n : ℕ) → ((k : ℕ) → k < n → p k ≡ false) → any p (upto n) ≡ false
-none-upto p n h = so-false _ (λ a. let k = any-mem p (upto n) a in false≢true (sym (h (k .0) (upto-mem n (k .1))) ∙ k .2))
 
 -- two tests that pass together are the same
 same-test : (a b : Bool) → (So a → So b) → (So b → So a) → a ≡ b

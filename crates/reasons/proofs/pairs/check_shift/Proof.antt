@@ -1,10 +1,8 @@
-use Prim.Native.Nat.{ℕ, _+_, _*_, _≤_, _<_}
+use Prim.Native.Nat.{_*_, _≤_, _<_}
 use native.Mathlib.Omega.{arith}
-use mathlib.Core.Path.{_≡_, refl, sym, ap, _∙_}
-use mathlib.Core.List.{List}
-use lib.ListN.{length, getD, take}
+use mathlib.Core.Path.{refl, sym, _∙_}
+use lib.ListN.{getD, take}
 use Rattle.grid.proofs.SideLaws.{area}
-use Rattle.kinds.specs.Inside.{Held}
 use Rattle.reasons.proofs.PairFinds.{no-shift, shift-found}
 use Rattle.reasons.proofs.PairNames.{scene-name, scene-kind}
 use borrow.Author.Needs.{needs}

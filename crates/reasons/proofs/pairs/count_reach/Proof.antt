@@ -1,5 +1,4 @@
 
-use borrow.Author.Needs.{needs}
 use Rattle.reasons.proofs.pairs.count_reach.Statement.{statement}
 use Rattle.reasons.proofs.pairs.count_reach.Tie as tie
 

@@ -1,4 +1,4 @@
-use Prim.Native.Nat.{_/_, _%_, _<_}
+use Prim.Native.Nat.{_/_, _%_}
 use native.Mathlib.Omega.{arith}
 use mir.Syntax.{w32}
 use mir.ValLaws.{toZ-ofZ}
@@ -6,7 +6,6 @@ use Rattle.grid.specs.Side.{InPlace}
 use Rattle.grid.proofs.SideLaws.{in-place}
 use Rattle.grid.proofs.ShiftLaws.{way-small}
 use Rattle.reasons.specs.Shift.{fitsAt}
-use borrow.Author.Needs.{needs}
 use Rattle.reasons.proofs.shift.fits_at.Statement.{statement}
 use Rattle.reasons.proofs.shift.fits_at.Tie as tie
 

@@ -1,4 +1,4 @@
-use Prim.Native.Nat.{_*_, _≤_, _<_}
+use Prim.Native.Nat.{_*_, _≤_}
 use native.Mathlib.Omega.{arith}
 use Rattle.grid.specs.Grid.{size}
 use Rattle.grid.specs.Side.{sized}
@@ -7,7 +7,6 @@ use Rattle.grid.proofs.SideLaws.{area}
 use Rattle.reasons.proofs.PairFinds.{gathered-inside}
 use Rattle.reasons.proofs.Shifts.{in-few, gathered-long}
 use Rattle.reasons.proofs.ShiftChains.{gathered-view}
-use borrow.Author.Needs.{needs}
 use Rattle.reasons.proofs.shift.shift_fits.Statement.{statement}
 use Rattle.reasons.proofs.shift.shift_fits.Tie as tie
 
