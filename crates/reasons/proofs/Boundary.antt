@@ -1,22 +1,26 @@
--- The literals of reason 1: a loop over neighbours, the last cell that passes, and what they are of a potential group.
+-- The literals of reason 1: the neighbours by direction, the last cell that passes, and what they are of a potential group.
 -- Assumes nothing.
-use Prim.Native.Nat.{ℕ, zero, suc, _+_, _-_, _≤_, _<_}
+use Prim.Native.Nat.{ℕ, zero, suc, _+_, _-_, _*_, _/_, _%_, _≤_, _<_}
+use native.Mathlib.Nat.{div-add-mod'}
 use native.Mathlib.Omega.{arith}
-use native.Mathlib.Numerals.{add-one}
 use mathlib.Core.Logic.{_⊎_, inl, inr}
 use mathlib.Core.Path.{_≡_, refl, sym, ap, _∙_, subst}
 use mathlib.Core.Bool.{Bool, true, false, cond, _&&_, _||_}
 use mathlib.Core.List.{List, [], _∷_, _++_, append-nil, List·Memᴰ, List·Memᴰ·head, List·Memᴰ·tail}
 use lib.Dec.{eqb}
-use lib.ListN.{length, getD, set, take, drop, drop-of-length-le}
-use lib.Seq.{drop-cons, getD-take}
-use Rattle.grid.specs.Lists.{upto, any, filter, last, member}
-use Rattle.grid.specs.Grid.{Grid, size, cellsOf, neighbours, touches}
+use lib.ListN.{length, getD, set, take}
+use lib.Seq.{getD-take}
+use Rattle.grid.specs.Lists.{range, upto, any, filter, last, member}
+use Rattle.grid.specs.Grid.{Grid, size, cellsOf, up, down, left, right, neighbours, touches}
 use Rattle.grid.proofs.ListLaws.{split, filter-mem, mem-filter, mem-upto, upto-mem, mem-member, member-mem, so-false}
+use Rattle.grid.specs.Side.{sized, towards, besideOf}
+use Rattle.grid.specs.declared.Side.the-variants.{At, Off}
+use Rattle.grid.proofs.SideLaws.{beside-at, beside-off}
 use Rattle.grid.proofs.GridLaws.{beside, on-grid}
 use Rattle.board.specs.Board.{empty, filled, square}
 use Rattle.groups.specs.Groups.{labels, group, labelArray}
 use Rattle.kinds.specs.Kinds.{word}
+use Rattle.kinds.proofs.Filled.{any-append}
 use Rattle.reasons.specs.Reasons.{each}
 use Rattle.reasons.specs.Buffer.{Wrote}
 use Rattle.reasons.specs.Arrays.{boundaryOf}
@@ -25,20 +29,39 @@ use Rattle.reasons.proofs.Pass.{upto-more, filter-more}
 use Rattle.reasons.proofs.Views.{filter-upto}
 use Rattle.reasons.proofs.Ranks.{label-test, label-group}
 
--- ---- some member passes: a loop
+-- ---- some neighbour passes: direction by direction
 
-module _ (t : ℕ → Bool) (l : List ℕ) (k : ℕ) where
-  pub any-hit : k < length l → t (getD l k 0) ≡ true → any t (drop k l) ≡ true
+module _ (t : ℕ → Bool) (g : Grid) (i : ℕ) where
+  -- the neighbour in direction k, or none
+  pub any-at : (k j : ℕ) → At j ≡ besideOf g i k → t j ≡ any t (towards g i k)
   unfolding any
-  any-hit h e = rw (drop-cons l k 0 h, any, e) refl
+  any-at k j e = rw (beside-at g i k j e) (sym (or-false (t j)))
+    where
+      or-false : (b : Bool) → (b || false) ≡ b
+      or-false true = refl
+      or-false false = refl
 
-  pub any-miss : k < length l → t (getD l k 0) ≡ false → any t (drop k l) ≡ any t (drop (k + 1) l)
+  pub any-off : (k : ℕ) → Off ≡ besideOf g i k → false ≡ any t (towards g i k)
   unfolding any
-  any-miss h e = rw (drop-cons l k 0 h, any, e, add-one k) refl
+  any-off k e = rw (beside-off g i k e) refl
 
-  pub any-end : length l ≤ k → any t (drop k l) ≡ false
-  unfolding any
-  any-end h = rw (drop-of-length-le l {i = k} h) refl
+  -- all neighbours
+  any-around : any t (neighbours g i) ≡ any (λ k. any t (towards g i k)) (upto 4)
+  unfolding any upto range towards neighbours
+  any-around =
+      any-append t (up g i) (down g i ++ (left g i ++ right g i))
+      ∙ ap (λ (b : Bool). any t (up g i) || b)
+      (any-append t (down g i) (left g i ++ right g i)
+      ∙ ap (λ (b : Bool). any t (down g i) || b)
+      (any-append t (left g i) (right g i) ∙ ap (λ (b : Bool). any t (left g i) || b) (or-false (any t (right g i)))))
+    where
+      or-false : (b : Bool) → b ≡ (b || false)
+      or-false true = refl
+      or-false false = refl
+
+-- by the row and the column of the cell
+pub any-placed : (t : ℕ → Bool) (h w i : ℕ) → any t (neighbours (sized h w) i) ≡ any (λ k. any t (towards (sized h w) (i / w * w + i % w) k)) (upto 4)
+any-placed t h w i = any-around t (sized h w) i ∙ ap (λ (m : ℕ). any (λ k. any t (towards (sized h w) m k)) (upto 4)) (sym (div-add-mod' i w))
 
 -- ---- the last cell that passes: a loop from behind
 

@@ -26,6 +26,7 @@ use Rattle.reasons.specs.Reasons.{Found, orElse, given, firstOf, reason1
 use Rattle.reasons.specs.Arrays.{PotentialArrays, BlockArrays, Listed, strandedAt}
 use Rattle.reasons.specs.Pairs.{FoundAs}
 use Rattle.reasons.specs.declared.Finding.the-variants.{Nothing}
+use Rattle.reasons.proofs.Turns.{size-small}
 use Rattle.reasons.proofs.Ranks.{label-test}
 use Rattle.reasons.proofs.Findings.{found-none}
 use Rattle.reasons.proofs.Checks.{sized-size}
@@ -158,9 +159,6 @@ none-twice p cells blocks onarrow arrows total small B L none-is = all-none _ (n
 
 -- ---- the same on the arrays of a board
 
-small : (h w : ℕ) → h ≤ 32 → w ≤ 32 → size (sized h w) ≤ 1024
-small h w tall wide = rw (← sized-size h w) (area h w tall wide)
-
 module _ (h w : ℕ) (tall : h ≤ 32) (wide : w ≤ 32) (lines : List (List ℕ)) (cells : List ℕ) {onarrow arrows : List ℕ} {total : ℕ} (L : Listed arrows total onarrow) where
   pub quiet-1 : {groups marks : List ℕ} → PotentialArrays (puzzleWith (sized h w) lines) (take (h * w) cells) groups onarrow → Marks marks (nameAmong groups arrows total)
       → any (strandedAt cells groups marks) (upto (h * w)) ≡ false → (buffer : List ℕ) → FoundAs (reason1 (puzzleWith (sized h w) lines) (take (h * w) cells)) buffer buffer Nothing
@@ -169,11 +167,11 @@ module _ (h w : ℕ) (tall : h ≤ 32) (wide : w ≤ 32) (lines : List (List ℕ
 
   module _ {blocks : List ℕ} (B : BlockArrays (puzzleWith (sized h w) lines) (take (h * w) cells) blocks onarrow) where
     pub quiet-2 : nameTwice blocks arrows total ≡ false → (buffer : List ℕ) → FoundAs (reason2 (puzzleWith (sized h w) lines) (take (h * w) cells)) buffer buffer Nothing
-    quiet-2 e buffer = rw (none-twice (puzzleWith (sized h w) lines) (take (h * w) cells) blocks onarrow arrows total (small h w tall wide) B L e) (found-none buffer)
+    quiet-2 e buffer = rw (none-twice (puzzleWith (sized h w) lines) (take (h * w) cells) blocks onarrow arrows total (size-small tall wide) B L e) (found-none buffer)
 
     -- the marks are those of the arrow blocks
     pub arrowed-given : {marks : List ℕ} → Marks marks (nameAmong blocks arrows total) → Given (puzzleWith (sized h w) lines) (take (h * w) cells) blocks marks
     arrowed-given M = record {
       named = B .blocks-are;
-      marked = arrow-mask (puzzleWith (sized h w) lines) (small h w tall wide) (take (h * w) cells) (B .blocks-are) (L .line) (L .marks) (B .arrows-are) M;
+      marked = arrow-mask (puzzleWith (sized h w) lines) (size-small tall wide) (take (h * w) cells) (B .blocks-are) (L .line) (L .marks) (B .arrows-are) M;
     }

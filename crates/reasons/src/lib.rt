@@ -12,7 +12,7 @@ ghost use mathlib.Core.Bool.{Bool, true, false, cond, _&&_, not};
 ghost use lib.Dec.{eqb};
 ghost use Rattle.grid.specs.Lists.{any, filter, last, upto};
 ghost use Rattle.grid.specs.Grid.{size, neighbours};
-ghost use Rattle.grid.specs.Side.{InGrid, sized};
+ghost use Rattle.grid.specs.Side.{InGrid, InPlace, sized, towards};
 ghost use Rattle.record.specs.Record.{Puzzle};
 ghost use Rattle.board.specs.Board.{empty, filled};
 ghost use Rattle.groups.specs.Groups.{labelArray};
@@ -346,20 +346,37 @@ fn find_stranded(
     first_marked(groups, &*marks, n)
 }
 
+// Is the neighbour in direction k of the cell at row y, column x in the group named f?
+fn touches_toward(
+    groups: &[u16; 1024],
+    h: usize,
+    w: usize,
+    y: usize,
+    x: usize,
+    k: usize,
+    f: u16,
+) -> bool
+    requires { ⌜ InPlace h w y x × (k < 4) ⌝ }
+    ensures { λ r. ⌜ r ≡ any (λ j. eqb (getD (now (groups .entry)) j 0) f) (towards (sized h w) (y * w + x) k) ⌝ }
+{
+    let side = grid::toward(h, w, y, x, k);
+    match side {
+        grid::Side::At(j) => groups[j] == f,
+        grid::Side::Off => false,
+    }
+}
+
 // Does cell i touch the group named f?
 fn touches_group(groups: &[u16; 1024], h: usize, w: usize, i: usize, f: u16) -> bool
     requires { ⌜ InGrid h w i ⌝ }
     ensures { λ r. ⌜ r ≡ any (λ j. eqb (getD (now (groups .entry)) j 0) f) (neighbours (sized h w) i) ⌝ }
 {
-    let around = grid::neighbours(h, w, i);
-    let sides = around.cells;
-    let number = around.count;
-    let mut k = 0;
-    while k < number {
-        if groups[wide(sides[k])] == f {
+    let y = i / w;
+    let x = i % w;
+    for k in 0..4 {
+        if touches_toward(groups, h, w, y, x, k, f) {
             return true;
         }
-        k += 1;
     }
     false
 }
