@@ -223,7 +223,7 @@ well-formed-exact b = (forth, back)
         rw (← e) (standing-well p v (calls-standing (p .grid) (l .calls)))
 
 -- the number of an answer
-number-answered : (k : ℕ) (b next : Board) → numberOf (answered k b next .answer) ≡ k
+pub number-answered : (k : ℕ) (b next : Board) → numberOf (answered k b next .answer) ≡ k
 unfolding answered numberOf
 number-answered zero b next = refl
 number-answered (suc k) b next = refl

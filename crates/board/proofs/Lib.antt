@@ -6,3 +6,4 @@ pub mod Verdicts
 pub mod Answers
 pub mod Fold
 pub mod OpenLaws
+pub mod Unchanged

@@ -1,0 +1,84 @@
+-- What stands afterwards: a refused call leaves the board as it was handed in, and beside a refused record there is no board.
+-- Assumes nothing.
+use Prim.Native.Nat.{ℕ, zero, suc, _+_, _*_, _/_, _%_}
+use native.Mathlib.Omega.{arith}
+use mathlib.Core.Path.{_≡_, refl}
+use mathlib.Core.Bool.{Bool, true, false, cond}
+use mathlib.Core.List.{List, [], _∷_}
+use lib.Dec.{eqb}
+use Rattle.record.specs.Record.{Outcome, ok, refused, Puzzle, readRecord}
+use Rattle.record.specs.Problem.{numberOf}
+use Rattle.record.specs.declared.Answer.{Answer}
+use Rattle.record.specs.declared.Answer.the-variants.{Done, Refused}
+use Rattle.board.specs.declared.Board.{Board}
+use Rattle.board.specs.declared.Decided.{Decided}
+use Rattle.board.specs.Kept.{opening, openOf}
+use Rattle.board.specs.Form.{wellFormed}
+use Rattle.board.specs.Decide.{decideRefusal, undoRefusal, placed, removed, answered, decideOf, undoOf, refusedWith, onward, decideFrom, decideAllOf}
+use Rattle.board.proofs.CallLaws.{number-answered, blank-refused}
+
+-- if the call is refused, the board is b
+abbrev pub KeptBy : Board → Decided → Type 0
+KeptBy b d = (k : ℕ) → d .answer ≡ Refused k → d .board ≡ b
+
+done-kept : (b next : Board) → KeptBy b (record { answer = Done; board = next })
+done-kept b next k e = let z : _≡_ {A = ℕ} 0 1 = cc in absurd (omega arith)
+
+answered-kept : (k : ℕ) (b next : Board) → KeptBy b (answered k b next)
+unfolding answered
+answered-kept zero b next = done-kept b next
+answered-kept (suc k) b next = λ r e. refl
+
+-- `decide`
+pub decide-unchanged : (b : Board) (i v : ℕ) → KeptBy b (decideOf b i v)
+unfolding decideOf
+decide-unchanged b i v = answered-kept (decideRefusal b i v) b (placed b i v)
+
+-- `undo`
+pub undo-unchanged : (b : Board) → KeptBy b (undoOf b)
+unfolding undoOf
+undo-unchanged b = answered-kept (undoRefusal b) b (removed b)
+
+refused-kept : (k : ℕ) (b : Board) → KeptBy b (refusedWith k b)
+unfolding refusedWith
+refused-kept k b = λ r e. refl
+
+onward-kept : (a : Answer) (b : Board) {next : Decided} → KeptBy b next → KeptBy b (onward a b next)
+unfolding onward
+onward-kept Done b h = h
+onward-kept (Refused k) b h = refused-kept k b
+
+either-kept : (t : Bool) {b : Board} {c d : Decided} → KeptBy b c → KeptBy b d → KeptBy b (cond t c d)
+either-kept true h k = h
+either-kept false h k = k
+
+from-kept : (b₀ b : Board) (bytes : List ℕ) → KeptBy b₀ (decideFrom b₀ b bytes)
+unfolding decideFrom
+from-kept b₀ b [] = done-kept b₀ b
+from-kept b₀ b (x ∷ []) = refused-kept 12 b₀
+from-kept b₀ b (x ∷ y ∷ rest) =
+    let d : Decided = decideOf b ((x * 256 + y) % 1024) ((x * 256 + y) / 32768) in
+    either-kept (eqb ((x * 256 + y) % 32768 / 1024) 0) (onward-kept (d .answer) b₀ (from-kept b₀ (d .board) rest)) (refused-kept 12 b₀)
+
+-- `decide_all`: nothing of the decisions before the refused one stays
+pub all-unchanged : (b : Board) (bytes : List ℕ) → KeptBy b (decideAllOf b bytes)
+unfolding decideAllOf
+all-unchanged b bytes = either-kept (wellFormed b) (from-kept b b bytes) (refused-kept 6 b)
+
+-- `open`: every later call on what stands beside a refusal is refused with 6
+pub no-board : (s : List ℕ) (k : ℕ) → openOf s .answer ≡ Refused k → wellFormed (openOf s .board) ≡ false
+unfolding openOf opening
+no-board s k = go (readRecord s)
+  where
+    go : (o : Outcome Puzzle) → opening o .answer ≡ Refused k → wellFormed (opening o .board) ≡ false
+    go (refused m) e = blank-refused
+    go (ok p) e = let z : _≡_ {A = ℕ} 0 1 = cc in absurd (omega arith)
+
+-- the number of an answer is that of document 01's refusal, 0 where the call is done
+pub decide-answer : (b : Board) (i v : ℕ) → numberOf (decideOf b i v .answer) ≡ decideRefusal b i v
+unfolding decideOf
+decide-answer b i v = number-answered (decideRefusal b i v) b (placed b i v)
+
+pub undo-answer : (b : Board) → numberOf (undoOf b .answer) ≡ undoRefusal b
+unfolding undoOf
+undo-answer b = number-answered (undoRefusal b) b (removed b)
