@@ -18,7 +18,7 @@ use Rattle.board.specs.Decide.{decideRefusal, undoRefusal, placed, remov
 use Rattle.board.proofs.CallLaws.{number-answered, blank-refused}
 
 -- if the call is refused, the board is b
-abbrev pub KeptBy : Board → Decided → Type 0
+abbrev KeptBy : Board → Decided → Type 0
 KeptBy b d = (k : ℕ) → d .answer ≡ Refused k → d .board ≡ b
 
 done-kept : (b next : Board) → KeptBy b (record { answer = Done; board = next })
@@ -30,12 +30,12 @@ answered-kept zero b next = done-kept b next
 answered-kept (suc k) b next = λ r e. refl
 
 -- `decide`
-pub decide-unchanged : (b : Board) (i v : ℕ) → KeptBy b (decideOf b i v)
+pub decide-unchanged : (b : Board) (i v k : ℕ) → decideOf b i v .answer ≡ Refused k → decideOf b i v .board ≡ b
 unfolding decideOf
 decide-unchanged b i v = answered-kept (decideRefusal b i v) b (placed b i v)
 
 -- `undo`
-pub undo-unchanged : (b : Board) → KeptBy b (undoOf b)
+pub undo-unchanged : (b : Board) (k : ℕ) → undoOf b .answer ≡ Refused k → undoOf b .board ≡ b
 unfolding undoOf
 undo-unchanged b = answered-kept (undoRefusal b) b (removed b)
 
@@ -61,7 +61,7 @@ from-kept b₀ b (x ∷ y ∷ rest) =
     either-kept (eqb ((x * 256 + y) % 32768 / 1024) 0) (onward-kept (d .answer) b₀ (from-kept b₀ (d .board) rest)) (refused-kept 12 b₀)
 
 -- `decide_all`: nothing of the decisions before the refused one stays
-pub all-unchanged : (b : Board) (bytes : List ℕ) → KeptBy b (decideAllOf b bytes)
+pub all-unchanged : (b : Board) (bytes : List ℕ) (k : ℕ) → decideAllOf b bytes .answer ≡ Refused k → decideAllOf b bytes .board ≡ b
 unfolding decideAllOf
 all-unchanged b bytes = either-kept (wellFormed b) (from-kept b b bytes) (refused-kept 6 b)
 
