@@ -38,3 +38,4 @@ pub mod Crossings
 pub mod BoardArrays
 pub mod Checks
 pub mod Quick
+pub mod Unchanged

@@ -1,0 +1,34 @@
+-- What stands afterwards: find leaves the lent buffer as it was where it is refused, and where no reason applies.
+-- Assumes nothing.
+use Prim.Native.Nat.{ℕ, zero, suc}
+use native.Mathlib.Omega.{arith}
+use mathlib.Core.Path.{_≡_, refl}
+use mathlib.Core.List.{List}
+use mathlib.Core.Option.{none, some}
+use lib.ListN.{length}
+use Rattle.board.specs.declared.Board.{Board}
+use Rattle.reasons.specs.Reasons.{Found}
+use Rattle.reasons.specs.declared.Finding.the-variants.{Nothing, Refused}
+use Rattle.reasons.specs.Find.{reasonOn, findRefusal, findingBy, bufferBy, findOf, bufferAfter}
+
+by-refusal : (k : ℕ) (f : Found) (buffer : List ℕ) (r : ℕ) → findingBy k f ≡ Refused r → bufferBy k f buffer ≡ buffer
+unfolding findingBy bufferBy
+by-refusal zero none buffer r e = refl
+by-refusal zero (some l) buffer r e = let z : _≡_ {A = ℕ} 0 1 = cc in absurd (omega arith)
+by-refusal (suc k) f buffer r e = refl
+
+by-none : (k : ℕ) (f : Found) (buffer : List ℕ) → findingBy k f ≡ Nothing → bufferBy k f buffer ≡ buffer
+unfolding findingBy bufferBy
+by-none zero none buffer e = refl
+by-none zero (some l) buffer e = let z : _≡_ {A = ℕ} 0 1 = cc in absurd (omega arith)
+by-none (suc k) f buffer e = refl
+
+-- 6 or 11
+pub find-unchanged : (b : Board) (buffer : List ℕ) (k : ℕ) → findOf b buffer ≡ Refused k → bufferAfter b buffer ≡ buffer
+unfolding findOf bufferAfter
+find-unchanged b buffer k e = by-refusal (findRefusal b (length buffer)) (reasonOn b) buffer k e
+
+-- none
+pub none-unchanged : (b : Board) (buffer : List ℕ) → findOf b buffer ≡ Nothing → bufferAfter b buffer ≡ buffer
+unfolding findOf bufferAfter
+none-unchanged b buffer e = by-none (findRefusal b (length buffer)) (reasonOn b) buffer e
