@@ -19,7 +19,7 @@ use Rattle.record.specs.Problem.{gridOf, puzzleOf, problemOf}
 use Rattle.record.specs.Valid.{Valid}
 use Rattle.record.proofs.RecordLaws.{record-valid}
 use Rattle.record.proofs.ProblemLaws.{problem-puzzle}
-use Rattle.board.specs.Board.{Literal, Call, Full, cellsAfter}
+use Rattle.board.specs.Board.{Literal, Call, find, refusal, Full, cellsAfter}
 use Rattle.groups.specs.Rules.{BlockRules}
 use Rattle.board.specs.Kept.{boardOf, openOf}
 use Rattle.board.specs.Calls.{leftAll, standing}
@@ -139,3 +139,8 @@ demand-3 s p read cs ds = record {
         let q = m .finds (rw shown at full) in
         let e = reasons cs a h in
         (λ none. rw shown (q .0 (cc)), λ rules. let f = q .1 (rw shown at rules) in cc)
+
+-- after any list of calls find's refusal is the machine's
+pub find-refusal : (s : List ℕ) (p : Puzzle) → readRecord s ≡ ok p → (cs : List Call) (k : ℕ) → findRefusal (boardAfter s cs) k ≡ refusal (p .grid) (find k) (standing p cs)
+unfolding findRefusal refusal enough boardOf problemOf gridOf
+find-refusal s p read cs k = rw (opened-left s p read cs, well p (record-valid s read) (calls-standing (p .grid) cs)) refl
