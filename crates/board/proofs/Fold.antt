@@ -3,8 +3,9 @@
 use Prim.Native.Nat.{ℕ, suc, _+_, _*_, _/_, _%_, _≤_, _<_}
 use native.Mathlib.Numerals.{add-one}
 use native.Mathlib.Omega.{arith}
-use mathlib.Core.Path.{_≡_, refl, sym, subst}
-use mathlib.Core.Bool.{true, false}
+use mathlib.Core.Path.{_≡_, refl, sym, ap, subst, _∙_}
+use mathlib.Core.Bool.{Bool, true, false, cond}
+use lib.Dec.{eqb}
 use mathlib.Core.List.{List, [], _∷_}
 use lib.ListN.{length, getD, drop, drop-of-length-le}
 use lib.Seq.{drop-cons}
@@ -22,7 +23,7 @@ use Rattle.board.specs.declared.Decided.{Decided}
 use Rattle.board.specs.Board.{decide}
 use Rattle.board.specs.Form.{wellFormed}
 use Rattle.board.specs.Decide.{area, placed, decideOf, refusedWith, onward, decideFrom, decideAllOf}
-use Rattle.board.specs.Inside.{Placing, bits, off, twice, put, held, allPlaced}
+use Rattle.board.specs.Inside.{Placing, bits, off, twice, put, held, placedFrom, allPlaced}
 use Rattle.board.proofs.Standing.{Standing, after-standing}
 use Rattle.board.proofs.BoardForm.{whole-is, decisionsOf, whole-standing, whole-again}
 use Rattle.board.proofs.CallLaws.{standing-well, decide-left}
@@ -38,14 +39,15 @@ decide-well b h i v =
     subst (λ (z : Board). wellFormed (decideOf z i v .board) ≡ true) (whole-again b w)
     (rw (decide-left p ok s i v) (standing-well p ok (after-standing (p .grid) (decide i v) s)))
 
-module _ (b₀ : Board) (q : Problem) (cells order : List ℕ) (n count x y : ℕ) (rest : List ℕ)
+module _ (q : Problem) (cells order : List ℕ) (n count x y : ℕ) (rest : List ℕ)
     (e : size (gridOf q) ≡ n) (w : wellFormed (held q cells order count) ≡ true) (low : x * 256 + y < 65536) where
   value : (x * 256 + y) / 32768 ≤ 1
   value = omega arith
 
   -- a decision that is refused
-  pub place-refused : {k : ℕ} {cells′ order′ : List ℕ} → Placing n count (x * 256 + y) cells order (Refused k) cells′ order′ → decideFrom b₀ (held q cells order count) (x ∷ y ∷ rest) ≡ refusedWith k b₀
-  unfolding decideFrom onward area
+  pub place-refused : {k : ℕ} {cells′ order′ : List ℕ} → Placing n count (x * 256 + y) cells order (Refused k) cells′ order′
+      → placedFrom (held q cells order count) (x ∷ y ∷ rest) ≡ refusedWith k (held q cells′ order′ count)
+  unfolding placedFrom onward area
   place-refused (bits h) = rw (ne-eqb ((x * 256 + y) % 32768 / 1024) 0 h) refl
   place-refused (off h l) =
       rw (eq-eqb ((x * 256 + y) % 32768 / 1024) 0 h, ← decide-7 (held q cells order count) ((x * 256 + y) % 1024) ((x * 256 + y) / 32768) w (rw e l)) refl
@@ -54,8 +56,8 @@ module _ (b₀ : Board) (q : Problem) (cells order : List ℕ) (n count x y : �
 
   -- a decision that is put
   pub place-put : {cells′ order′ : List ℕ} → Placing n count (x * 256 + y) cells order Done cells′ order′
-      → (decideFrom b₀ (held q cells order count) (x ∷ y ∷ rest) ≡ decideFrom b₀ (held q cells′ order′ (count + 1)) rest) × (wellFormed (held q cells′ order′ (count + 1)) ≡ true)
-  unfolding decideFrom onward area placed
+      → (placedFrom (held q cells order count) (x ∷ y ∷ rest) ≡ placedFrom (held q cells′ order′ (count + 1)) rest) × (wellFormed (held q cells′ order′ (count + 1)) ≡ true)
+  unfolding placedFrom onward area placed
   place-put (put h l d) =
       let i : ℕ = (x * 256 + y) % 1024 in
       let v : ℕ = (x * 256 + y) / 32768 in
@@ -86,6 +88,25 @@ all-6 b bytes w = rw w refl
 pub all-tested : (b : Board) (bytes : List ℕ) → wellFormed b ≡ true → decideFrom b b bytes ≡ decideAllOf b bytes
 unfolding decideAllOf
 all-tested b bytes w = rw w refl
+
+-- a list of decisions is what was placed, and after a refusal the first board
+from-placed : (b₀ b : Board) (bytes : List ℕ) → decideFrom b₀ b bytes ≡ allPlaced b₀ (placedFrom b bytes .answer) (placedFrom b bytes .board)
+unfolding decideFrom placedFrom allPlaced refusedWith onward
+from-placed b₀ b [] = refl
+from-placed b₀ b (x ∷ []) = refl
+from-placed b₀ b (x ∷ y ∷ rest) =
+    let d : Decided = decideOf b ((x * 256 + y) % 1024) ((x * 256 + y) / 32768) in
+    go (eqb ((x * 256 + y) % 32768 / 1024) 0) (d .answer) (d .board) (from-placed b₀ (d .board) rest)
+  where
+    go : (t : Bool) (a : Answer) (next : Board) → decideFrom b₀ next rest ≡ allPlaced b₀ (placedFrom next rest .answer) (placedFrom next rest .board)
+        → cond t (onward a b₀ (decideFrom b₀ next rest)) (refusedWith 12 b₀)
+        ≡ allPlaced b₀ (cond t (onward a b (placedFrom next rest)) (refusedWith 12 b) .answer) (cond t (onward a b (placedFrom next rest)) (refusedWith 12 b) .board)
+    go true Done next h = h
+    go true (Refused k) next h = refl
+    go false a next h = refl
+
+pub placed-all : (b : Board) (bytes : List ℕ) {a : Answer} {next : Board} → placedFrom b bytes ≡ record { answer = a; board = next } → allPlaced b a next ≡ decideFrom b b bytes
+placed-all b bytes e = sym (from-placed b b bytes ∙ ap (λ (d : Decided). allPlaced b (d .answer) (d .board)) e)
 
 -- the answer beside the last board, or beside the first
 pub all-done : (b₀ b : Board) {a : Answer} → a ≡ Done → _≡_ {A = Decided} (record { answer = a; board = b }) (allPlaced b₀ a b)

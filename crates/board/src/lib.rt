@@ -7,8 +7,8 @@ ghost use Rattle.grid.specs.Grid.{size};
 ghost use Rattle.record.specs.Problem.{gridOf};
 ghost use Rattle.board.specs.Kept.{openOf};
 ghost use Rattle.board.specs.Form.{wellFormed};
-ghost use Rattle.board.specs.Decide.{decideOf, undoOf, decideFrom, decideAllOf};
-ghost use Rattle.board.specs.Inside.{Placing, held, Held, allPlaced};
+ghost use Rattle.board.specs.Decide.{decideOf, undoOf, decideAllOf};
+ghost use Rattle.board.specs.Inside.{Placing, held, Held, placedFrom};
 use record::Answer;
 use record::Problem;
 
@@ -75,8 +75,8 @@ pub struct Placed {
     pub decided: usize,
 }
 
-// Adds the decisions in the bytes, two bytes each, to a board of n cells that is known to be well formed: for `decide_all`, which has
-// tested its board, and for a caller that has opened the board itself.
+// Adds the decisions in the bytes, two bytes each, to a board of n cells that is known to be well formed, up to the first that is refused:
+// for `decide_all`, which has tested its board, and for a caller that has opened the board itself.
 pub fn place_all(
     cells: &mut [u8; 1024],
     order: &mut [u16; 1024],
@@ -86,8 +86,8 @@ pub fn place_all(
 ) -> Placed
     requires { ⌜ Held n decided (now cells) (now order) ⌝ }
     ensures { λ r. ⌜ ((q : Problem) → size (gridOf q) ≡ n → wellFormed (held q (now (cells .entry)) (now (order .entry)) decided) ≡ true
-        → allPlaced (held q (now (cells .entry)) (now (order .entry)) decided) (r .answer) (held q (now (cells .exit)) (now (order .exit)) (r .decided))
-        ≡ decideFrom (held q (now (cells .entry)) (now (order .entry)) decided) (held q (now (cells .entry)) (now (order .entry)) decided) (now (bytes .entry))) ⌝ }
+        → placedFrom (held q (now (cells .entry)) (now (order .entry)) decided) (now (bytes .entry))
+        ≡ record { answer = r .answer; board = held q (now (cells .exit)) (now (order .exit)) (r .decided) }) ⌝ }
 {
     let mut count = decided;
     let mut at = 0;

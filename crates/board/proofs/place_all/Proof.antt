@@ -11,8 +11,8 @@ use Rattle.grid.specs.Grid.{size}
 use Rattle.record.specs.Problem.{gridOf}
 use Rattle.record.specs.declared.Problem.{Problem}
 use Rattle.board.specs.Form.{wellFormed}
-use Rattle.board.specs.Decide.{decideFrom}
-use Rattle.board.specs.Inside.{held, allPlaced}
+use Rattle.board.specs.Decide.{refusedWith}
+use Rattle.board.specs.Inside.{held, placedFrom}
 use Rattle.board.proofs.BoardForm.{whole-is, whole-room, whole-most}
 use Rattle.board.proofs.Fold.{place-refused, place-put, two-left, one-left, none-left}
 use Rattle.board.proofs.place_all.Statement.{statement}
@@ -23,7 +23,7 @@ record Amid (n decided : ℕ) (cells₀ order₀ bytes : List ℕ) (count at : �
   within : at ≤ length bytes
   same : (q : Problem) → size (gridOf q) ≡ n → wellFormed (held q cells₀ order₀ decided) ≡ true
       → (wellFormed (held q cells order count) ≡ true)
-      × (decideFrom (held q cells₀ order₀ decided) (held q cells₀ order₀ decided) bytes ≡ decideFrom (held q cells₀ order₀ decided) (held q cells order count) (drop at bytes))
+      × (placedFrom (held q cells₀ order₀ decided) bytes ≡ placedFrom (held q cells order count) (drop at bytes))
 
 abbrev Inv-loop : tie.InvT-loop
 Inv-loop cells₀ order₀ n decided bytes count₀ at₀ cells order count at = Amid n decided cells₀ order₀ bytes count at cells order
@@ -60,17 +60,16 @@ after-put : (c : tie.After-enum-told Inv-loop μ-loop) (q : Problem) →
     let p = c .before .before .place in
     let b₀ = held q (s .cells .now) (s .order .now) (s .decided) in
     size (gridOf q) ≡ s .n → wellFormed b₀ ≡ true
-    → (decideFrom b₀ b₀ (s .bytes .now) ≡ decideFrom b₀ (held q (p .last .0) (p .last .1 .0) (a .loop .count + 1)) (drop (a .loop .at + 2) (s .bytes .now)))
+    → (placedFrom b₀ (s .bytes .now) ≡ placedFrom (held q (p .last .0) (p .last .1 .0) (a .loop .count + 1)) (drop (a .loop .at + 2) (s .bytes .now)))
     × (wellFormed (held q (p .last .0) (p .last .1 .0) (a .loop .count + 1)) ≡ true)
 after-put c q e w =
     let p = c .before .before in
     let a = p .before .before .before .before .before .before .before .before in
     let s = a .before .before in
     let t = a .loop in
-    let b₀ = held q (s .args .cells .now) (s .args .order .now) (s .args .decided) in
-    let r = place-put b₀ q (t .cells) (t .order) (s .args .n) (t .count) (first p) (second p) (drop (t .at + 2) (s .args .bytes .now)) e (t .inv .same q e w .0) (low-word (p .before .before .before))
+    let r = place-put q (t .cells) (t .order) (s .args .n) (t .count) (first p) (second p) (drop (t .at + 2) (s .args .bytes .now)) e (t .inv .same q e w .0) (low-word (p .before .before .before))
     (rw (c .enum-told .given .1) at (p .place .ensures)) in
-    (t .inv .same q e w .1 ∙ ap (decideFrom b₀ (held q (t .cells) (t .order) (t .count))) (next-two p) ∙ r .0, r .1)
+    (t .inv .same q e w .1 ∙ ap (placedFrom (held q (t .cells) (t .order) (t .count))) (next-two p) ∙ r .0, r .1)
 
 loop-holds : tie.Need-loop-holds Inv-loop μ-loop
 loop-holds c = record { within = omega arith; same = λ q e w. (w, refl) }
@@ -115,17 +114,16 @@ enum-told-2 : tie.Need-enum-told-2 Inv-loop μ-loop
 enum-told-2 c = search needs
 
 returns : tie.Need-returns Inv-loop μ-loop
-unfolding allPlaced
+unfolding refusedWith
 returns c =
     let p = c .before .before in
     let a = p .before .before .before .before .before .before .before .before in
     let s = a .before .before in
     let t = a .loop in
     λ q e w.
-    let b₀ = held q (s .args .cells .now) (s .args .order .now) (s .args .decided) in
-    let r = place-refused b₀ q (t .cells) (t .order) (s .args .n) (t .count) (first p) (second p) (drop (t .at + 2) (s .args .bytes .now)) e (t .inv .same q e w .0) (low-word (p .before .before .before))
+    let r = place-refused q (t .cells) (t .order) (s .args .n) (t .count) (first p) (second p) (drop (t .at + 2) (s .args .bytes .now)) e (t .inv .same q e w .0) (low-word (p .before .before .before))
     (rw (c .enum-told2 .given .1) at (p .place .ensures)) in
-    rw (c .enum-told2 .given .1) (sym (t .inv .same q e w .1 ∙ ap (decideFrom b₀ (held q (t .cells) (t .order) (t .count))) (next-two p) ∙ r))
+    rw (c .enum-told2 .given .1) (t .inv .same q e w .1 ∙ ap (placedFrom (held q (t .cells) (t .order) (t .count))) (next-two p) ∙ r)
 
 add-count : tie.Need-add-count Inv-loop μ-loop
 add-count c =
@@ -144,22 +142,20 @@ loop-again : tie.Need-loop-again Inv-loop μ-loop
 loop-again c = record { within = omega arith; same = λ q e w. let r = after-put c q e w in (r .1, r .0) }
 
 returns-2 : tie.Need-returns-2 Inv-loop μ-loop
-unfolding allPlaced decideFrom
+unfolding placedFrom refusedWith
 returns-2 c =
     let s = c .before .before .before .before in
     let t = c .before .before .loop in
     λ q e w.
-    let b₀ = held q (s .args .cells .now) (s .args .order .now) (s .args .decided) in
-    sym (t .inv .same q e w .1 ∙ ap (decideFrom b₀ (held q (t .cells) (t .order) (t .count))) (one-left (s .args .bytes .now) (t .at) (c .if1 .taken) (c .before .loop-test .left)))
+    t .inv .same q e w .1 ∙ ap (placedFrom (held q (t .cells) (t .order) (t .count))) (one-left (s .args .bytes .now) (t .at) (c .if1 .taken) (c .before .loop-test .left))
 
 returns-3 : tie.Need-returns-3 Inv-loop μ-loop
-unfolding allPlaced decideFrom
+unfolding placedFrom refusedWith
 returns-3 c =
     let s = c .before .before .before .before in
     let t = c .before .before .loop in
     λ q e w.
-    let b₀ = held q (s .args .cells .now) (s .args .order .now) (s .args .decided) in
-    sym (t .inv .same q e w .1 ∙ ap (decideFrom b₀ (held q (t .cells) (t .order) (t .count))) (none-left (s .args .bytes .now) (t .at) (c .if1 .left)))
+    t .inv .same q e w .1 ∙ ap (placedFrom (held q (t .cells) (t .order) (t .count))) (none-left (s .args .bytes .now) (t .at) (c .if1 .left))
 
 pub place-all-spec : {M : Type 1} → statement M
 place-all-spec =

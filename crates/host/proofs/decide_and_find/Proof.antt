@@ -15,6 +15,7 @@ use Rattle.record.specs.Problem.{gridOf}
 use Rattle.board.specs.Form.{wellFormed}
 use Rattle.board.specs.Decide.{decideFrom}
 use Rattle.board.specs.Inside.{held, allPlaced}
+use Rattle.board.proofs.Fold.{placed-all}
 use Rattle.board.specs.declared.Board.{Board}
 use Rattle.kinds.specs.Inside.{puzzleWith}
 use Rattle.reasons.specs.Reasons.{Found, findReason}
@@ -49,7 +50,7 @@ left c = held (start c .args .t1 .problem) (c .place-all .last .0) (c .place-all
 -- what `place_all` says of it
 placed : (c : tie.After-place-all) → allPlaced (start c .args .t1) (c .place-all .result .answer) (left c) ≡ decideFrom (start c .args .t1) (start c .args .t1) (start c .args .decisions .now)
 unfolding size gridOf
-placed c = c .place-all .ensures (start c .args .t1 .problem) refl (well (start c))
+placed c = placed-all (start c .args .t1) (start c .args .decisions .now) (c .place-all .ensures (start c .args .t1 .problem) refl (well (start c)))
 
 -- the first reason on the board after the decisions
 abbrev reason : tie.After-place-all → Found

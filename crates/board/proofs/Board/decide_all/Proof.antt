@@ -12,7 +12,7 @@ use Rattle.board.specs.Form.{wellFormed}
 use Rattle.board.specs.Decide.{refusedWith, decideAllOf}
 use Rattle.board.specs.Inside.{held, allPlaced}
 use Rattle.board.proofs.BoardForm.{whole-is, whole-most}
-use Rattle.board.proofs.Fold.{all-6, all-tested, all-done, all-refused}
+use Rattle.board.proofs.Fold.{all-6, all-tested, placed-all, all-done, all-refused}
 use borrow.Author.Needs.{needs}
 use Rattle.board.proofs.Board.decide_all.Statement.{statement}
 use Rattle.board.proofs.Board.decide_all.Tie as tie
@@ -39,7 +39,7 @@ result c = held (board (c .before) .problem) (c .place-all .last .0) (c .place-a
 -- what `place_all` says of it
 placed : (c : tie.After-place-all) → allPlaced (board (c .before)) (c .place-all .result .answer) (result c) ≡ decideAllOf (board (c .before)) (entry (c .before) .args .decisions .now)
 unfolding size gridOf
-placed c = c .place-all .ensures (board (c .before) .problem) refl (well (c .before)) ∙ all-tested (board (c .before)) (entry (c .before) .args .decisions .now) (well (c .before))
+placed c = placed-all (board (c .before)) (entry (c .before) .args .decisions .now) (c .place-all .ensures (board (c .before) .problem) refl (well (c .before))) ∙ all-tested (board (c .before)) (entry (c .before) .args .decisions .now) (well (c .before))
 
 returns : tie.Need-returns
 unfolding refusedWith
