@@ -13,7 +13,7 @@ use lib.Signed.{mag}
 use Rattle.grid.specs.Lists.{flatMap}
 use Rattle.record.specs.Record.{Outcome}
 use Rattle.board.specs.Board.{Literal}
-use Rattle.reasons.specs.Reasons.{Found}
+use Rattle.literals.specs.Literals.{Found}
 use Rattle.kinds.specs.Kinds.{word}
 use Rattle.host.specs.Host.{bytesOf, returned, outputAfter}
 use Rattle.answer.specs.Text.{digits, line, twoWords, reasonText, literalLine, literalIn, literalsIn}

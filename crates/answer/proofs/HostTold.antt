@@ -16,7 +16,8 @@ use Rattle.record.proofs.RecordLaws.{record-valid}
 use Rattle.record.proofs.WriteLaws.{size-le}
 use Rattle.board.specs.Board.{Literal, decide, after, refusal, decided, cellsAfter}
 use Rattle.board.proofs.Standing.{Standing, none, after-standing, standing-calls, standing-low}
-use Rattle.reasons.specs.Reasons.{Found, findReason, findOn}
+use Rattle.literals.specs.Literals.{Found}
+use Rattle.reasons.specs.Reasons.{findReason, findOn}
 use Rattle.reasons.specs.Find.{enough}
 use Rattle.reasons.proofs.NonEmpty.{reason-some}
 use Rattle.reasons.proofs.ReasonLaws.{found-length}

@@ -12,7 +12,10 @@ use Rattle.groups.specs.Groups.{rename, join, joinAll, edges, labels, group, na
 use Rattle.groups.specs.Arrows.{onArrow, pairsFrom, pairs}
 use Rattle.groups.specs.Rules.{fits}
 use Rattle.kinds.specs.Kinds.{isFloating, isIn, isBeside, kindBeside, arrowBlock, blocksBeside, kindAt, kindsOf, has, viewWith, view, block, floatNear, inReach, reach, rival, fenceAt, fence}
-use Rattle.reasons.specs.Reasons.{orElse, given, firstOf, each, reason1At, reason1, breadthFirst, parent, path, reason2At, reason2, mostApart, blockName, reasonGrow, reason3At, gap, reasonShrink, reason4At, reason34, findReason, findOn}
+use Rattle.literals.specs.Literals.{orElse, given, firstOf, each}
+use Rattle.units.specs.Units.{reason1At, reason1, breadthFirst, parent, path, reason2At, reason2}
+use Rattle.growth.specs.Growth.{mostApart, blockName, reasonGrow, reason3At, gap, reasonShrink, reason4At, reason34}
+use Rattle.reasons.specs.Reasons.{findReason, findOn}
 use Rattle.reasons.specs.Find.{enough}
 use Rattle.host.specs.Host.{acceptOr, decideBytes, hostFinds}
 use Rattle.answer.specs.Text.{digitsWithin, digits, line, noneText, reasonText, refusedText, twoWords, literalLine}

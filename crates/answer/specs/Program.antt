@@ -8,7 +8,7 @@ use lib.Dec.{ltb}
 use lib.ListN.{length, take, drop}
 use Rattle.grid.specs.Lists.{flatMap}
 use Rattle.record.specs.Record.{Outcome, ok, refused}
-use Rattle.reasons.specs.Reasons.{Found}
+use Rattle.literals.specs.Literals.{Found}
 use Rattle.host.specs.Host.{hostFinds}
 use Rattle.answer.specs.Text.{digits, line, twoWords, noneText, reasonText, refusedText, literalLine}
 

@@ -8,7 +8,7 @@
 use board::Board;
 use board::Decided;
 use libc::STDOUT_FILENO;
-use reasons::Finding;
+use literals::Finding;
 use record::Answer;
 ghost use Prim.Native.Nat.{_+_, _*_, _≤_, _<_};
 ghost use mathlib.Core.Path.{_≡_};

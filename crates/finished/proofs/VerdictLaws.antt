@@ -27,9 +27,10 @@ use Rattle.board.proofs.BoardForm.{whole-is}
 use Rattle.groups.specs.Rules.{BlockRules, rulesTest}
 use Rattle.groups.proofs.RulesLaws.{rules-test, test-rules}
 use Rattle.kinds.proofs.Bridge.{Setting}
-use Rattle.reasons.specs.Reasons.{Found}
-use Rattle.reasons.specs.Find.{cellsOn, reasonOn, enough, findRefusal, findingBy, findOf}
-use Rattle.reasons.specs.declared.Finding.the-variants.{Nothing, Reason, Refused}
+use Rattle.literals.specs.Literals.{Found}
+use Rattle.reasons.specs.Find.{cellsOn, reasonOn, enough, findRefusal, findOf}
+use Rattle.literals.specs.Buffer.{findingBy}
+use Rattle.literals.specs.declared.Finding.the-variants.{Nothing, Reason, Refused}
 use Rattle.reasons.proofs.Sound.{complete}
 use Rattle.finished.specs.Finished.{Finished, keeps, keepsAll, finishedTest}
 use Rattle.finished.specs.Verdicts.{verdict, finishedOf}

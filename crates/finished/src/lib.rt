@@ -1,6 +1,6 @@
 // Whether a board is finished.
 use board::Board;
-use reasons::Finding;
+use literals::Finding;
 ghost use mathlib.Core.Path.{_≡_};
 ghost use Prim.Native.Nat.{_≤_};
 ghost use lib.ListN.{length};

@@ -8,3 +8,4 @@ pub mod Signed
 pub mod SideLaws
 pub mod ShiftLaws
 pub mod AroundLaws
+pub mod Turns

@@ -4,9 +4,10 @@ use Prim.Native.Nat.{ℕ, _≤_, _<_}
 use mathlib.Core.Path.{_≡_}
 use mathlib.Core.Bool.{Bool, cond}
 use mathlib.Core.List.{List, [], _∷_, _++_}
-use lib.ListN.{length, getD}
+use lib.ListN.{length, getD, take}
 use Rattle.grid.specs.Lists.{any, member}
 use Rattle.board.specs.Board.{square}
+use Rattle.record.specs.Problem.{arrowsFrom}
 
 -- i is an arrow cell: a cell of some arrow
 unfoldable pub onArrow : List (List ℕ) → ℕ → Bool
@@ -36,3 +37,12 @@ pub record Line (line : List ℕ) (total : ℕ) : Type 0 where
   pub long : length line ≡ 1024
   pub within : total ≤ 1024
   pub cells : (k : ℕ) → k < total → getD line k 0 < 1024
+
+-- an array of cells
+pub record CellArray (a : List ℕ) : Type 0 where
+  pub long : length a ≡ 1024
+  pub cells : (k : ℕ) → getD a k 0 < 1024
+
+-- all arrows as they stand in arrays
+abbrev pub linesOf : List ℕ → List ℕ → ℕ → List (List ℕ)
+linesOf arrows ends count = arrowsFrom arrows 0 (take count ends)

@@ -231,9 +231,9 @@ fn run_block(
     let name = f as u16;
     let mut near = no_marks();
     let mut marks = no_marks();
-    let size = kinds::compute_reach(kinds, owners, h, w, name, &mut near, &mut marks);
+    let size = reach::compute_reach(kinds, owners, h, w, name, &mut near, &mut marks);
     let mut part = no_literals();
-    let written = kinds::reason_for_adjacent_floating_boundary(
+    let written = fence::reason_for_adjacent_floating_boundary(
         cells,
         kinds,
         owners,

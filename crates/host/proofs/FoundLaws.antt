@@ -14,11 +14,12 @@ use Rattle.record.specs.Record.{Outcome, ok, refused}
 use Rattle.board.specs.Board.{Literal}
 use Rattle.kinds.specs.Kinds.{word}
 use Rattle.kinds.specs.Inside.{puzzleWith}
-use Rattle.reasons.specs.Reasons.{Found, findReason}
-use Rattle.reasons.specs.Arrays.{linesOf, ArrowArrays}
-use Rattle.reasons.specs.Pairs.{FoundAs}
-use Rattle.reasons.specs.Find.{findingBy, bufferBy}
-use Rattle.reasons.specs.declared.Finding.the-variants.{Reason}
+use Rattle.literals.specs.Literals.{Found}
+use Rattle.reasons.specs.Reasons.{findReason}
+use Rattle.groups.specs.Arrows.{linesOf}
+use Rattle.reasons.specs.Arrays.{ArrowArrays}
+use Rattle.literals.specs.Buffer.{FoundAs, findingBy, bufferBy}
+use Rattle.literals.specs.declared.Finding.the-variants.{Reason}
 use Rattle.reasons.proofs.ReasonLaws.{reason-length}
 use Rattle.host.specs.Host.{bytesOf, returned, outputAfter}
 

@@ -16,7 +16,8 @@ use Rattle.board.specs.Board.{Literal, decide, after, refusal}
 use Rattle.board.specs.Kept.{openOf}
 use Rattle.board.specs.declared.Board.{Board}
 use Rattle.kinds.specs.Kinds.{word}
-use Rattle.reasons.specs.Reasons.{findOn, Found}
+use Rattle.reasons.specs.Reasons.{findOn}
+use Rattle.literals.specs.Literals.{Found}
 use Rattle.reasons.specs.Find.{enough}
 
 -- 16-bit numbers as bytes, most significant first

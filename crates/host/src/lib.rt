@@ -1,6 +1,6 @@
 // The call that is exported for Rust and C.
 use board::Board;
-use reasons::Finding;
+use literals::Finding;
 use record::Answer;
 ghost use mathlib.Core.Path.{_≡_};
 ghost use Prim.Native.Nat.{ℕ, _+_, _*_, _≤_};
@@ -12,7 +12,8 @@ ghost use Rattle.grid.specs.Side.{sized};
 ghost use Rattle.record.specs.Record.{ok};
 ghost use Rattle.kinds.specs.Inside.{puzzleWith};
 ghost use Rattle.reasons.specs.Reasons.{findReason};
-ghost use Rattle.reasons.specs.Arrays.{linesOf, ArrowArrays};
+ghost use Rattle.groups.specs.Arrows.{linesOf};
+ghost use Rattle.reasons.specs.Arrays.{ArrowArrays};
 ghost use Rattle.host.specs.Host.{bytesOf, hostFinds, returned, outputAfter, Opens};
 
 // The number of a refusal, negated.

@@ -5,15 +5,9 @@ pub mod Fence
 pub mod KindLaws
 pub mod FenceMeaning
 pub mod Filled
-pub mod Insertion
 pub mod Traversal
 pub mod Owners
 pub mod Views
 pub mod ArrowMarks
-pub mod Reaches
-pub mod Ordering
-pub mod Fences
-pub mod FenceList
-pub mod ChainLaws
-pub mod NearLaws
-pub mod NearReach
+pub mod BlockArrays
+pub mod Lengths

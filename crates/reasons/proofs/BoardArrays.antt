@@ -29,12 +29,15 @@ use Rattle.board.proofs.BoardForm.{whole-is}
 use Rattle.form.proofs.ProblemForm.{Formed, valid-formed, formed-valid, formed-again, size-most, rises-last}
 use Rattle.kinds.specs.Kinds.{arrowBlock, blocksBeside, kindAt, kindsOf, view, viewWith}
 use Rattle.kinds.specs.Inside.{puzzleWith}
-use Rattle.reasons.specs.declared.Finding.{Finding}
-use Rattle.reasons.specs.declared.Finding.the-variants.{Refused}
-use Rattle.reasons.specs.Reasons.{Found, reason1At, reason1, reason2, findReason}
-use Rattle.reasons.specs.Arrays.{CellArray, linesOf, ArrowArrays}
-use Rattle.reasons.specs.Pairs.{FoundAs}
-use Rattle.reasons.specs.Find.{cellsOn, reasonOn, enough, findRefusal, findingBy, bufferBy, findOf, bufferAfter}
+use Rattle.literals.specs.declared.Finding.{Finding}
+use Rattle.literals.specs.declared.Finding.the-variants.{Refused}
+use Rattle.literals.specs.Literals.{Found}
+use Rattle.units.specs.Units.{reason1At, reason1, reason2}
+use Rattle.reasons.specs.Reasons.{findReason}
+use Rattle.groups.specs.Arrows.{CellArray, linesOf}
+use Rattle.reasons.specs.Arrays.{ArrowArrays}
+use Rattle.literals.specs.Buffer.{FoundAs, findingBy, bufferBy}
+use Rattle.reasons.specs.Find.{cellsOn, reasonOn, enough, findRefusal, findOf, bufferAfter}
 
 -- numbers that rise
 rises-step : (at : ℕ) (es : List ℕ) → rises at es ≡ true → (a : ℕ) → suc a < length es → getD es a 0 ≤ getD es (suc a) 0

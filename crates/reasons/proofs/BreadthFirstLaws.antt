@@ -19,11 +19,12 @@ use Rattle.grid.proofs.GridLaws.{apart}
 use Rattle.board.specs.Board.{Literal, square}
 use Rattle.kinds.specs.Meaning.{Block}
 use Rattle.kinds.proofs.Bridge.{Setting, boardOf, sq<}
-use Rattle.reasons.specs.Reasons.{Entry, each, breadthFirst, parent, path, reason2}
-use Rattle.reasons.specs.Search.{seen, appended}
-use Rattle.reasons.specs.BreadthFirst.{Listed, Appends, through, append, pass, Builds, built, turn, BreadthFirst, Runs, arrived, onward, ByParents}
+use Rattle.units.specs.Units.{Entry, breadthFirst, parent, path, reason2}
+use Rattle.literals.specs.Literals.{each}
+use Rattle.units.specs.Search.{seen, appended}
+use Rattle.units.specs.BreadthFirst.{Listed, Appends, through, append, pass, Builds, built, turn, BreadthFirst, Runs, arrived, onward, ByParents}
 use Rattle.reasons.proofs.Sound2.{two-of}
-use Rattle.reasons.proofs.Walk.{seen-so, so-seen, listed-left, listed-cases, listed-one, Tree, root, grow, tree-square, tree-length, tree-step, whole-tree, whole-listed, Early, parent-early}
+use Rattle.units.proofs.Walk.{seen-so, so-seen, listed-left, listed-cases, listed-one, Tree, root, grow, tree-square, tree-length, tree-step, whole-tree, whole-listed, Early, parent-early}
 
 -- ---- what a cell appends
 

@@ -3,9 +3,9 @@
 use Prim.Native.Nat.{ℕ, suc, _*_, _≤_, _<_}
 use native.Mathlib.Omega.{arith}
 use mathlib.Core.Bool.{true, false}
-use mathlib.Core.Path.{_≡_, refl, sym, subst, _∙_}
+use mathlib.Core.Path.{_≡_, refl, subst, _∙_}
 use mathlib.Core.List.{List, [], _∷_, _++_, List·Memᴰ}
-use mathlib.Core.Option.{none, some}
+use mathlib.Core.Option.{none}
 use lib.ListN.{length, getD, take}
 use lib.Seq.{take-suc}
 use Rattle.grid.specs.Lists.{last}
@@ -16,55 +16,23 @@ use Rattle.grid.proofs.ListLaws.{flatMap-mem}
 use Rattle.record.specs.Record.{Puzzle}
 use Rattle.record.specs.Problem.{arrowCells}
 use Rattle.groups.specs.Groups.{marksOf, maskOf, labelArray, counts}
-use Rattle.groups.specs.Arrows.{onArrow, Line}
+use Rattle.groups.specs.Arrows.{onArrow, Line, linesOf}
 use Rattle.groups.proofs.MarkLaws.{arrow-marks}
 use Rattle.groups.proofs.LabelLaws.{labels-potential, labels-blocks}
 use Rattle.kinds.specs.Inside.{puzzleWith, Held}
 use Rattle.kinds.specs.Kinds.{view}
-use Rattle.board.specs.Board.{Literal}
-use Rattle.reasons.specs.declared.Name.{Name}
-use Rattle.reasons.specs.declared.Name.the-variants.{At, Nobody}
-use Rattle.reasons.specs.declared.Ends.{Ends}
-use Rattle.reasons.specs.declared.Ends.the-variants.{Between, Nowhere}
-use Rattle.reasons.specs.declared.Finding.{Finding}
-use Rattle.reasons.specs.declared.Finding.the-variants.{Nothing, Reason, Refused}
-use Rattle.reasons.specs.Reasons.{Found, each, path, reason1, reason2, reason34, findReason}
-use Rattle.reasons.specs.Buffer.{Wrote}
-use Rattle.reasons.specs.Arrays.{foundAt, foundWay, SameBlock, Crossing, ArrowArrays, linesOf, PotentialArrays, BlockArrays, Listed, Ready}
-use Rattle.reasons.specs.Search.{PathEnds, listFrom}
-use Rattle.reasons.specs.Pairs.{FoundAs, Fit, Whole, viewOn}
-use Rattle.reasons.proofs.Findings.{found-none, wrote-found, nothing-found, not-refused, found-first, found-next}
-
--- the cells of a grid
-pub sized-size : (h w : ℕ) → h * w ≡ size (sized h w)
-unfolding size
-sized-size h w = refl
-
--- a group that was named gives its reason, and nobody gives none
-pub named-found : {f : Found} (r : ℕ → List Literal) {name : Name} {i k : ℕ} {a b : List ℕ} → f ≡ foundAt r name → name ≡ At i → Wrote (r i) a b k → FoundAs f a b (Reason k)
-unfolding foundAt
-named-found r e n w = rw (e, n) (wrote-found w)
-
-pub nobody-found : {f : Found} (r : ℕ → List Literal) {name : Name} (a : List ℕ) → f ≡ foundAt r name → name ≡ Nobody → FoundAs f a a Nothing
-unfolding foundAt
-nobody-found r a e n = rw (e, n) (found-none a)
-
-module _ (h w : ℕ) (arrows : List (List ℕ)) (cells : List ℕ) {ends : Ends} (c : Crossing (puzzleWith (sized h w) arrows) cells ends) where
-  -- the ends of a path are squares of one block
-  pub crossing-ends : {a b : ℕ} → ends ≡ Between a b → h ≤ 32 → w ≤ 32 → PathEnds h w cells a b
-  unfolding SameBlock
-  crossing-ends e tall wide = record { tall = tall; wide = wide; joined = subst (SameBlock (sized h w) cells) e (c .joined) }
-
-  -- the path is the reason
-  pub crossing-found : {a b k : ℕ} {before after : List ℕ} → ends ≡ Between a b → Wrote (each 1 (path (size (sized h w)) (listFrom h w cells b) a b)) before after k
-      → FoundAs (reason2 (puzzleWith (sized h w) arrows) cells) before after (Reason k)
-  unfolding foundWay
-  crossing-found e x = rw (c .reason, e) (wrote-found x)
-
-  -- without ends there is none
-  pub crossing-none : (before : List ℕ) → ends ≡ Nowhere → FoundAs (reason2 (puzzleWith (sized h w) arrows) cells) before before Nothing
-  unfolding foundWay
-  crossing-none before e = rw (c .reason, e) (found-none before)
+use Rattle.literals.specs.declared.Finding.{Finding}
+use Rattle.literals.specs.declared.Finding.the-variants.{Nothing, Reason, Refused}
+use Rattle.literals.specs.Literals.{Found}
+use Rattle.units.specs.Units.{reason1, reason2}
+use Rattle.growth.specs.Growth.{reason34}
+use Rattle.reasons.specs.Reasons.{findReason}
+use Rattle.units.specs.Arrays.{PotentialArrays, BlockArrays, Listed}
+use Rattle.reasons.specs.Arrays.{ArrowArrays, Ready}
+use Rattle.literals.specs.Buffer.{FoundAs, Fit}
+use Rattle.growth.specs.Pairs.{Whole, viewOn}
+use Rattle.literals.proofs.Findings.{nothing-found, not-refused, found-first, found-next}
+use Rattle.units.proofs.Checks.{sized-size}
 
 -- the last of the first numbers
 last-snoc : (d : ℕ) (l : List ℕ) (x : ℕ) → last d (l ++ (x ∷ [])) ≡ x

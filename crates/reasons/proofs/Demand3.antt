@@ -30,8 +30,10 @@ use Rattle.form.proofs.ProblemForm.{size-most}
 use Rattle.board.proofs.BoardForm.{is-whole, standing-whole}
 use Rattle.board.proofs.CallLaws.{opened-left, after-calls}
 use Rattle.kinds.specs.Kinds.{word}
-use Rattle.reasons.specs.Reasons.{Found, findReason, findOn}
-use Rattle.reasons.specs.Find.{cellsOn, reasonOn, enough, findRefusal, findingBy, bufferBy, findOf, bufferAfter, literalOf, told, answerOn}
+use Rattle.literals.specs.Literals.{Found}
+use Rattle.reasons.specs.Reasons.{findReason, findOn}
+use Rattle.reasons.specs.Find.{cellsOn, reasonOn, enough, findRefusal, findOf, bufferAfter, literalOf, told, answerOn}
+use Rattle.literals.specs.Buffer.{findingBy, bufferBy}
 use Rattle.reasons.specs.Demand3.{boardAfter, Demand3, Demand}
 use Rattle.reasons.proofs.OnMachine.{OnMachine, on-machine}
 

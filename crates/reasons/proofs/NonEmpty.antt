@@ -15,8 +15,11 @@ use Rattle.board.specs.Board.{Literal, square, filled}
 use Rattle.groups.specs.Groups.{labels, group, names}
 use Rattle.groups.specs.Arrows.{Pair, onArrow}
 use Rattle.kinds.specs.Kinds.{View, view}
-use Rattle.reasons.specs.Reasons.{Entry, Found, orElse, given, firstOf, parent, path, reason1At, reason1, reason2At, reason2, reasonGrow, reason3At, reasonShrink, reason4At, reason34, findReason}
-use Rattle.reasons.proofs.Pass.{each-length}
+use Rattle.units.specs.Units.{Entry, parent, path, reason1At, reason1, reason2At, reason2}
+use Rattle.literals.specs.Literals.{Found, orElse, given, firstOf}
+use Rattle.growth.specs.Growth.{reasonGrow, reason3At, reasonShrink, reason4At, reason34}
+use Rattle.reasons.specs.Reasons.{findReason}
+use Rattle.literals.proofs.Pass.{each-length}
 
 -- a reason with a literal, or none
 Literate : Found → Type 0

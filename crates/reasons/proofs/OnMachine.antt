@@ -20,7 +20,8 @@ use Rattle.board.proofs.BoardLaws.{un-below}
 use Rattle.board.proofs.Standing.{Standing, calls-standing, index, standing-distinct, same-board, cells-equal, cell-stands, cells-valid}
 use Rattle.groups.specs.Rules.{BlockRules}
 use Rattle.kinds.proofs.Bridge.{Setting}
-use Rattle.reasons.specs.Reasons.{Found, findReason, findOn}
+use Rattle.literals.specs.Literals.{Found}
+use Rattle.reasons.specs.Reasons.{findReason, findOn}
 use Rattle.reasons.proofs.Stands.{find-stands}
 use Rattle.reasons.proofs.Sound.{sound, complete}
 

@@ -7,8 +7,8 @@ use mathlib.Core.Bool.{Bool, true, false, cond, _&&_, not}
 use mathlib.Core.List.{List, [], _∷_, _++_, List·Memᴰ, List·Memᴰ·head, List·Memᴰ·tail}
 use mathlib.Core.Option.{none, some}
 use lib.Dec.{eqb}
-use lib.ListN.{length, getD, length-append}
-use Rattle.grid.proofs.ListLaws.{filter-length, flatMap-length, length-tail, length-init, flatMap-mem}
+use lib.ListN.{length, length-append}
+use Rattle.grid.proofs.ListLaws.{filter-length, length-tail, length-init, flatMap-mem}
 use Rattle.grid.proofs.GridLaws.{cells-length}
 use Rattle.grid.specs.Lists.{filter, any, flatMap, tail, init, last}
 use Rattle.grid.specs.Grid.{Grid, size, cellsOf, touches}
@@ -19,9 +19,13 @@ use Rattle.board.specs.Board.{Literal, square, empty, filled}
 use Rattle.groups.proofs.ArrowLaws.{pairs-parted, pos-below}
 use Rattle.groups.specs.Groups.{labels, group, names}
 use Rattle.groups.specs.Arrows.{onArrow, Pair, pairs}
-use Rattle.kinds.specs.Kinds.{View, Kind, view, viewWith, block, reach, fence, fenceAt, vacant, barrier, floating, inBlock, beside, rival, has, isIn}
-use Rattle.reasons.proofs.Pass.{each-length}
-use Rattle.reasons.specs.Reasons.{Entry, Found, orElse, given, firstOf, each, reason1At, reason1, reason2At, reason2, path, parent, breadthFirst, blockName, reasonGrow, reason3At, gap, reasonShrink, reason4At, reason34, findReason}
+use Rattle.kinds.specs.Kinds.{View, view, viewWith}
+use Rattle.literals.proofs.Pass.{each-length}
+use Rattle.units.specs.Units.{Entry, reason1At, reason1, reason2At, reason2, path, parent, breadthFirst}
+use Rattle.literals.specs.Literals.{Found, orElse, given, firstOf, each}
+use Rattle.growth.specs.Growth.{blockName, reasonGrow, reason3At, gap, reasonShrink, reason4At, reason34}
+use Rattle.reasons.specs.Reasons.{findReason}
+use Rattle.kinds.proofs.Lengths.{block-length, fence-length}
 
 -- a reason of this length at most
 Short : ℕ → Found → Type 0
@@ -90,26 +94,6 @@ module _ (p : Puzzle) (cells : List ℕ) where
       at (a ∷ b ∷ c) =
           let way : List ℕ = path (size g) (breadthFirst g cells (size g) [] ((b, b) ∷ [])) a b in
           some-short (bound g) (each 1 way) (rw each-length (omega (arith, path-length (size g) (breadthFirst g cells (size g) [] ((b, b) ∷ [])) a b)))
-
-module _ (v : View) where
-  pub block-length : (f : ℕ) → length (block v f) ≤ size (v .grid)
-  unfolding block
-  block-length f = omega (arith, filter-length (has (isIn f) (v .kinds)) (cellsOf (v .grid)), cells-length (v .grid))
-
-  pub fence-length : (f : ℕ) → length (fence v f) ≤ size (v .grid)
-  unfolding fence fenceAt
-  fence-length f = omega (arith, flatMap-length (λ i. fenceAt v f (reach v f) i (getD (v .kinds) i vacant)) (λ i. one i (getD (v .kinds) i vacant)) (cellsOf (v .grid)), cells-length (v .grid))
-    where
-      pick : (t : Bool) (l : Literal) → length (cond t (l ∷ []) []) ≤ 1
-      pick true l = omega arith
-      pick false l = omega arith
-
-      one : (i : ℕ) (k : Kind) → length (fenceAt v f (reach v f) i k) ≤ 1
-      one i vacant = pick (touches (v .grid) (reach v f) i) (i, 0)
-      one i barrier = omega arith
-      one i floating = omega arith
-      one i (inBlock e) = pick (not (eqb e f) && rival v (reach v f) e) (i, 1)
-      one i (beside e) = omega arith
 
 -- a pair whose gap is no longer than the grid is large
 module _ (v : View) (e : Pair) (h : length (e .between) ≤ size (v .grid)) where

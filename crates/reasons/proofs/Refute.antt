@@ -15,7 +15,7 @@ use Rattle.groups.proofs.Shift.{Contains, Below}
 use Rattle.kinds.specs.Meaning.{PartialBoard, Block, Reach}
 use Rattle.kinds.proofs.Confine.{Decide, Fenced, confined}
 use Rattle.reasons.proofs.Along.{along, Follows, passed}
-use Rattle.reasons.proofs.Gap.{Choice}
+use Rattle.growth.proofs.Gap.{Choice}
 
 -- the arrows: arrow t has the cells at t 0 .. at t (len t - 1), neighbours share a side, no cell twice
 pub record Arrows (B : PartialBoard) : Type 1 where

@@ -32,9 +32,12 @@ use Rattle.reasons.proofs.First.{or-else-some, given-none, first-none, 
 use Rattle.reasons.proofs.Sound1.{so-filled, reason1-sound, filled<, filled-so}
 use Rattle.reasons.proofs.Stands.{find-stands}
 use Rattle.reasons.proofs.Sound2.{reason2-sound, blockOf}
-use Rattle.reasons.specs.Reasons.{Found, orElse, firstOf, reason1At, reason1, mostApart, reason3At, reason4At, reason34, reason2At, reason2, findReason}
+use Rattle.literals.specs.Literals.{Found, orElse, firstOf}
+use Rattle.units.specs.Units.{reason1At, reason1, reason2At, reason2}
+use Rattle.growth.specs.Growth.{mostApart, reason3At, reason4At, reason34}
+use Rattle.reasons.specs.Reasons.{findReason}
 use Rattle.reasons.proofs.Quiet.{Quiet, quiet-rules}
-use Rattle.reasons.proofs.Gap.{most-full}
+use Rattle.growth.proofs.Gap.{most-full}
 
 module _ (set : Setting) where
   open Setting set using (puzzle, cells, valid)

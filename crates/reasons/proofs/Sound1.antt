@@ -25,7 +25,8 @@ use Rattle.kinds.specs.Meaning.{PartialBoard}
 use Rattle.kinds.proofs.Confine.{lonely}
 use Rattle.reasons.proofs.First.{given-some, first-some, agrees-left, agrees-right, agrees-each}
 use Rattle.reasons.proofs.Plain.{RulesAt}
-use Rattle.reasons.specs.Reasons.{each, reason1At, reason1}
+use Rattle.literals.specs.Literals.{each}
+use Rattle.units.specs.Units.{reason1At, reason1}
 
 module _ (set : Setting) where
   open Setting set using (puzzle, cells, valid)

@@ -20,8 +20,9 @@ use Rattle.kinds.proofs.Bridge.{Setting, boardOf, sq<, block-labels}
 use Rattle.kinds.specs.Meaning.{PartialBoard, Block}
 use Rattle.reasons.proofs.First.{agrees-each, first-some}
 use Rattle.reasons.proofs.Plain.{RulesAt}
-use Rattle.reasons.specs.Reasons.{each, reason2At, reason2, path, breadthFirst}
-use Rattle.reasons.proofs.Walk.{path-linked}
+use Rattle.literals.specs.Literals.{each}
+use Rattle.units.specs.Units.{reason2At, reason2, path, breadthFirst}
+use Rattle.units.proofs.Walk.{path-linked}
 
 module _ (set : Setting) where
   open Setting set using (puzzle, cells, valid)

@@ -29,8 +29,9 @@ use Rattle.kinds.proofs.Confine.{Fenced}
 use Rattle.kinds.proofs.Fence.{reach-in, in-reach, block-in, in-block, length-reach, length-block, fenced}
 use Rattle.reasons.proofs.First.{first-some, agrees-left, agrees-right, agrees-each, or-else-some, or-else-none, given-none, given-some}
 use Rattle.reasons.proofs.Plain.{lineLen, RulesAt, on-line, Which, lineAt}
-use Rattle.reasons.specs.Reasons.{given, reasonShrink, firstOf, each, mostApart, blockName, reasonGrow, reason3At, gap, reason4At, reason34}
-use Rattle.reasons.proofs.Gap.{Choice, most-bound}
+use Rattle.literals.specs.Literals.{given, firstOf, each}
+use Rattle.growth.specs.Growth.{reasonShrink, mostApart, blockName, reasonGrow, reason3At, gap, reason4At, reason34}
+use Rattle.growth.proofs.Gap.{Choice, most-bound}
 use Rattle.reasons.proofs.Refute.{Arrows, Filling, reason-3, reason-4a, reason-4b}
 
 module _ (set : Setting) where

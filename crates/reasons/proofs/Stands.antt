@@ -23,8 +23,11 @@ use Rattle.kinds.proofs.Fence.{block-in}
 use Rattle.reasons.proofs.Sound34.{curCell, lastCell, placed, four-some, tooMany, tooFew, three-some, shrinkLiterals, pair, Placed, Spot}
 use Rattle.reasons.proofs.First.{given-some, or-else-some, first-some}
 use Rattle.reasons.proofs.Sound2.{way, two-of}
-use Rattle.reasons.specs.Reasons.{orElse, firstOf, each, reason1At, reason1, blockName, reasonGrow, reason3At, reason4At, reason34, reason2, findReason}
-use Rattle.reasons.proofs.Walk.{path-square}
+use Rattle.literals.specs.Literals.{orElse, firstOf, each}
+use Rattle.units.specs.Units.{reason1At, reason1, reason2}
+use Rattle.growth.specs.Growth.{blockName, reasonGrow, reason3At, reason4At, reason34}
+use Rattle.reasons.specs.Reasons.{findReason}
+use Rattle.units.proofs.Walk.{path-square}
 
 module _ (set : Setting) where
   open Setting set using (puzzle, lines, cells, valid)

@@ -7,9 +7,10 @@ use mathlib.Core.List.{List}
 use mathlib.Core.Option.{none, some}
 use lib.ListN.{length}
 use Rattle.board.specs.declared.Board.{Board}
-use Rattle.reasons.specs.Reasons.{Found}
-use Rattle.reasons.specs.declared.Finding.the-variants.{Nothing, Refused}
-use Rattle.reasons.specs.Find.{reasonOn, findRefusal, findingBy, bufferBy, findOf, bufferAfter}
+use Rattle.literals.specs.Literals.{Found}
+use Rattle.literals.specs.declared.Finding.the-variants.{Nothing, Refused}
+use Rattle.reasons.specs.Find.{reasonOn, findRefusal, findOf, bufferAfter}
+use Rattle.literals.specs.Buffer.{findingBy, bufferBy}
 
 by-refusal : (k : ℕ) (f : Found) (buffer : List ℕ) (r : ℕ) → findingBy k f ≡ Refused r → bufferBy k f buffer ≡ buffer
 unfolding findingBy bufferBy

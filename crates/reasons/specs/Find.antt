@@ -1,21 +1,22 @@
 -- What find answers on a board, and what it leaves in the lent buffer.
 -- Assumes nothing.
-use Prim.Native.Nat.{ℕ, zero, suc, _+_, _*_, _/_, _%_}
+use Prim.Native.Nat.{ℕ, _+_, _*_, _/_, _%_}
 use mathlib.Core.Bool.{cond}
-use mathlib.Core.List.{List, _++_, map}
+use mathlib.Core.List.{List, map}
 use mathlib.Core.Option.{none, some}
 use lib.Dec.{ltb}
-use lib.ListN.{length, take, drop}
+use lib.ListN.{length, take}
 use Rattle.grid.specs.Grid.{Grid, size}
 use Rattle.record.specs.Record.{Outcome, ok, refused}
 use Rattle.record.specs.Problem.{gridOf, puzzleOf}
 use Rattle.board.specs.Board.{Literal}
 use Rattle.board.specs.Form.{wellFormed}
 use Rattle.board.specs.declared.Board.{Board}
-use Rattle.kinds.specs.Kinds.{word}
-use Rattle.reasons.specs.Reasons.{Found, findReason}
-use Rattle.reasons.specs.declared.Finding.{Finding}
-use Rattle.reasons.specs.declared.Finding.the-variants.{Nothing, Reason, Refused}
+use Rattle.literals.specs.Literals.{Found}
+use Rattle.reasons.specs.Reasons.{findReason}
+use Rattle.literals.specs.declared.Finding.{Finding}
+use Rattle.literals.specs.declared.Finding.the-variants.{Nothing, Reason, Refused}
+use Rattle.literals.specs.Buffer.{findingBy, bufferBy}
 
 -- the states of a board's cells
 unfoldable pub cellsOn : Board → List ℕ
@@ -32,18 +33,6 @@ enough g = 3 * size g + 1
 -- find's refusal on a board with a buffer of k literals: 6, then 11; 0 for none
 unfoldable pub findRefusal : Board → ℕ → ℕ
 findRefusal b k = cond (wellFormed b) (cond (ltb k (enough (gridOf (b .problem)))) 11 0) 6
-
--- the answer by its refusal and what was found
-unfoldable pub findingBy : ℕ → Found → Finding
-findingBy zero none = Nothing
-findingBy zero (some r) = Reason (length r)
-findingBy (suc k) f = Refused (suc k)
-
--- the buffer by the refusal and what was found: a literal is one number, and stands at its place; behind them nothing changes
-unfoldable pub bufferBy : ℕ → Found → List ℕ → List ℕ
-bufferBy zero none buffer = buffer
-bufferBy zero (some r) buffer = map word r ++ drop (length r) buffer
-bufferBy (suc k) f buffer = buffer
 
 -- what find answers
 unfoldable pub findOf : Board → List ℕ → Finding

@@ -1,9 +1,4 @@
 pub mod Reasons
-pub mod BreadthFirst
-pub mod Buffer
 pub mod Arrays
-pub mod Shift
-pub mod Pairs
-pub mod Search
 pub mod Find
 pub mod Demand3

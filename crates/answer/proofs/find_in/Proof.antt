@@ -7,7 +7,7 @@ use lib.ListN.{length}
 use mir.Syntax.{w32}
 use mir.ValLaws.{toZ-ofZ}
 use Rattle.record.specs.Record.{Outcome}
-use Rattle.reasons.specs.Reasons.{Found}
+use Rattle.literals.specs.Literals.{Found}
 use Rattle.host.specs.Host.{returned, outputAfter}
 use Rattle.host.proofs.FoundLaws.{refused-told}
 use Rattle.answer.proofs.Inputs.{too-long, too-short, cut-short, whole-input}

@@ -18,8 +18,9 @@ use Rattle.board.specs.Inside.{held, allPlaced}
 use Rattle.board.proofs.Fold.{placed-all}
 use Rattle.board.specs.declared.Board.{Board}
 use Rattle.kinds.specs.Inside.{puzzleWith}
-use Rattle.reasons.specs.Reasons.{Found, findReason}
-use Rattle.reasons.specs.Arrays.{linesOf}
+use Rattle.literals.specs.Literals.{Found}
+use Rattle.reasons.specs.Reasons.{findReason}
+use Rattle.groups.specs.Arrows.{linesOf}
 use Rattle.reasons.proofs.BoardArrays.{board-sizes, board-arrays}
 use Rattle.host.specs.Host.{hostFinds, Opens}
 use Rattle.host.proofs.HostLaws.{opens-as, opens-area, opens-well, output-short, decisions-refused, decisions-done, reason-held}

@@ -9,9 +9,10 @@ use mir.ValLaws.{toZ-pos}
 use Rattle.grid.specs.Side.{sized}
 use Rattle.grid.proofs.SideLaws.{area}
 use Rattle.kinds.specs.Inside.{puzzleWith}
-use Rattle.reasons.specs.Reasons.{Found, findReason}
-use Rattle.reasons.specs.Arrays.{linesOf}
-use Rattle.reasons.proofs.Findings.{nothing-found, not-refused}
+use Rattle.literals.specs.Literals.{Found}
+use Rattle.reasons.specs.Reasons.{findReason}
+use Rattle.groups.specs.Arrows.{linesOf}
+use Rattle.literals.proofs.Findings.{nothing-found, not-refused}
 use Rattle.host.proofs.FoundLaws.{Literals, found-literals, few-literals, none-told, literals-told}
 use borrow.Author.Needs.{needs}
 use Rattle.host.proofs.find_on.Statement.{statement}

@@ -117,9 +117,9 @@ traverse-grid-loop-again t c =
       omega (arith, c .before .before .loop-test .taken),
       ⊎-elim
           (λ v. side-at (s .pre .1 .cell) (l .loop .k) (d .result) (d .ensures) (Turn (sized (a .h) (a .w)) (floats (a .kinds .now)) (a .i) (a .name) named (c .match .owners)) _ (v .1 .given .1)
-              (rw (v .5) (turn-more (s .pre .1 .small) floating (side-adjacent (s .pre .1 .cell) (l .loop .k) (d .result) (d .ensures) _ (v .1 .given .1)) (v .4 .ensures) (l .loop .inv .1))))
+          (rw (v .5) (turn-more (s .pre .1 .small) floating (side-adjacent (s .pre .1 .cell) (l .loop .k) (d .result) (d .ensures) _ (v .1 .given .1)) (v .4 .ensures) (l .loop .inv .1))))
           (λ v. side-off (s .pre .1 .cell) (l .loop .k) (d .result) (d .ensures) (Turn (sized (a .h) (a .w)) (floats (a .kinds .now)) (a .i) (a .name) named (c .match .owners)) (v .1 .given .1)
-              (rw (v .2) (l .loop .inv .1)))
+          (rw (v .2) (l .loop .inv .1)))
           (c .match .came),
     )
 

@@ -60,9 +60,9 @@ loop-again c =
       omega (arith, c .before .before .loop-test .taken),
       ⊎-elim
           (λ v. side-at (s .pre) (l .k) (t .toward .result) (t .toward .ensures) (λ (m : List ℕ). Owned (arrowsAt (a .blocks .now) (a .arrowed .now) m) (c .match .owner)) _ (v .1 .given .1)
-              (rw (v .4) (v .3 .ensures _ (l .inv .1))))
+          (rw (v .4) (v .3 .ensures _ (l .inv .1))))
           (λ v. side-off (s .pre) (l .k) (t .toward .result) (t .toward .ensures) (λ (m : List ℕ). Owned (arrowsAt (a .blocks .now) (a .arrowed .now) m) (c .match .owner)) (v .1 .given .1)
-              (rw (v .2) (l .inv .1)))
+          (rw (v .2) (l .inv .1)))
           (c .match .came),
     )
 

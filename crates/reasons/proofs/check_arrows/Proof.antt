@@ -1,7 +1,7 @@
 -- `reasons::check_arrows` meets its contract: the kinds are those of the board, the cells of each owner are linked and counted, and the search goes on from there.
 -- Assumes nothing.
 use Rattle.grid.proofs.SideLaws.{area}
-use Rattle.reasons.specs.Arrays.{linesOf}
+use Rattle.groups.specs.Arrows.{linesOf}
 use Rattle.reasons.proofs.Checks.{whole-of}
 use borrow.Author.Needs.{needs}
 use Rattle.reasons.proofs.check_arrows.Statement.{statement}

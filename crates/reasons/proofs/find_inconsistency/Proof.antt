@@ -5,8 +5,9 @@ use mathlib.Core.Path.{_∙_}
 use lib.ListN.{take}
 use Rattle.grid.specs.Side.{sized}
 use Rattle.kinds.specs.Inside.{puzzleWith}
-use Rattle.reasons.specs.Reasons.{reason1, reason2}
-use Rattle.reasons.specs.Arrays.{linesOf, ArrowArrays}
+use Rattle.units.specs.Units.{reason1, reason2}
+use Rattle.groups.specs.Arrows.{linesOf}
+use Rattle.reasons.specs.Arrays.{ArrowArrays}
 use Rattle.reasons.proofs.Checks.{line-is, listed-is, potentials-held, blocks-held, fit-after, same-after, never-refused, first-found, second-found, rest-found}
 use borrow.Author.Needs.{needs}
 use Rattle.reasons.proofs.find_inconsistency.Statement.{statement}

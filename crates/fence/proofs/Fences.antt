@@ -1,0 +1,245 @@
+-- The fence is inserted cell by cell: no code is named here.
+-- Assumes nothing.
+use Prim.Native.Nat.{ℕ, _+_, _≤_, _<_}
+use native.Mathlib.Decide.{ℕ-discrete, decLt}
+use native.Mathlib.Omega.{arith}
+use mathlib.Core.Logic.{_⊎_, inl, inr}
+use mathlib.Core.Path.{_≡_, refl, sym, ap, _∙_}
+use mathlib.Core.Bool.{Bool, true, false, So, cond, _&&_, _||_, not}
+use mathlib.Core.List.{List, [], _∷_, _++_, List·Memᴰ}
+use lib.Dec.{eqb, ltb}
+use lib.ListN.{length, getD}
+use borrow.Author.Tests.{eqb-true, eq-eqb, ne-eqb, lt-ltb, le-ltb}
+use Rattle.grid.specs.Lists.{range, upto, filter, any}
+use Rattle.grid.specs.Grid.{Grid, neighbours}
+use Rattle.grid.proofs.ListLaws.{split, and-true, true-and, so-orl, so-orr, or-so, any-mem, mem-any}
+use Rattle.fence.specs.Inside.{key, Place, Inserted, litAt, Ordered, Whole, ofBlock, rivals, touched, adds, addsAmong}
+use Rattle.kinds.proofs.Filled.{any-append, any-more}
+use Rattle.fence.proofs.Ordering.{key-lit, ordered-same, found, absent, ordered-insert}
+
+or-none : (b : Bool) → b ≡ (b || false)
+or-none true = refl
+or-none false = refl
+
+-- nothing is added
+pub none-added : {K base part : List ℕ} {n c : ℕ} (t T : ℕ → Bool) → ((x : ℕ) → T x ≡ false) → Ordered K n base t part c → Ordered K n base (λ x. t x || T x) part c
+none-added t T e O = ordered-same t (λ x. t x || T x) (λ x l. rw (e x) (or-none (t x))) O
+
+-- ---- whether an index is there
+module _ {K base part : List ℕ} {n c : ℕ} {t : ℕ → Bool} (O : Ordered K n base t part c) (i : ℕ) (l : i < n) where
+  own-key : key i ≡ i
+  own-key = omega (arith, O .small)
+
+  there-is : (p : ℕ) → p < c → key (getD part p 0) ≡ i → t i ≡ true
+  there-is p h e = found O i i l own-key p h (e ∙ sym own-key)
+
+  pub there-not : (p : ℕ) → Place part c i p → (p < c → key (getD part p 0) ≡ i → ⊥) → t i ≡ false
+  there-not p P ne = absent O i i l own-key p P (λ h e. ne h (e ∙ own-key))
+
+  pub there-by : (p : ℕ) → Place part c i p → p < c → eqb (key (getD part p 0)) i ≡ t i
+  there-by p P h = by (ℕ-discrete (key (getD part p 0)) i)
+    where
+      by : Dec (key (getD part p 0) ≡ i) → eqb (key (getD part p 0)) i ≡ t i
+      by (yes e) = eq-eqb _ i e ∙ sym (there-is p h e)
+      by (no e) = ne-eqb _ i e ∙ sym (there-not p P (λ _ q. e q))
+
+-- ---- one cell of an arrow block
+module _ (K O : List ℕ) (e i : ℕ) where
+  pub cell-off : (eqb (getD K i 0) 1 && eqb (getD O i 0) e) ≡ false → (x : ℕ) → (ofBlock K O e i && eqb i x) ≡ false
+  unfolding ofBlock
+  cell-off h x = rw h
+
+  pub cell-added : {base part part′ : List ℕ} {n c r : ℕ} {t : ℕ → Bool} → getD K i 0 ≡ 1 → getD O i 0 ≡ e → i < n → Ordered K n base t part c → Inserted part c (32768 + i) r part′
+      → Ordered K n base (λ x. t x || (ofBlock K O e i && eqb i x)) part′ r
+  unfolding ofBlock litAt
+  cell-added {t = t} k o l Q I =
+      let lit : 32768 + i ≡ litAt K i = rw k in
+      ordered-same (λ x. t x || eqb i x) (λ x. t x || (ofBlock K O e i && eqb i x)) (λ x _. rw (k, eq-eqb (getD O i 0) e o))
+      (ordered-insert Q i (32768 + i) l (ap key lit ∙ key-lit K i (omega (arith, Q .small))) lit I)
+
+-- ---- all cells of an arrow block
+module _ (K O : List ℕ) (e : ℕ) where
+  -- those below i
+  abbrev pub upTo : ℕ → ℕ → Bool
+  upTo i x = ofBlock K O e x && ltb x i
+
+  and-no : (b : Bool) → (b && false) ≡ false
+  and-no true = refl
+  and-no false = refl
+
+  and-yes : (b : Bool) → (b && true) ≡ b
+  and-yes true = refl
+  and-yes false = refl
+
+  pub block-none : (x : ℕ) → upTo 0 x ≡ false
+  block-none x = rw (le-ltb x 0 (omega arith)) (and-no (ofBlock K O e x))
+
+  pub block-more : {base part : List ℕ} {n c : ℕ} (t : ℕ → Bool) (i : ℕ) → Ordered K n base (λ x. (t x || upTo i x) || (ofBlock K O e i && eqb i x)) part c → Ordered K n base (λ x. t x || upTo (i + 1) x) part c
+  block-more t i Q = ordered-same (λ x. (t x || upTo i x) || (ofBlock K O e i && eqb i x)) (λ x. t x || upTo (i + 1) x) (λ x _. by x (ℕ-discrete i x)) Q
+    where
+      here : (a b : Bool) → ((a || false) || b) ≡ (a || b)
+      here true b = refl
+      here false b = refl
+
+      by : (x : ℕ) → Dec (i ≡ x) → ((t x || (ofBlock K O e x && ltb x i)) || (ofBlock K O e i && eqb i x)) ≡ (t x || (ofBlock K O e x && ltb x (i + 1)))
+      by x (yes q) = rw (← q, le-ltb i i (omega arith), lt-ltb i (i + 1) (omega arith), eq-eqb i i refl, and-no (ofBlock K O e i), and-yes (ofBlock K O e i)) (here (t i) (ofBlock K O e i))
+      by x (no q) = rw (ne-eqb i x q, and-no (ofBlock K O e i)) (sym (or-none _) ∙ ap (λ (b : Bool). t x || (ofBlock K O e x && b)) (low (decLt x i)))
+        where
+          low : Dec (x < i) → ltb x i ≡ ltb x (i + 1)
+          low (yes h) = lt-ltb x i h ∙ sym (lt-ltb x (i + 1) (omega arith))
+          low (no h) = le-ltb x i (omega arith) ∙ sym (le-ltb x (i + 1) (omega (arith, q)))
+
+  pub block-all : {base part : List ℕ} {n c : ℕ} (t : ℕ → Bool) (i : ℕ) → n ≤ i → Ordered K n base (λ x. t x || upTo i x) part c → Ordered K n base (λ x. t x || ofBlock K O e x) part c
+  block-all t i h Q = ordered-same (λ x. t x || upTo i x) (λ x. t x || ofBlock K O e x) (λ x l. rw (lt-ltb x i (omega arith)) (ap (λ (b : Bool). t x || b) (and-yes (ofBlock K O e x)))) Q
+
+-- ---- the arrow block of a neighbour
+module _ (K O : List ℕ) (f j : ℕ) where
+  pub rival-none : (getD K j 0 ≡ 1 → ⊥) → (x : ℕ) → rivals K O f j x ≡ false
+  unfolding rivals
+  rival-none h x = rw (ne-eqb (getD K j 0) 1 h)
+
+  pub rival-own : getD O j 0 ≡ f → (x : ℕ) → rivals K O f j x ≡ false
+  unfolding rivals
+  rival-own h x = rw (eq-eqb (getD O j 0) f h) (by (eqb (getD K j 0) 1))
+    where
+      by : (b : Bool) → (b && false && ofBlock K O (getD O j 0) x) ≡ false
+      by true = refl
+      by false = refl
+
+  -- what is said of a rival's cell
+  rival-says : (x : ℕ) → So (rivals K O f j x) → (getD K x 0 ≡ 1) × (getD O x 0 ≡ getD O j 0)
+  unfolding rivals ofBlock
+  rival-says x h =
+      let a = and-true (eqb (getD K j 0) 1 && not (eqb (getD O j 0) f)) _ h in
+      let b = and-true (eqb (getD K x 0) 1) _ (a .1) in
+      (eqb-true (getD K x 0) 1 (b .0), eqb-true (getD O x 0) (getD O j 0) (b .1))
+
+  pub rival-old : {base part : List ℕ} {n c : ℕ} (t : ℕ → Bool) → Whole K O t → getD K j 0 ≡ 1 → t j ≡ true → Ordered K n base t part c → Ordered K n base (λ x. t x || rivals K O f j x) part c
+  rival-old t whole k s Q = ordered-same t (λ x. t x || rivals K O f j x) (λ x _. by x (split (rivals K O f j x))) Q
+    where
+      by : (x : ℕ) → (rivals K O f j x ≡ true) ⊎ (rivals K O f j x ≡ false) → t x ≡ (t x || rivals K O f j x)
+      by x (inl h) = let q = rival-says x h in rw (whole j x s k (q .0) (sym (q .1)))
+      by x (inr h) = rw h (or-none (t x))
+
+  pub rival-new : {base part : List ℕ} {n c : ℕ} (t : ℕ → Bool) → getD K j 0 ≡ 1 → (getD O j 0 ≡ f → ⊥) → Ordered K n base (λ x. t x || ofBlock K O (getD O j 0) x) part c → Ordered K n base (λ x. t x || rivals K O f j x) part c
+  unfolding rivals
+  rival-new t k ne Q = ordered-same (λ x. t x || ofBlock K O (getD O j 0) x) (λ x. t x || rivals K O f j x) (λ x _. rw (k, ne-eqb (getD O j 0) f ne)) Q
+
+  -- it comes whole
+  rival-whole : (a b : ℕ) → So (rivals K O f j a) → getD K b 0 ≡ 1 → getD O a 0 ≡ getD O b 0 → So (rivals K O f j b)
+  unfolding rivals ofBlock
+  rival-whole a b h k o =
+      let q = rival-says a h in
+      let r = and-true (eqb (getD K j 0) 1 && not (eqb (getD O j 0) f)) _ h in
+      true-and (r .0) (true-and (eq-eqb (getD K b 0) 1 k) (eq-eqb (getD O b 0) (getD O j 0) (sym o ∙ q .1)))
+
+-- ---- the arrow blocks of neighbours in turn
+module _ (K O : List ℕ) (f : ℕ) where
+  -- a cell of one of the arrow blocks of the cells js other than f
+  abbrev pub rivalOf : List ℕ → ℕ → Bool
+  rivalOf js x = any (λ j. rivals K O f j x) js
+
+  rivals-whole : (js : List ℕ) (a b : ℕ) → So (rivalOf js a) → getD K b 0 ≡ 1 → getD O a 0 ≡ getD O b 0 → So (rivalOf js b)
+  rivals-whole js a b h k o = let r = any-mem (λ j. rivals K O f j a) js h in mem-any (λ j. rivals K O f j b) js (r .1) (rival-whole K O f (r .0) a b (r .2) k o)
+
+  pub whole-rivals : (t : ℕ → Bool) (js : List ℕ) → Whole K O t → Whole K O (λ x. t x || rivalOf js x)
+  whole-rivals t js whole a b s ka kb o = by (or-so {a = t a} s)
+    where
+      by : So (t a) ⊎ So (rivalOf js a) → So (t b || rivalOf js b)
+      by (inl h) = so-orl (rivalOf js b) (whole a b h ka kb o)
+      by (inr h) = so-orr (t b) (rivals-whole js a b h kb o)
+
+  pub rivals-none : (x : ℕ) → rivalOf [] x ≡ false
+  unfolding any
+  rivals-none x = refl
+
+  pub rivals-more : {base part : List ℕ} {n c : ℕ} (t : ℕ → Bool) (js : List ℕ) (j : ℕ) → Ordered K n base (λ x. (t x || rivalOf js x) || rivals K O f j x) part c → Ordered K n base (λ x. t x || rivalOf (js ++ (j ∷ [])) x) part c
+  unfolding any
+  rivals-more t js j Q = ordered-same (λ x. (t x || rivalOf js x) || rivals K O f j x) (λ x. t x || rivalOf (js ++ (j ∷ [])) x)
+      (λ x _. or-assoc (t x) (rivalOf js x) (rivals K O f j x) ∙ ap (λ (b : Bool). t x || b) (ap (λ (b : Bool). rivalOf js x || b) (or-none (rivals K O f j x)) ∙ sym (any-append (λ k. rivals K O f k x) js (j ∷ [])))) Q
+    where
+      or-assoc : (a b c : Bool) → ((a || b) || c) ≡ (a || (b || c))
+      or-assoc true b c = refl
+      or-assoc false b c = refl
+
+-- ---- whether a neighbour is marked
+module _ (marks : List ℕ) where
+  pub touch-none : any (λ j. eqb (getD marks j 0) 1) [] ≡ false
+  unfolding any
+  touch-none = refl
+
+  pub touch-more : (js : List ℕ) (j : ℕ) → any (λ k. eqb (getD marks k 0) 1) js ≡ false → (getD marks j 0 ≡ 1 → ⊥) → any (λ k. eqb (getD marks k 0) 1) (js ++ (j ∷ [])) ≡ false
+  unfolding any
+  touch-more js j e h = any-append (λ k. eqb (getD marks k 0) 1) js (j ∷ []) ∙ rw (e, ne-eqb (getD marks j 0) 1 h)
+
+  pub touch-hit : (g : Grid) (i j : ℕ) → List·Memᴰ j (neighbours g i) → getD marks j 0 ≡ 1 → true ≡ touched marks g i
+  unfolding touched
+  touch-hit g i j m e = sym (mem-any (λ k. eqb (getD marks k 0) 1) (neighbours g i) m (eq-eqb (getD marks j 0) 1 e))
+
+  pub touch-end : (g : Grid) (i : ℕ) → any (λ k. eqb (getD marks k 0) 1) (neighbours g i) ≡ false → false ≡ touched marks g i
+  unfolding touched
+  touch-end g i e = sym e
+
+-- ---- what a cell brings
+module _ (cells K O marks : List ℕ) (g : Grid) (f i : ℕ) where
+  -- nothing
+  pub adds-untouched : touched marks g i ≡ false → (x : ℕ) → adds cells K O marks g f i x ≡ false
+  unfolding adds
+  adds-untouched h x = rw h (by (eqb (getD K i 0) 0) (eqb (getD cells i 0) 2))
+    where
+      by : (a b : Bool) → cond a (false && eqb i x) (b && false && any (λ j. rivals K O f j x) (neighbours g i)) ≡ false
+      by true b = refl
+      by false true = refl
+      by false false = refl
+
+  pub adds-decided : (getD K i 0 ≡ 0 → ⊥) → (getD cells i 0 ≡ 2 → ⊥) → (x : ℕ) → adds cells K O marks g f i x ≡ false
+  unfolding adds
+  adds-decided k h x = rw (ne-eqb (getD K i 0) 0 k, ne-eqb (getD cells i 0) 2 h)
+
+  -- itself
+  pub adds-itself : {base part part′ : List ℕ} {n c r : ℕ} (t : ℕ → Bool) → getD K i 0 ≡ 0 → touched marks g i ≡ true → i < n → Ordered K n base t part c → Inserted part c i r part′
+      → Ordered K n base (λ x. t x || adds cells K O marks g f i x) part′ r
+  unfolding adds litAt
+  adds-itself t k h l Q I =
+      let lit : i ≡ litAt K i = rw k in
+      ordered-same (λ x. t x || eqb i x) (λ x. t x || adds cells K O marks g f i x) (λ x _. rw (k, h))
+      (ordered-insert Q i i l (ap key lit ∙ key-lit K i (omega (arith, Q .small))) lit I)
+
+  -- the other arrow blocks beside it
+  pub adds-rivals : {base part : List ℕ} {n c : ℕ} (t : ℕ → Bool) → (getD K i 0 ≡ 0 → ⊥) → getD cells i 0 ≡ 2 → touched marks g i ≡ true → Ordered K n base (λ x. t x || any (λ j. rivals K O f j x) (neighbours g i)) part c
+      → Ordered K n base (λ x. t x || adds cells K O marks g f i x) part c
+  unfolding adds
+  adds-rivals t k e h Q = ordered-same (λ x. t x || any (λ j. rivals K O f j x) (neighbours g i)) (λ x. t x || adds cells K O marks g f i x) (λ x _. rw (ne-eqb (getD K i 0) 0 k, e, h)) Q
+
+  adds-whole : (a b : ℕ) → So (adds cells K O marks g f i a) → getD K a 0 ≡ 1 → getD K b 0 ≡ 1 → getD O a 0 ≡ getD O b 0 → So (adds cells K O marks g f i b)
+  unfolding adds
+  adds-whole a b s ka kb o = by (ℕ-discrete (getD K i 0) 0)
+    where
+      by : Dec (getD K i 0 ≡ 0) → So (adds cells K O marks g f i b)
+      by (yes k) =
+          let h : So (touched marks g i && eqb i a) = rw k at s in
+          let q : i ≡ a = eqb-true i a (and-true (touched marks g i) _ h .1) in
+          absurd (omega (arith, ap (λ (y : ℕ). getD K y 0) q, k, ka))
+      by (no k) =
+          let h : So (eqb (getD cells i 0) 2 && touched marks g i && any (λ j. rivals K O f j a) (neighbours g i)) = rw (ne-eqb (getD K i 0) 0 k) at s in
+          let r = and-true (eqb (getD cells i 0) 2 && touched marks g i) _ h in
+          rw (ne-eqb (getD K i 0) 0 k) (true-and (r .0) (rivals-whole K O f (neighbours g i) a b (r .1) kb o))
+
+-- ---- the cells in row order
+module _ (cells K O marks : List ℕ) (g : Grid) (f : ℕ) where
+  pub among-whole : (k : ℕ) → Whole K O (addsAmong cells K O marks g f k)
+  unfolding addsAmong
+  among-whole k a b s ka kb o = let r = any-mem (λ i. adds cells K O marks g f i a) (upto k) s in mem-any (λ i. adds cells K O marks g f i b) (upto k) (r .1) (adds-whole cells K O marks g f (r .0) a b (r .2) ka kb o)
+
+  filter-none : (l : List ℕ) → filter (λ x. false) l ≡ []
+  unfolding filter
+  filter-none [] = refl
+  filter-none (x ∷ l) = filter-none l
+
+  pub fence-none : (n : ℕ) (part : List ℕ) → n ≤ 1024 → n < length part → Ordered K n part (addsAmong cells K O marks g f 0) part 0
+  unfolding addsAmong upto range any
+  fence-none n part s h = record { list = rw (filter-none (range 0 n)); number = rw (filter-none (range 0 n)); rest = refl; long = refl; room = h; small = s }
+
+  pub fence-more : {base part : List ℕ} {n c : ℕ} (i : ℕ) → Ordered K n base (λ x. addsAmong cells K O marks g f i x || adds cells K O marks g f i x) part c → Ordered K n base (addsAmong cells K O marks g f (i + 1)) part c
+  unfolding addsAmong
+  fence-more i Q = ordered-same (λ x. addsAmong cells K O marks g f i x || adds cells K O marks g f i x) (addsAmong cells K O marks g f (i + 1)) (λ x _. sym (any-more (λ j. adds cells K O marks g f j x) i)) Q

@@ -1,0 +1,4 @@
+pub mod Insertion
+pub mod Ordering
+pub mod Fences
+pub mod FenceList

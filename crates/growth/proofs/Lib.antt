@@ -1,0 +1,10 @@
+pub mod Gap
+pub mod ChainWalks
+pub mod Shifts
+pub mod ShiftChains
+pub mod PairPlaces
+pub mod PairNames
+pub mod PairChecks
+pub mod PairFinds
+pub mod PairSizes
+pub mod PairSearch

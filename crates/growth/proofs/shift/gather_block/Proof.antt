@@ -1,0 +1,122 @@
+use Prim.Native.Nat.{ℕ, _-_}
+use native.Mathlib.Omega.{arith}
+use mathlib.Core.Path.{ap, subst, _∙_}
+use mathlib.Core.List.{List, [], _∷_, _++_}
+use lib.Dec.{eqb}
+use lib.ListN.{getD}
+use Rattle.grid.specs.Lists.{filter}
+use Rattle.reach.specs.Chains.{Chains}
+use Rattle.growth.specs.Shift.{Gathered}
+use Rattle.growth.proofs.ChainWalks.{Walk, walk-start, walk-few, walk-high, walk-more, walk-less, walk-end, blockOf, block-more, block-few, block-all}
+use Rattle.growth.proofs.Shifts.{gathered-none, gathered-more}
+use borrow.Author.Needs.{needs}
+use Rattle.growth.proofs.shift.gather_block.Statement.{statement}
+use Rattle.growth.proofs.shift.gather_block.Tie as tie
+
+-- the cells of the block that were passed are gathered
+record Amid (kinds owners : List ℕ) (n w f : ℕ) (rows₀ columns₀ rows columns : List ℕ) (count i : ℕ) : Type 0 where
+  passed : List ℕ
+  walk : Walk owners n f passed i
+  so-far : Gathered w (blockOf kinds passed) rows₀ columns₀ rows columns count
+
+abbrev Inv-loop : tie.InvT-loop
+Inv-loop kinds head next w f rows₀ columns₀ count₀ i₀ rows columns count i =
+    (owners : List ℕ) (n : ℕ) → Chains owners head next n → Amid kinds owners n w f rows₀ columns₀ rows columns count i
+
+abbrev μ-loop : tie.MeasureT-loop
+μ-loop kinds head next w f rows₀ columns₀ count₀ i₀ rows columns count i = 1024 - i
+
+mul-i : tie.Need-mul-i Inv-loop μ-loop
+mul-i c = search needs
+
+element-copy-out-i : tie.Need-element-copy-out-i Inv-loop μ-loop
+element-copy-out-i c = search needs
+
+cast-i : tie.Need-cast-i Inv-loop μ-loop
+cast-i c = let s = c .before in let C = s .pre .0 .chains in omega (arith, walk-high C (s .args .f) (s .pre .1) (walk-start C (s .args .f) (s .pre .1)))
+
+loop-holds : tie.Need-loop-holds Inv-loop μ-loop
+unfolding filter
+loop-holds c =
+    let s = c .before in
+    λ owners n C. record { passed = []; walk = walk-start C (s .args .f) (s .pre .1); so-far = gathered-none (s .args .w) (s .args .rows .now) (s .args .columns .now) }
+
+element-copy-out-keep-place : tie.Need-element-copy-out-keep-place Inv-loop μ-loop
+element-copy-out-keep-place c = omega (arith, c .before .before .loop-test .taken)
+
+keep-place-requires : tie.Need-keep-place-requires Inv-loop μ-loop
+keep-place-requires c κs =
+    let s = c .before .before .before .before .before .before in
+    let C = s .pre .0 .chains in
+    let I = c .before .before .before .before .loop .inv (s .pre .0 .owners) (s .pre .0 .size) C in
+    let taken = c .before .before .before .loop-test .taken in
+    (omega (arith, I .so-far .many, block-few (s .args .kinds .now) (I .passed), walk-few C (s .args .f) (s .pre .1) (I .walk) taken, taken), s .pre .2, taken)
+
+mul-i-2 : tie.Need-mul-i-2 Inv-loop μ-loop
+mul-i-2 c = omega (arith, c .before .before .before .before .loop-test .taken)
+
+element-copy-out-i-2 : tie.Need-element-copy-out-i-2 Inv-loop μ-loop
+element-copy-out-i-2 c = omega (arith, c .before .before .before .before .loop-test .taken)
+
+cast-i-2 : tie.Need-cast-i-2 Inv-loop μ-loop
+cast-i-2 c =
+    let s = c .before .before .before .before .before .before .before .before in
+    let C = s .pre .0 .chains in
+    let I = c .before .before .before .before .before .before .loop .inv (s .pre .0 .owners) (s .pre .0 .size) C in
+    omega (arith, walk-high C (s .args .f) (s .pre .1) (walk-more C (s .args .f) (s .pre .1) (I .walk) (c .before .before .before .before .before .loop-test .taken)))
+
+loop-less : tie.Need-loop-less Inv-loop μ-loop
+loop-less c =
+    let s = c .before .before .before .before .before .before .before .before in
+    let C = s .pre .0 .chains in
+    let I = c .before .before .before .before .before .before .loop .inv (s .pre .0 .owners) (s .pre .0 .size) C in
+    walk-less C (s .args .f) (s .pre .1) (I .walk) (c .before .before .before .before .before .loop-test .taken)
+
+loop-again : tie.Need-loop-again Inv-loop μ-loop
+loop-again c =
+    let s = c .before .before .before .before .before .before .before .before in
+    let a = s .args in
+    let l = c .before .before .before .before .before .before .loop in
+    let taken = c .before .before .before .before .before .loop-test .taken in
+    let kept = c .before .keep-place .ensures in
+    λ owners n C.
+    let I = l .inv owners n C in
+    let few = walk-few C (a .f) (s .pre .1) (I .walk) taken in
+    record {
+      passed = I .passed ++ (l .i ∷ []);
+      walk = walk-more C (a .f) (s .pre .1) (I .walk) taken;
+      so-far = rw (block-more (a .kinds .now) (I .passed) (l .i))
+          (gathered-more (a .w) (blockOf (a .kinds .now) (I .passed)) (l .i) (I .so-far)
+          (omega (arith, I .so-far .many, block-few (a .kinds .now) (I .passed), few, taken, s .pre .3))
+          (omega (arith, I .so-far .many, block-few (a .kinds .now) (I .passed), few, taken, s .pre .4))
+          (eqb (getD (a .kinds .now) (l .i) 0) 1) (kept .0) (kept .1) (kept .2));
+    }
+
+returns : tie.Need-returns Inv-loop μ-loop
+returns c =
+    let s = c .before .before .before in
+    let a = s .args in
+    let l = c .before .loop in
+    λ owners n C.
+    let I = l .inv owners n C in
+    subst (λ (b : List ℕ). Gathered (a .w) b (a .rows .now) (a .columns .now) (l .rows) (l .columns) (l .count))
+    (ap (blockOf (a .kinds .now)) (walk-end C (a .f) (s .pre .1) (I .walk) (c .loop-test .left)) ∙ block-all (a .kinds .now) owners n (a .f)) (I .so-far)
+
+pub gather-block-spec : {M : Type 1} → statement M
+gather-block-spec =
+    tie.close
+    (tie.spec
+    Inv-loop
+    μ-loop
+    mul-i
+    element-copy-out-i
+    cast-i
+    loop-holds
+    element-copy-out-keep-place
+    keep-place-requires
+    mul-i-2
+    element-copy-out-i-2
+    cast-i-2
+    loop-less
+    loop-again
+    returns)

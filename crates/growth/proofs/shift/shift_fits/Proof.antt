@@ -1,0 +1,52 @@
+use Prim.Native.Nat.{_*_, _≤_}
+use native.Mathlib.Omega.{arith}
+use Rattle.grid.specs.Grid.{size}
+use Rattle.grid.specs.Side.{sized}
+use Rattle.grid.proofs.GridLaws.{width-pos}
+use Rattle.grid.proofs.SideLaws.{area}
+use Rattle.growth.proofs.PairFinds.{gathered-inside}
+use Rattle.growth.proofs.Shifts.{in-few, gathered-long}
+use Rattle.growth.proofs.ShiftChains.{gathered-view}
+use Rattle.growth.proofs.shift.shift_fits.Statement.{statement}
+use Rattle.growth.proofs.shift.shift_fits.Tie as tie
+
+small : (c : tie.Start) → c .args .h * c .args .w ≤ 1024
+small c = area (c .args .h) (c .args .w) (c .pre .0 .tall) (c .pre .0 .wide)
+
+near-floats-requires : tie.Need-near-floats-requires
+near-floats-requires c κs = let p = c .before .before .pre in ((p .0, p .1), (p .3, p .4 .groups-long))
+
+gather-block-requires : tie.Need-gather-block-requires
+unfolding size
+gather-block-requires c κs =
+    let s = c .before .before .before .before .before in
+    let a = s .args in
+    let p = s .pre in
+    (record { owners = a .owners .now; size = a .h * a .w; chains = p .1 }, omega (arith, p .2, small s), width-pos (sized (a .h) (a .w)) (p .2), p .4 .rows-long, p .4 .columns-long)
+
+fits-requires : tie.Need-fits-requires
+fits-requires c κs =
+    let s = c .before .before .before .before .before .before .before .before .before .before in
+    let a = s .args in
+    let p = s .pre in
+    (gathered-inside (a .h) (a .w) (a .kinds .now) (a .owners .now) (a .f) (p .0 .tall) (p .0 .wide) (c .before .before .before .before .gather-block .ensures (a .owners .now) (a .h * a .w) (p .1)), p .2, p .1, p .3, c .before .before .before .before .before .before .before .near-floats .ensures .1)
+
+returns : tie.Need-returns
+returns c =
+    let s = c .before .before .before .before .before .before .before .before .before .before .before in
+    let a = s .args in
+    let p = s .pre in
+    let gathered = c .before .before .before .before .before .gather-block .ensures (a .owners .now) (a .h * a .w) (p .1) in
+    let long = gathered-long gathered 1024 (p .4 .rows-long) (p .4 .columns-long) (omega (arith, gathered .many, in-few (a .kinds .now) (a .owners .now) (a .f) (a .h * a .w), small s)) in (
+      (λ lines cells held arrow. c .fits2 .ensures lines cells held (c .before .before .before .before .before .before .before .before .near-floats .ensures .0 lines cells held) arrow (gathered-view (a .h) (a .w) lines cells held (a .f) gathered)),
+      record { groups-long = c .before .before .before .before .before .before .before .before .near-floats .ensures .1 .long; rows-long = long .0; columns-long = long .1 },
+    )
+
+pub shift-fits-spec : {M : Type 1} → statement M
+shift-fits-spec =
+    tie.close
+    (tie.spec
+    near-floats-requires
+    gather-block-requires
+    fits-requires
+    returns)

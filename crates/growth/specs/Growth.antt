@@ -1,0 +1,62 @@
+-- Reasons 3 and 4: the pairs of squares on an arrow.
+-- Assumes nothing.
+use Prim.Native.Nat.{ℕ, suc, _+_, max}
+use mathlib.Core.Bool.{Bool, true, false, cond, not}
+use mathlib.Core.List.{List, [], _∷_, _++_}
+use lib.Dec.{ltb}
+use lib.ListN.{length, getD}
+use Rattle.grid.specs.Lists.{any, filter, flatMap, last, init, tail}
+use Rattle.board.specs.Board.{Literal, empty, square, undecided}
+use Rattle.groups.specs.Arrows.{Pair, pairs}
+use Rattle.groups.specs.Rules.{fits}
+use Rattle.kinds.specs.Kinds.{View, block, reach, fence}
+use Rattle.literals.specs.Literals.{Found, orElse, given, firstOf, each}
+
+-- the most undecided cells, no two consecutive; taken: the cell before was counted
+unfoldable pub mostApart : List ℕ → Bool → List ℕ → ℕ
+mostApart cells taken [] = 0
+mostApart cells true (i ∷ is) = mostApart cells false is
+mostApart cells false (i ∷ is) =
+    cond (undecided cells i) (max (suc (mostApart cells true is)) (mostApart cells false is)) (mostApart cells false is)
+
+-- the name of the block of a square
+unfoldable pub blockName : View → ℕ → ℕ
+blockName v i = getD (v .blocks) i 0
+
+-- positions last + 2 to cur - 2
+unfoldable pub gap : Pair → List ℕ
+gap pair = tail (init (pair .between))
+
+module _ (v : View) (pair : Pair) where
+  -- last's block, cur's arrow cell, the fence of cur's block
+  unfoldable pub reasonGrow : List Literal
+  reasonGrow = each 1 (block v (blockName v (pair .last))) ++ each 1 (pair .cur ∷ []) ++ fence v (blockName v (pair .cur))
+
+  -- 3. no shift of last's block lies in cur's reach
+  unfoldable pub reason3At : Found
+  reason3At =
+      let r = reach v (blockName v (pair .cur)) in
+      given (not (any (fits (v .grid) (block v (blockName v (pair .last))) r (blockName v (pair .last))) r)) reasonGrow
+
+  -- cur's block, last's arrow cell, the fence of last's block, the empty cells of the gap
+  unfoldable pub reasonShrink : List Literal
+  reasonShrink =
+      each 1 (block v (blockName v (pair .cur)))
+      ++ each 1 (pair .last ∷ [])
+      ++ fence v (blockName v (pair .last))
+      ++ each 0 (filter (empty (v .cells)) (gap pair))
+
+  -- 4. cur's reach is too small for last's block and one more; or cur's block too large for last's reach, one more and the gap
+  unfoldable pub reason4At : Found
+  reason4At =
+      orElse
+      (given (ltb (length (reach v (blockName v (pair .cur)))) (length (block v (blockName v (pair .last))) + 1)) reasonGrow)
+      (given
+      (ltb (length (reach v (blockName v (pair .last))) + 1 + mostApart (v .cells) false (gap pair)) (length (block v (blockName v (pair .cur)))))
+      reasonShrink)
+
+-- 3 for every pair of every arrow, then 4
+unfoldable pub reason34 : View → Found
+reason34 v =
+    let ps = flatMap (pairs (v .cells)) (v .arrows) in
+    orElse (firstOf (reason3At v) ps) (firstOf (reason4At v) ps)

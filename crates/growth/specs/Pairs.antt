@@ -1,0 +1,102 @@
+-- The search along the arrows for reasons 3 and 4, on arrays.
+-- Assumes nothing.
+use Prim.Native.Nat.{ℕ, _+_, _*_, _≤_, _<_}
+use mathlib.Core.Path.{_≡_}
+use mathlib.Core.Bool.{Bool, true, false, cond}
+use mathlib.Core.List.{List, [], _∷_, _++_, List·Memᴰ}
+use lib.Dec.{ltb}
+use lib.ListN.{length, getD, take}
+use lib.Seq.{slice}
+use Rattle.grid.specs.Side.{sized}
+use Rattle.board.specs.Board.{Literal, square}
+use Rattle.groups.specs.Arrows.{onArrow, Pair, CellArray, linesOf}
+use Rattle.kinds.specs.Kinds.{View, view, block, reach, fence, reachMask}
+use Rattle.literals.specs.Literals.{Found, given, each}
+use Rattle.growth.specs.Growth.{mostApart, blockName, reasonGrow, reason3At, gap, reasonShrink, reason4At}
+use Rattle.reach.specs.Chains.{Chains}
+use Rattle.reach.specs.Near.{Sizes}
+use Rattle.kinds.specs.Inside.{puzzleWith, Held}
+
+-- reason 4 for a pair, or reason 3
+unfoldable pub reasonAt : Bool → View → Pair → Found
+reasonAt fourth v pair = cond fourth (reason4At v pair) (reason3At v pair)
+
+module _ (v : View) (pair : Pair) where
+  -- 4 (a)
+  unfoldable pub reason4aAt : Found
+  reason4aAt = given (ltb (length (reach v (blockName v (pair .cur)))) (length (block v (blockName v (pair .last))) + 1)) (reasonGrow v pair)
+
+  -- 4 (b)
+  unfoldable pub reason4bAt : Found
+  reason4bAt =
+      given
+      (ltb (length (reach v (blockName v (pair .last))) + 1 + mostApart (v .cells) false (gap pair)) (length (block v (blockName v (pair .cur)))))
+      (reasonShrink v pair)
+
+-- the pair of the squares at two places of the arrows
+unfoldable pub pairAt : List ℕ → ℕ → ℕ → Pair
+pairAt arrows last cur = record { last = getD arrows last 0; between = slice (last + 1) cur arrows; cur = getD arrows cur 0 }
+
+-- r is the first place from `from` on that holds a square, or `to` if none before it does
+pub record NextSquare (cells arrows : List ℕ) (from to r : ℕ) : Type 0 where
+  pub low : from ≤ r
+  pub high : r ≤ to
+  pub none : (k : ℕ) → from ≤ k → k < r → square cells (getD arrows k 0) ≡ false
+  pub some : r < to → square cells (getD arrows r 0) ≡ true
+
+-- the board of an h by w grid with the arrows `lines`, whose cells stand in an array
+abbrev pub viewOn : ℕ → ℕ → List (List ℕ) → List ℕ → View
+viewOn h w lines cells = view (puzzleWith (sized h w) lines) (take (h * w) cells)
+
+-- the arrays hold the kinds of that board, and the places from `from` up to `to` hold cells of an arrow, no more than the grid has
+pub record Scene (h w : ℕ) (lines : List (List ℕ)) (cells arrows kinds owners : List ℕ) (from to : ℕ) : Type 0 where
+  pub held : Held (viewOn h w lines cells) kinds owners
+  pub few : to ≤ from + h * w
+  pub inside : (k : ℕ) → from ≤ k → k < to → getD arrows k 0 < h * w
+  pub on-arrow : (k : ℕ) → from ≤ k → k < to → onArrow lines (getD arrows k 0) ≡ true
+
+-- the kinds are those of some board
+pub record Shown (h w : ℕ) (cells kinds owners : List ℕ) : Type 0 where
+  pub lines : List (List ℕ)
+  pub held : Held (viewOn h w lines cells) kinds owners
+
+-- the kinds are those of some board, and the reach of its arrow block f is marked
+pub record Seen (h w : ℕ) (cells kinds owners marks : List ℕ) (f : ℕ) : Type 0 where
+  pub lines : List (List ℕ)
+  pub held : Held (viewOn h w lines cells) kinds owners
+  pub marked : marks ≡ reachMask (viewOn h w lines cells) f
+
+-- the cells of each owner are linked and counted
+pub record Grouped (owners head next sizes : List ℕ) (n : ℕ) : Type 0 where
+  pub chains : Chains owners head next n
+  pub counts : Sizes owners n sizes
+
+-- the kinds are those of some board, and the places from `from` up to `to` are those of one of its arrows
+pub record Line (h w : ℕ) (cells arrows kinds owners : List ℕ) (from to : ℕ) : Type 0 where
+  pub lines : List (List ℕ)
+  pub scene : Scene h w lines cells arrows kinds owners from to
+  pub places : CellArray arrows
+  pub order : from ≤ to
+  pub short : to ≤ 1024
+
+-- .. and the places `last` and `cur` hold two squares of it
+pub record Squares (h w : ℕ) (cells arrows kinds owners : List ℕ) (last cur : ℕ) : Type 0 where
+  pub line : Line h w cells arrows kinds owners last (cur + 1)
+  pub order : last < cur
+  pub first : square cells (getD arrows last 0) ≡ true
+  pub second : square cells (getD arrows cur 0) ≡ true
+
+-- a block's cells, an arrow cell, and the fence of a block
+unfoldable pub blockCellFence : View → ℕ → ℕ → ℕ → List Literal
+blockCellFence v b i f = each 1 (block v b) ++ each 1 (i ∷ []) ++ fence v f
+
+-- the arrays hold a board with its arrows, which are no longer than the grid is large
+pub record Whole (h w : ℕ) (cells arrows ends kinds owners : List ℕ) (count : ℕ) : Type 0 where
+  pub held : Held (viewOn h w (linesOf arrows ends count) cells) kinds owners
+  pub places : CellArray arrows
+  pub many : count ≤ 1024
+  pub ends-long : count ≤ length ends
+  pub ends-low : (a : ℕ) → a < count → getD ends a 0 ≤ 1024
+  pub ends-rise : (a : ℕ) → a + 1 < count → getD ends a 0 ≤ getD ends (a + 1) 0
+  pub inside : (a : List ℕ) → List·Memᴰ a (linesOf arrows ends count) → (i : ℕ) → List·Memᴰ i a → i < h * w
+  pub few : (a : List ℕ) → List·Memᴰ a (linesOf arrows ends count) → length a ≤ h * w

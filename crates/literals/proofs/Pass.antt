@@ -1,0 +1,109 @@
+-- One pass over the cells that writes those that pass a test.
+-- Assumes nothing.
+use Prim.Native.Nat.{ℕ, zero, suc, _+_, _-_, _≤_, _<_, max}
+use native.Mathlib.Omega.{arith}
+use native.Mathlib.Numerals.{add-one}
+use native.Mathlib.Decide.{decLe}
+use mathlib.Core.Path.{_≡_, refl, sym, ap, _∙_}
+use mathlib.Core.Bool.{Bool, true, false, cond}
+use mathlib.Core.List.{List, [], _∷_, _++_, map, map-append, append-nil}
+use lib.ListN.{length, getD, set, take, drop, length-map, length-take, length-drop, drop-of-length-le}
+use lib.Seq.{slice, slice-empty, take-suc, drop-append-le, length-take-le, length-slice}
+use Rattle.grid.specs.Lists.{range, upto, filter}
+use Rattle.grid.proofs.ListLaws.{filter-length, length-range}
+use Rattle.board.specs.Board.{Literal}
+use Rattle.kinds.specs.Kinds.{word}
+use Rattle.literals.specs.Literals.{each}
+use Rattle.literals.specs.Buffer.{Wrote}
+use Rattle.literals.proofs.BufferLaws.{wrote-none, wrote-more}
+
+-- a range ends with its last number
+range-more : (a k : ℕ) → range a (suc k) ≡ range a k ++ ((a + k) ∷ [])
+unfolding range
+range-more a zero = let e : a ≡ a + 0 = omega arith in ap (λ (x : ℕ). x ∷ []) e
+range-more a (suc k) = let e : suc a + k ≡ a + suc k = omega arith in rw (range-more (suc a) k, e) refl
+
+pub upto-more : (n : ℕ) → upto (n + 1) ≡ upto n ++ (n ∷ [])
+unfolding upto
+upto-more n = let e : 0 + n ≡ n = omega arith in rw (add-one n) (range-more 0 n ∙ rw e refl)
+
+-- a filtered list, one member later
+pub filter-more : (p : ℕ → Bool) (l : List ℕ) (x : ℕ) → filter p (l ++ (x ∷ [])) ≡ filter p l ++ cond (p x) (x ∷ []) []
+unfolding filter
+filter-more p [] x = refl
+filter-more p (y ∷ ys) x = go (p y) (filter-more p ys x)
+  where
+    go : (b : Bool) → filter p (ys ++ (x ∷ [])) ≡ filter p ys ++ cond (p x) (x ∷ []) [] → cond b (y ∷ filter p (ys ++ (x ∷ []))) (filter p (ys ++ (x ∷ []))) ≡ cond b (y ∷ filter p ys) (filter p ys) ++ cond (p x) (x ∷ []) []
+    go true h = ap (λ (r : List ℕ). y ∷ r) h
+    go false h = h
+
+-- literals of one value
+each-append : (v : ℕ) (l m : List ℕ) → each v (l ++ m) ≡ each v l ++ each v m
+unfolding each
+each-append v l m = map-append (λ (i : ℕ). (i, v)) l m
+
+pub each-length : (v : ℕ) (l : List ℕ) → length (each v l) ≡ length l
+unfolding each
+each-length v l = length-map l (λ i. (i, v))
+
+-- a literal was written if yes says so
+pub wrote-if : {ls : List Literal} {b a : List ℕ} {k : ℕ} → Wrote ls b a k → (l : Literal) (yes : Bool) → k < length b
+    → Wrote (ls ++ cond yes (l ∷ []) []) b (cond yes (set a k (word l)) a) (cond yes (k + 1) k)
+wrote-if w l true h = wrote-more w l h
+wrote-if {ls} w l false h = rw (append-nil ls) w
+
+each-if : (v : ℕ) (x : ℕ) (yes : Bool) → each v (cond yes (x ∷ []) []) ≡ cond yes ((x, v) ∷ []) []
+unfolding each
+each-if v x true = refl
+each-if v x false = refl
+
+-- nothing was looked at yet
+pub pass-none : (p : ℕ → Bool) (v : ℕ) (l b : List ℕ) → l ≡ [] → Wrote (each v (filter p l)) b b 0
+unfolding filter each
+pass-none p v l b e = rw e (wrote-none b)
+
+-- the cells of a list that pass are written, and one cell more is looked at
+module _ (p : ℕ → Bool) (v : ℕ) (l : List ℕ) (x : ℕ) {b a : List ℕ} {k : ℕ} (w : Wrote (each v (filter p l)) b a k) where
+  -- no more are written than were looked at
+  pub pass-count : k ≤ length l
+  pass-count = omega (arith, w .many, each-length v (filter p l), filter-length p l)
+
+  -- it is written if it passes
+  pub pass-more : k < length b → {yes : Bool} → yes ≡ p x → {r : ℕ} {c : List ℕ} → r ≡ cond yes (k + 1) k → c ≡ cond yes (set a k (word (x, v))) a
+      → Wrote (each v (filter p (l ++ (x ∷ [])))) b c r
+  pass-more h e f g = rw (f, g, e, filter-more p l x, each-append v (filter p l) (cond (p x) (x ∷ []) []), each-if v x (p x)) (wrote-if w (x, v) (p x) h)
+
+upto-length : (n : ℕ) → length (upto n) ≡ n
+unfolding upto
+upto-length n = length-range 0 n
+
+-- the same for the cells in row order
+pub cells-none : (p : ℕ → Bool) (v : ℕ) (b : List ℕ) → Wrote (each v (filter p (upto 0))) b b 0
+unfolding upto range
+cells-none p v b = pass-none p v (upto 0) b refl
+
+pub cells-more : (p : ℕ → Bool) (v i : ℕ) {b a : List ℕ} {k : ℕ} → Wrote (each v (filter p (upto i))) b a k → k < length b
+    → {yes : Bool} → yes ≡ p i → {r : ℕ} {c : List ℕ} → r ≡ cond yes (k + 1) k → c ≡ cond yes (set a k (word (i, v))) a → Wrote (each v (filter p (upto (i + 1)))) b c r
+cells-more p v i w h e f g = rw (upto-more i) (pass-more p v (upto i) i w h e f g)
+
+pub cells-count : (p : ℕ → Bool) (v i : ℕ) {b a : List ℕ} {k : ℕ} → Wrote (each v (filter p (upto i))) b a k → k ≤ i
+cells-count p v i w = omega (arith, pass-count p v (upto i) i w, upto-length i)
+
+module _ (l : List ℕ) (f : ℕ) where
+  -- a part of a list, one place longer
+  pub slice-more : (k : ℕ) → f ≤ k → k < length l → slice f (k + 1) l ≡ slice f k l ++ (getD l k 0 ∷ [])
+  slice-more k h e = rw (add-one k, take-suc l k 0 e) (drop-append-le f (take k l) (getD l k 0 ∷ []) (rw (length-take-le k l (omega arith)) h))
+
+  pub slice-none : (t : ℕ) → t ≤ f → slice f t l ≡ []
+  slice-none t h = drop-of-length-le (take t l) {i = f} (simp length-take (omega arith))
+
+  -- the whole part was passed
+  pub slice-all : (t k : ℕ) → f ≤ k → t ≤ k → k ≤ max f t → slice f k l ≡ slice f t l
+  slice-all t k h e m = go (decLe t f)
+    where
+      go : Dec (t ≤ f) → slice f k l ≡ slice f t l
+      go (yes q) = let z : k ≡ f = omega arith in rw z (slice-none f (omega arith) ∙ sym (slice-none t q))
+      go (no q) = let z : k ≡ t = omega arith in rw z refl
+
+  pub slice-short : (t : ℕ) → length (slice f t l) ≤ t - f
+  slice-short t = simp (length-drop, length-take) (omega arith)

@@ -1,0 +1,5 @@
+pub mod Counting
+pub mod Reaches
+pub mod ChainLaws
+pub mod NearLaws
+pub mod NearReach

@@ -1,0 +1,50 @@
+-- The reach of a block from its own cells: how many cells each owner has, and which floating groups are near a block.
+-- Assumes nothing.
+use Prim.Native.Nat.{ℕ, _≤_, _<_}
+use mathlib.Core.Logic.{_↔_}
+use mathlib.Core.Path.{_≡_}
+use mathlib.Core.Bool.{Bool, true, _&&_}
+use mathlib.Core.List.{List, List·Memᴰ}
+use lib.Dec.{eqb}
+use lib.ListN.{length, getD, take}
+use Rattle.grid.specs.Lists.{any, Distinct}
+use Rattle.groups.specs.Groups.{maskOf}
+use Rattle.kinds.specs.Kinds.{View, floatNear}
+use Rattle.kinds.specs.Inside.{Marks}
+use Rattle.reach.specs.Chains.{cellsFrom}
+
+-- how many of the cells below n each owner has
+pub record Sizes (owners : List ℕ) (n : ℕ) (sizes : List ℕ) : Type 0 where
+  pub long : length sizes ≡ 1024
+  pub at : (f : ℕ) → f < 1024 → getD sizes f 0 ≡ length (cellsFrom owners n f 0)
+
+-- the names below 1024 that pass the test: marked, and listed once each in the first c places
+pub record Listed (test : ℕ → Bool) (near groups : List ℕ) (c : ℕ) : Type 0 where
+  pub marked : Marks near test
+  pub long : length groups ≡ 1024
+  pub few : c ≤ 1024
+  pub distinct : Distinct (take c groups)
+  pub listed : (m : ℕ) → List·Memᴰ m (take c groups) ↔ ((m < 1024) × (test m ≡ true))
+
+-- .. for some test
+pub record Listing (near groups : List ℕ) (c : ℕ) : Type 0 where
+  pub test : ℕ → Bool
+  pub so-far : Listed test near groups c
+
+-- one of the cells js is in the floating group m
+unfoldable pub floatAmong : List ℕ → List ℕ → List ℕ → ℕ → Bool
+floatAmong kinds owners js m = any (λ j. eqb (getD kinds j 0) 4 && eqb (getD owners j 0) m) js
+
+-- the floating groups that touch a neighbour of f: marked by name, and listed once each
+pub record NearFloats (v : View) (f : ℕ) (near groups : List ℕ) (r : ℕ) : Type 0 where
+  pub marked : near ≡ maskOf (v .grid) (floatNear v f)
+  pub long : length groups ≡ 1024
+  pub few : r ≤ 1024
+  pub distinct : Distinct (take r groups)
+  pub listed : (m : ℕ) → List·Memᴰ m (take r groups) ↔ ((m < 1024) × (floatNear v f m ≡ true))
+
+-- the first c of 1024 places have names below 1024
+pub record Names (groups : List ℕ) (c : ℕ) : Type 0 where
+  pub long : length groups ≡ 1024
+  pub few : c ≤ 1024
+  pub small : (k : ℕ) → k < c → getD groups k 0 < 1024

@@ -1,0 +1,141 @@
+-- The literals of reason 1: the neighbours by direction, the last cell that passes, and what they are of a potential group.
+-- Assumes nothing.
+use Prim.Native.Nat.{ℕ, zero, suc, _+_, _-_, _*_, _/_, _%_, _≤_, _<_}
+use native.Mathlib.Nat.{div-add-mod'}
+use native.Mathlib.Omega.{arith}
+use mathlib.Core.Logic.{_⊎_, inl, inr}
+use mathlib.Core.Path.{_≡_, refl, sym, ap, _∙_, subst}
+use mathlib.Core.Bool.{Bool, true, false, cond, _&&_, _||_}
+use mathlib.Core.List.{List, [], _∷_, _++_, append-nil, List·Memᴰ, List·Memᴰ·head, List·Memᴰ·tail}
+use lib.Dec.{eqb}
+use lib.ListN.{length, getD, set, take}
+use lib.Seq.{getD-take}
+use Rattle.grid.specs.Lists.{range, upto, any, filter, last, member}
+use Rattle.grid.specs.Grid.{Grid, size, cellsOf, up, down, left, right, neighbours, touches}
+use Rattle.grid.proofs.ListLaws.{split, filter-mem, mem-filter, mem-upto, upto-mem, mem-member, member-mem, so-false}
+use Rattle.grid.specs.Side.{sized, towards, besideOf}
+use Rattle.grid.specs.declared.Side.the-variants.{At, Off}
+use Rattle.grid.proofs.SideLaws.{beside-at, beside-off}
+use Rattle.grid.proofs.GridLaws.{beside, on-grid}
+use Rattle.board.specs.Board.{empty, filled, square}
+use Rattle.groups.specs.Groups.{labels, group, labelArray}
+use Rattle.kinds.specs.Kinds.{word}
+use Rattle.kinds.proofs.Filled.{any-append}
+use Rattle.literals.specs.Literals.{each}
+use Rattle.literals.specs.Buffer.{Wrote}
+use Rattle.units.specs.Arrays.{boundaryOf}
+use Rattle.literals.proofs.BufferLaws.{wrote-more}
+use Rattle.literals.proofs.Pass.{upto-more, filter-more}
+use Rattle.kinds.proofs.BlockArrays.{filter-upto}
+use Rattle.units.proofs.Ranks.{label-test, label-group}
+
+-- ---- some neighbour passes: direction by direction
+
+module _ (t : ℕ → Bool) (g : Grid) (i : ℕ) where
+  -- the neighbour in direction k, or none
+  pub any-at : (k j : ℕ) → At j ≡ besideOf g i k → t j ≡ any t (towards g i k)
+  unfolding any
+  any-at k j e = rw (beside-at g i k j e) (sym (or-false (t j)))
+    where
+      or-false : (b : Bool) → (b || false) ≡ b
+      or-false true = refl
+      or-false false = refl
+
+  pub any-off : (k : ℕ) → Off ≡ besideOf g i k → false ≡ any t (towards g i k)
+  unfolding any
+  any-off k e = rw (beside-off g i k e) refl
+
+  -- all neighbours
+  any-around : any t (neighbours g i) ≡ any (λ k. any t (towards g i k)) (upto 4)
+  unfolding any upto range towards neighbours
+  any-around =
+      any-append t (up g i) (down g i ++ (left g i ++ right g i))
+      ∙ ap (λ (b : Bool). any t (up g i) || b)
+      (any-append t (down g i) (left g i ++ right g i)
+      ∙ ap (λ (b : Bool). any t (down g i) || b)
+      (any-append t (left g i) (right g i) ∙ ap (λ (b : Bool). any t (left g i) || b) (or-false (any t (right g i)))))
+    where
+      or-false : (b : Bool) → b ≡ (b || false)
+      or-false true = refl
+      or-false false = refl
+
+-- by the row and the column of the cell
+pub any-placed : (t : ℕ → Bool) (h w i : ℕ) → any t (neighbours (sized h w) i) ≡ any (λ k. any t (towards (sized h w) (i / w * w + i % w) k)) (upto 4)
+any-placed t h w i = any-around t (sized h w) i ∙ ap (λ (m : ℕ). any (λ k. any t (towards (sized h w) m k)) (upto 4)) (sym (div-add-mod' i w))
+
+-- ---- the last cell that passes: a loop from behind
+
+last-more : (d : ℕ) (l : List ℕ) (x : ℕ) → last d (l ++ (x ∷ [])) ≡ x
+unfolding last
+last-more d [] x = refl
+last-more d (y ∷ ys) x = last-more y ys x
+
+module _ (t : ℕ → Bool) (i : ℕ) where
+  pub last-hit : t i ≡ true → last 0 (filter t (upto (i + 1))) ≡ i
+  last-hit e = rw (upto-more i, filter-more t (upto i) i, e) (last-more 0 (filter t (upto i)) i)
+
+  pub last-miss : t i ≡ false → last 0 (filter t (upto (i + 1))) ≡ last 0 (filter t (upto i))
+  last-miss e = rw (upto-more i, filter-more t (upto i) i, e, append-nil (filter t (upto i))) refl
+
+  last-low : (d : ℕ) (l : List ℕ) → d < 1024 → ((x : ℕ) → List·Memᴰ x l → x < 1024) → last d l < 1024
+  unfolding last
+  last-low d [] h k = h
+  last-low d (x ∷ xs) h k = last-low x xs (k x (List·Memᴰ·head refl)) (λ y m. k y (List·Memᴰ·tail m))
+
+  -- it is a cell
+  pub last-cell : i ≤ 1024 → last 0 (filter t (upto i)) < 1024
+  last-cell h = last-low 0 (filter t (upto i)) (omega arith) (λ x m. omega (arith, upto-mem i (filter-mem t (upto i) m .0)))
+
+-- ---- what they are of a group
+
+pub filter-filter : (p q : ℕ → Bool) (l : List ℕ) → filter p (filter q l) ≡ filter (λ i. q i && p i) l
+unfolding filter
+filter-filter p q [] = refl
+filter-filter p q (x ∷ xs) = go (q x) (filter-filter p q xs)
+  where
+    go : (b : Bool) → filter p (filter q xs) ≡ filter (λ i. q i && p i) xs → filter p (cond b (x ∷ filter q xs) (filter q xs)) ≡ cond (b && p x) (x ∷ filter (λ i. q i && p i) xs) (filter (λ i. q i && p i) xs)
+    go true h = ap (λ (l : List ℕ). cond (p x) (x ∷ l) l) h
+    go false h = h
+
+any-agree : (s t : ℕ → Bool) (l : List ℕ) → ((x : ℕ) → List·Memᴰ x l → s x ≡ t x) → any s l ≡ any t l
+unfolding any
+any-agree s t [] h = refl
+any-agree s t (x ∷ xs) h = rw (h x (List·Memᴰ·head refl), any-agree s t xs (λ y m. h y (List·Memᴰ·tail m))) refl
+
+-- a cell is in a filtered list exactly if it passes
+member-filter : (p : ℕ → Bool) (n i : ℕ) → i < n → member i (filter p (upto n)) ≡ p i
+member-filter p n i h = go (split (p i))
+  where
+    go : (p i ≡ true) ⊎ (p i ≡ false) → member i (filter p (upto n)) ≡ p i
+    go (inl e) = mem-member i (filter p (upto n)) (mem-filter p (upto n) (mem-upto n h) e) ∙ sym e
+    go (inr e) = so-false _ (λ s. let z : _≡_ {A = ℕ} 0 1 = ap (λ (b : Bool). cond b 0 1) (sym (filter-mem p (upto n) (member-mem i (filter p (upto n)) s) .1) ∙ e) in omega arith) ∙ sym e
+
+-- a cell touches a group by its neighbours' labels
+pub touches-by : (g : Grid) (p : ℕ → Bool) (f i : ℕ) → i < size g → f < 1024 → any (λ j. eqb (getD (labelArray g p) j 0) f) (neighbours g i) ≡ touches g (group g p (labels g p) f) i
+unfolding touches group cellsOf
+touches-by g p f i h k = any-agree _ (λ j. member j (group g p (labels g p) f)) (neighbours g i)
+    (λ j m. let l = on-grid g h (beside g i m) in label-test g p j f l k ∙ sym (member-filter (λ i. p i && eqb (getD (labels g p) i 0) f) (size g) j l))
+
+module _ (g : Grid) (cells groups : List ℕ) (f : ℕ) (a : groups ≡ labelArray g (filled (take (size g) cells))) (h : f < 1024) where
+  -- the empty cells that touch the group
+  pub empties-are : filter (λ i. eqb (getD cells i 0) 0 && any (λ j. eqb (getD groups j 0) f) (neighbours g i)) (upto (size g))
+      ≡ filter (λ i. empty (take (size g) cells) i && touches g (group g (filled (take (size g) cells)) (labels g (filled (take (size g) cells))) f) i) (cellsOf g)
+  unfolding cellsOf empty
+  empties-are = filter-upto _ _ (size g) (λ i l. rw (a, touches-by g (filled (take (size g) cells)) f i l h, getD-take (size g) cells i 0 l) refl)
+
+  -- its squares
+  squares-are : filter (λ i. eqb (getD groups i 0) f && eqb (getD cells i 0) 1) (upto (size g))
+      ≡ filter (square (take (size g) cells)) (group g (filled (take (size g) cells)) (labels g (filled (take (size g) cells))) f)
+  unfolding square
+  squares-are =
+      let p = filled (take (size g) cells) in
+      sym (ap (filter (square (take (size g) cells))) (sym (label-group g p f h)) ∙ filter-filter (square (take (size g) cells)) (λ i. eqb (getD (labelArray g p) i 0) f) (upto (size g))
+      ∙ filter-upto _ _ (size g) (λ i l. rw (a, getD-take (size g) cells i 0 l) refl))
+
+  -- all of reason 1
+  pub boundary-are : {before after : List ℕ} {count x : ℕ} → Wrote (each 0 (filter (λ i. eqb (getD cells i 0) 0 && any (λ j. eqb (getD groups j 0) f) (neighbours g i)) (upto (size g)))) before after count
+      → count < length before → x ≡ last 0 (filter (λ i. eqb (getD groups i 0) f && eqb (getD cells i 0) 1) (upto (size g)))
+      → Wrote (boundaryOf g (take (size g) cells) f) before (set after count (word (x, 1))) (count + 1)
+  unfolding each
+  boundary-are {before} {after} {count} {x} w l e =
+      rw (e, squares-are) (wrote-more (rw empties-are at w) (last 0 (filter (square (take (size g) cells)) (group g (filled (take (size g) cells)) (labels g (filled (take (size g) cells))) f)), 1) l)

@@ -1,0 +1,178 @@
+-- Where reasons 1 and 2 don't apply, as the marks of the arrow cells' groups tell.
+-- Assumes nothing.
+use Prim.Native.Nat.{ℕ, _*_, _≤_, _<_}
+use native.Mathlib.Omega.{arith}
+use mathlib.Core.Path.{_≡_, refl, sym, ap, _∙_, subst}
+use mathlib.Core.Bool.{Bool, true, false, So, _&&_, not, false≢true}
+use mathlib.Core.List.{List, [], _∷_, List·Memᴰ, List·Memᴰ·head, List·Memᴰ·tail}
+use mathlib.Core.Option.{none}
+use lib.Dec.{eqb}
+use lib.ListN.{length, getD, take, List·getD-eq-default}
+use lib.Seq.{getD-take}
+use borrow.Author.Tests.{eqb-true, eq-eqb, ne-eqb}
+use Rattle.grid.specs.Lists.{range, upto, any, filter, Distinct}
+use Rattle.grid.specs.Grid.{Grid, size, cellsOf}
+use Rattle.grid.specs.Side.{sized}
+use Rattle.grid.proofs.SideLaws.{area}
+use Rattle.grid.proofs.ListLaws.{so-false, and-true, true-and, not-so, any-mem, mem-any, filter-mem, upto-mem, mem-upto, distinct-filter, distinct-upto}
+use Rattle.record.specs.Record.{Puzzle}
+use Rattle.board.specs.Board.{Literal, filled, square}
+use Rattle.groups.specs.Groups.{labels, group, names}
+use Rattle.groups.specs.Arrows.{onArrow}
+use Rattle.groups.proofs.GroupLaws.{group-mem, mem-group}
+use Rattle.kinds.specs.Inside.{puzzleWith, Given, Marks, nameAt, nameAmong, nameTwice}
+use Rattle.kinds.proofs.ArrowMarks.{mark-on, listed-on, on-listed, arrow-mask, met-twice}
+use Rattle.literals.specs.Literals.{Found, orElse, given, firstOf}
+use Rattle.units.specs.Units.{reason1, reason1At, reason2, reason2At}
+use Rattle.units.specs.Arrays.{PotentialArrays, BlockArrays, Listed, strandedAt}
+use Rattle.literals.specs.Buffer.{FoundAs}
+use Rattle.literals.specs.declared.Finding.the-variants.{Nothing}
+use Rattle.grid.proofs.Turns.{size-small}
+use Rattle.units.proofs.Ranks.{label-test}
+use Rattle.literals.proofs.Findings.{found-none}
+use Rattle.units.proofs.Checks.{sized-size}
+
+-- ---- a square of a group that is not marked
+
+module _ (cells groups marks : List ℕ) (i : ℕ) where
+  -- no square
+  pub stranded-none : (getD cells i 0 ≡ 1 → ⊥) → false ≡ strandedAt cells groups marks i
+  unfolding strandedAt
+  stranded-none h = rw (ne-eqb (getD cells i 0) 1 h) refl
+
+  module _ (s : getD cells i 0 ≡ 1) where
+    -- in no group
+    pub stranded-alone : length marks ≡ 1024 → 1024 ≤ getD groups i 0 → true ≡ strandedAt cells groups marks i
+    unfolding strandedAt
+    stranded-alone l h =
+        let z : getD marks (getD groups i 0) 0 ≡ 0 = List·getD-eq-default marks 0 {n = getD groups i 0} (omega arith) in
+        rw (eq-eqb (getD cells i 0) 1 s, z) refl
+
+    pub stranded-by : not (eqb (getD marks (getD groups i 0) 0) 1) ≡ strandedAt cells groups marks i
+    unfolding strandedAt
+    stranded-by = rw (eq-eqb (getD cells i 0) 1 s) refl
+
+-- no cell is passed yet
+pub any-start : (t : ℕ → Bool) → any t (upto 0) ≡ false
+unfolding any upto range
+any-start t = refl
+
+-- no member of a list gives a reason
+all-none : (f : ℕ → Found) (l : List ℕ) → ((x : ℕ) → List·Memᴰ x l → f x ≡ none) → firstOf f l ≡ none
+unfolding firstOf orElse
+all-none f [] h = refl
+all-none f (x ∷ xs) h = rw (h x (List·Memᴰ·head refl)) (all-none f xs (λ y m. h y (List·Memᴰ·tail m)))
+
+-- a name is a cell
+name-low : (g : Grid) (p : ℕ → Bool) (f : ℕ) → List·Memᴰ f (names g p (labels g p)) → f < size g
+unfolding names cellsOf
+name-low g p f m = upto-mem (size g) (filter-mem (λ i. p i && eqb (getD (labels g p) i 0) i) (upto (size g)) m .0)
+
+given-not : (b : Bool) (r : List Literal) → b ≡ false → given b r ≡ none
+unfolding given
+given-not b r e = rw e refl
+
+-- each square is in a group with an arrow cell: reason 1 does not apply
+pub none-stranded : (p : Puzzle) (cells groups onarrow marks arrows : List ℕ) (n total : ℕ) → n ≤ 1024 → n ≡ size (p .grid) → PotentialArrays p (take n cells) groups onarrow
+    → Listed arrows total onarrow → Marks marks (nameAmong groups arrows total) → any (strandedAt cells groups marks) (upto n) ≡ false → reason1 p (take n cells) ≡ none
+unfolding reason1 reason1At strandedAt square nameAmong
+none-stranded p cells groups onarrow marks arrows n total small e P L M none-is =
+    all-none _ (names g t (labels g t)) (λ f m. given-not _ _ (so-false _ (at f (name-low g t f m))))
+  where
+    g : Grid
+    g = p .grid
+
+    now : List ℕ
+    now = take n cells
+
+    t : ℕ → Bool
+    t = filled now
+
+    c : ℕ → List ℕ
+    c f = group g t (labels g t) f
+
+    -- a cell of the group f by the array
+    test : (i f : ℕ) → i < size g → f < size g → eqb (getD groups i 0) f ≡ (t i && eqb (getD (labels g t) i 0) f)
+    test i f h k = ap (λ (l : List ℕ). eqb (getD l i 0) f) (P .groups-are) ∙ label-test g t i f h (omega arith)
+
+    -- the group of a square is marked
+    mark : (i f : ℕ) → i < size g → So (square now i) → getD groups i 0 ≡ f → So (eqb (getD marks f 0) 1)
+    mark i f h s o = go (eqb (getD marks f 0) 1) refl
+      where
+        sq : So (eqb (getD cells i 0) 1)
+        sq = sym (ap (λ (x : ℕ). eqb x 1) (getD-take n cells i 0 (omega arith))) ∙ s
+
+        go : (b : Bool) → eqb (getD marks f 0) 1 ≡ b → b ≡ true
+        go true q = refl
+        go false q = absurd (false≢true (sym none-is ∙ mem-any (strandedAt cells groups marks) (upto n) (mem-upto n (omega arith)) (true-and sq (rw (o, q) refl))))
+
+    at : (f : ℕ) → f < size g → So (any (square now) (c f) && not (any (onArrow (p .arrows)) (c f))) → ⊥
+    at f h s =
+        let q = and-true (any (square now) (c f)) _ s in
+        let r = any-mem (square now) (c f) (q .0) in
+        let m = group-mem g t (labels g t) f (r .0) (r .1) in
+        let own : getD groups (r .0) 0 ≡ f = eqb-true _ _ (test (r .0) f (m .0) h ∙ true-and (m .1) (eq-eqb _ _ (m .2))) in
+        let a = mark-on (nameAmong groups arrows total f) (sym (M .at f (omega arith)) ∙ eqb-true _ _ (mark (r .0) f (m .0) (r .2) own)) in
+        let k = any-mem _ (upto total) a in
+        let o = listed-on g (p .arrows) (L .line) (L .marks) (P .arrows-are) (k .0) (upto-mem total (k .1)) in
+        let i = getD arrows (k .0) 0 in
+        let w = and-true (t i) _ (sym (test i f (o .0) h) ∙ k .2) in
+        not-so (q .1) (mem-any (onArrow (p .arrows)) (c f) (mem-group g t (labels g t) f i (o .0) (w .0) (eqb-true _ _ (w .1))) (o .1))
+
+-- no name was met twice: reason 2 does not apply
+pub none-twice : (p : Puzzle) (cells blocks onarrow arrows : List ℕ) (total : ℕ) → size (p .grid) ≤ 1024 → BlockArrays p cells blocks onarrow
+    → Listed arrows total onarrow → nameTwice blocks arrows total ≡ false → reason2 p cells ≡ none
+unfolding reason2 reason2At group cellsOf
+none-twice p cells blocks onarrow arrows total small B L none-is = all-none _ (names g t (labels g t)) (λ f m. few f (name-low g t f m) (A f) refl)
+  where
+    g : Grid
+    g = p .grid
+
+    t : ℕ → Bool
+    t = square cells
+
+    -- the arrow cells of the block f
+    A : ℕ → List ℕ
+    A f = filter (onArrow (p .arrows)) (group g t (labels g t) f)
+
+    distinct : (f : ℕ) → Distinct (A f)
+    distinct f = distinct-filter (onArrow (p .arrows)) (group g t (labels g t) f) (distinct-filter (λ i. t i && eqb (getD (labels g t) i 0) f) (upto (size g)) (distinct-upto (size g)))
+
+    -- the place of an arrow cell of the block f
+    place : (f : ℕ) → f < size g → (a : ℕ) → List·Memᴰ a (A f) → (k : ℕ) × (k < total) × (getD arrows k 0 ≡ a) × (nameAt blocks arrows k ≡ f)
+    place f h a m =
+        let q = filter-mem (onArrow (p .arrows)) (group g t (labels g t) f) m in
+        let r = group-mem g t (labels g t) f a (q .0) in
+        let k = on-listed g (p .arrows) (L .line) (L .marks) (B .arrows-are) a (r .0) (omega arith) (q .1) in
+        let own : getD blocks a 0 ≡ f = eqb-true _ _ (ap (λ (l : List ℕ). eqb (getD l a 0) f) (B .blocks-are) ∙ label-test g t a f (r .0) (omega arith) ∙ true-and (r .1) (eq-eqb _ _ (r .2))) in
+        (k .0, k .1, k .2, ap (λ (i : ℕ). getD blocks i 0) (k .2) ∙ own)
+
+    few : (f : ℕ) → f < size g → (l : List ℕ) → l ≡ A f → reason2At g cells l ≡ none
+    few f h [] e = refl
+    few f h (a ∷ []) e = refl
+    few f h (a ∷ b ∷ l) e =
+        let d : Distinct (a ∷ b ∷ l) = subst Distinct (sym e) (distinct f) in
+        let j = place f h a (subst (List·Memᴰ a) e (List·Memᴰ·head refl)) in
+        let k = place f h b (subst (List·Memᴰ b) e (List·Memᴰ·tail (List·Memᴰ·head refl))) in
+        absurd (false≢true (sym none-is ∙ met-twice blocks arrows total (j .0) (k .0)
+        (λ z. d .0 (List·Memᴰ·head (sym (j .2) ∙ ap (λ (x : ℕ). getD arrows x 0) z ∙ k .2)))
+        (j .1) (k .1) (omega (arith, k .3)) (j .3 ∙ sym (k .3))))
+
+-- ---- the same on the arrays of a board
+
+module _ (h w : ℕ) (tall : h ≤ 32) (wide : w ≤ 32) (lines : List (List ℕ)) (cells : List ℕ) {onarrow arrows : List ℕ} {total : ℕ} (L : Listed arrows total onarrow) where
+  pub quiet-1 : {groups marks : List ℕ} → PotentialArrays (puzzleWith (sized h w) lines) (take (h * w) cells) groups onarrow → Marks marks (nameAmong groups arrows total)
+      → any (strandedAt cells groups marks) (upto (h * w)) ≡ false → (buffer : List ℕ) → FoundAs (reason1 (puzzleWith (sized h w) lines) (take (h * w) cells)) buffer buffer Nothing
+  quiet-1 P M e buffer =
+      rw (none-stranded (puzzleWith (sized h w) lines) cells _ onarrow _ arrows (h * w) total (area h w tall wide) (sized-size h w) P L M e) (found-none buffer)
+
+  module _ {blocks : List ℕ} (B : BlockArrays (puzzleWith (sized h w) lines) (take (h * w) cells) blocks onarrow) where
+    pub quiet-2 : nameTwice blocks arrows total ≡ false → (buffer : List ℕ) → FoundAs (reason2 (puzzleWith (sized h w) lines) (take (h * w) cells)) buffer buffer Nothing
+    quiet-2 e buffer = rw (none-twice (puzzleWith (sized h w) lines) (take (h * w) cells) blocks onarrow arrows total (size-small tall wide) B L e) (found-none buffer)
+
+    -- the marks are those of the arrow blocks
+    pub arrowed-given : {marks : List ℕ} → Marks marks (nameAmong blocks arrows total) → Given (puzzleWith (sized h w) lines) (take (h * w) cells) blocks marks
+    arrowed-given M = record {
+      named = B .blocks-are;
+      marked = arrow-mask (puzzleWith (sized h w) lines) (size-small tall wide) (take (h * w) cells) (B .blocks-are) (L .line) (L .marks) (B .arrows-are) M;
+    }

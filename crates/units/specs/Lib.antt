@@ -1,0 +1,4 @@
+pub mod Units
+pub mod BreadthFirst
+pub mod Search
+pub mod Arrays
