@@ -85,14 +85,6 @@ pub fn toward(h: usize, w: usize, y: usize, x: usize, k: usize) -> Side
     shifted(h, w, y, x, d[0], d[1])
 }
 
-// The neighbour of cell i in direction k.
-pub fn beside(h: usize, w: usize, i: usize, k: usize) -> Side
-    requires { ⌜ InGrid h w i × (k < 4) ⌝ }
-    ensures { λ r. ⌜ r ≡ besideOf (sized h w) i k ⌝ }
-{
-    toward(h, w, i / w, i % w, k)
-}
-
 // The four places with j in place `count`. Each place stands by its own number, and none by a variable, so that the
 // compiler can keep the four in registers.
 fn put(cells: [u16; 4], count: usize, j: u16) -> [u16; 4]

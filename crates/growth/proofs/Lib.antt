@@ -1,7 +1,4 @@
 pub mod Gap
-pub mod ChainWalks
-pub mod Shifts
-pub mod ShiftChains
 pub mod PairPlaces
 pub mod PairNames
 pub mod PairChecks

@@ -17,10 +17,10 @@ use Rattle.kinds.specs.Kinds.{View, view, viewWith, block, reach, fence, word}
 use Rattle.kinds.specs.Inside.{Held}
 use Rattle.fence.specs.Inside.{Fenced}
 use Rattle.literals.specs.Buffer.{Wrote}
-use Rattle.growth.specs.Pairs.{reason4aAt, reason4bAt, pairAt, viewOn, blockCellFence}
+use Rattle.growth.specs.Pairs.{pairAt, viewOn, blockCellFence}
+use Rattle.growth.specs.Growth.{reason4aAt, reason4bAt, mostApart, blockName, reasonGrow, reason3At, gap, reasonShrink}
 use Rattle.literals.specs.Literals.{given, each}
-use Rattle.growth.specs.Growth.{mostApart, blockName, reasonGrow, reason3At, gap, reasonShrink}
-use Rattle.growth.specs.Shift.{blockIn, shiftFits}
+use Rattle.shift.specs.Shift.{blockIn, shiftFits}
 use Rattle.literals.proofs.BufferLaws.{wrote-more}
 use Rattle.growth.proofs.PairPlaces.{slice-tail, slice-init}
 use Rattle.kinds.proofs.BlockArrays.{block-by, filter-agree}

@@ -7,31 +7,20 @@ use mathlib.Core.Bool.{true, false}
 use mathlib.Core.List.{List, _++_, List·Memᴰ}
 use lib.ListN.{length, getD}
 use lib.Seq.{slice}
-use Rattle.grid.specs.Lists.{filter, upto}
-use Rattle.grid.proofs.ListLaws.{filter-mem, upto-mem}
-use Rattle.grid.proofs.SideLaws.{area}
+use Rattle.grid.specs.Lists.{filter}
 use Rattle.board.specs.Board.{empty, square}
 use Rattle.groups.specs.Arrows.{Pair, CellArray}
 use Rattle.kinds.specs.Kinds.{View, view, viewWith, block, reach}
 use Rattle.literals.specs.Buffer.{Wrote, FoundAs}
-use Rattle.growth.specs.Pairs.{reason4aAt, reason4bAt, pairAt, viewOn, Scene, blockCellFence}
+use Rattle.growth.specs.Pairs.{pairAt, viewOn, Scene, blockCellFence}
+use Rattle.growth.specs.Growth.{reason4aAt, reason4bAt, mostApart, gap, reason3At}
 use Rattle.literals.specs.Literals.{each}
-use Rattle.growth.specs.Growth.{mostApart, gap, reason3At}
-use Rattle.growth.specs.Shift.{blockIn, Gathered, Places, shiftFits}
+use Rattle.shift.specs.Shift.{shiftFits}
 use Rattle.literals.specs.declared.Finding.the-variants.{Nothing, Reason}
 use Rattle.literals.proofs.Findings.{found-none, wrote-found}
 use Rattle.growth.proofs.PairChecks.{shift-none, shift-some, growth-none, growth-some, gap-none, gap-some, gap-places, most-taken, empty-agree}
 use Rattle.growth.proofs.PairNames.{scene-owner}
 use Rattle.growth.proofs.PairPlaces.{slice-mem}
-use Rattle.growth.proofs.Shifts.{inIt, in-few, gathered-places, block-places}
-
--- the cells of a block that were gathered lie on the grid
-pub gathered-inside : (h w : ℕ) (kinds owners : List ℕ) (f : ℕ) {r c r′ c′ : List ℕ} {k : ℕ} → h ≤ 32 → w ≤ 32
-    → Gathered w (blockIn kinds owners (h * w) f) r c r′ c′ k → Places h w r′ c′ k
-unfolding blockIn
-gathered-inside h w kinds owners f p q s =
-    block-places h w p q (omega (arith, s .many, in-few kinds owners f (h * w), area h w p q))
-    (λ i m. upto-mem (h * w) (filter-mem (inIt kinds owners f) (upto (h * w)) m .0)) (gathered-places s)
 
 -- two squares of an arrow, and the names of their blocks in the array
 module _ {h w : ℕ} {lines : List (List ℕ)} {cells arrows kinds owners : List ℕ} {last cur : ℕ} (s : Scene h w lines cells arrows kinds owners last (cur + 1)) (order : last < cur)

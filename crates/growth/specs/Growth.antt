@@ -46,14 +46,20 @@ module _ (v : View) (pair : Pair) where
       ++ fence v (blockName v (pair .last))
       ++ each 0 (filter (empty (v .cells)) (gap pair))
 
-  -- 4. cur's reach is too small for last's block and one more; or cur's block too large for last's reach, one more and the gap
-  unfoldable pub reason4At : Found
-  reason4At =
-      orElse
-      (given (ltb (length (reach v (blockName v (pair .cur)))) (length (block v (blockName v (pair .last))) + 1)) reasonGrow)
-      (given
+  -- 4 (a). cur's reach is too small for last's block and one more
+  unfoldable pub reason4aAt : Found
+  reason4aAt = given (ltb (length (reach v (blockName v (pair .cur)))) (length (block v (blockName v (pair .last))) + 1)) reasonGrow
+
+  -- 4 (b). cur's block is too large for last's reach, one more and the gap
+  unfoldable pub reason4bAt : Found
+  reason4bAt =
+      given
       (ltb (length (reach v (blockName v (pair .last))) + 1 + mostApart (v .cells) false (gap pair)) (length (block v (blockName v (pair .cur)))))
-      reasonShrink)
+      reasonShrink
+
+  -- 4. (a), then (b)
+  unfoldable pub reason4At : Found
+  reason4At = orElse reason4aAt reason4bAt
 
 -- 3 for every pair of every arrow, then 4
 unfoldable pub reason34 : View → Found

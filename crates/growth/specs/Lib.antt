@@ -1,3 +1,2 @@
 pub mod Growth
-pub mod Shift
 pub mod Pairs

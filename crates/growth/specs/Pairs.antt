@@ -4,15 +4,14 @@ use Prim.Native.Nat.{ℕ, _+_, _*_, _≤_, _<_}
 use mathlib.Core.Path.{_≡_}
 use mathlib.Core.Bool.{Bool, true, false, cond}
 use mathlib.Core.List.{List, [], _∷_, _++_, List·Memᴰ}
-use lib.Dec.{ltb}
 use lib.ListN.{length, getD, take}
 use lib.Seq.{slice}
 use Rattle.grid.specs.Side.{sized}
 use Rattle.board.specs.Board.{Literal, square}
 use Rattle.groups.specs.Arrows.{onArrow, Pair, CellArray, linesOf}
 use Rattle.kinds.specs.Kinds.{View, view, block, reach, fence, reachMask}
-use Rattle.literals.specs.Literals.{Found, given, each}
-use Rattle.growth.specs.Growth.{mostApart, blockName, reasonGrow, reason3At, gap, reasonShrink, reason4At}
+use Rattle.literals.specs.Literals.{Found, each}
+use Rattle.growth.specs.Growth.{reason3At, reason4At}
 use Rattle.reach.specs.Chains.{Chains}
 use Rattle.reach.specs.Near.{Sizes}
 use Rattle.kinds.specs.Inside.{puzzleWith, Held}
@@ -20,18 +19,6 @@ use Rattle.kinds.specs.Inside.{puzzleWith, Held}
 -- reason 4 for a pair, or reason 3
 unfoldable pub reasonAt : Bool → View → Pair → Found
 reasonAt fourth v pair = cond fourth (reason4At v pair) (reason3At v pair)
-
-module _ (v : View) (pair : Pair) where
-  -- 4 (a)
-  unfoldable pub reason4aAt : Found
-  reason4aAt = given (ltb (length (reach v (blockName v (pair .cur)))) (length (block v (blockName v (pair .last))) + 1)) (reasonGrow v pair)
-
-  -- 4 (b)
-  unfoldable pub reason4bAt : Found
-  reason4bAt =
-      given
-      (ltb (length (reach v (blockName v (pair .last))) + 1 + mostApart (v .cells) false (gap pair)) (length (block v (blockName v (pair .cur)))))
-      (reasonShrink v pair)
 
 -- the pair of the squares at two places of the arrows
 unfoldable pub pairAt : List ℕ → ℕ → ℕ → Pair

@@ -1,6 +1,5 @@
 // Reasons 3 and 4: the blocks of squares that follow each other on an arrow.
 pub mod pairs;
-mod shift;
 
 ghost use mathlib.Core.Path.{_≡_};
 ghost use Prim.Native.Nat.{_+_, _<_, _≤_};

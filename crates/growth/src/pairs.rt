@@ -10,13 +10,12 @@ ghost use Rattle.groups.specs.Arrows.{pairs, CellArray, linesOf};
 ghost use Rattle.kinds.specs.Kinds.{view, reach, reachMask};
 ghost use Rattle.reach.specs.Chains.{Chains};
 ghost use Rattle.literals.specs.Buffer.{Wrote, FoundAs, Fit};
-ghost use Rattle.growth.specs.Pairs.{reasonAt, pairAt, NextSquare, reason4aAt, reason4bAt, viewOn, Scene, Shown, Seen, Grouped, Line, Squares, Whole, blockCellFence};
+ghost use Rattle.growth.specs.Pairs.{reasonAt, pairAt, NextSquare, viewOn, Scene, Shown, Seen, Grouped, Line, Squares, Whole, blockCellFence};
+ghost use Rattle.growth.specs.Growth.{reason4aAt, reason4bAt, reason3At, reason34};
 ghost use Rattle.literals.specs.Literals.{firstOf};
-ghost use Rattle.growth.specs.Growth.{reason3At, reason34};
 ghost use Rattle.kinds.specs.Inside.{Limits, puzzleWith, Held};
 ghost use Rattle.reach.specs.Near.{Sizes};
-ghost use Rattle.growth.specs.Shift.{blockIn, Chained, Work};
-use super::shift;
+ghost use Rattle.shift.specs.Shift.{blockIn, Chained, Work};
 use literals::Finding;
 
 // The first place from `from` on that holds a square, or `to` if there is none.

@@ -17,7 +17,7 @@ use Rattle.groups.specs.Arrows.{Pair, onArrow}
 use Rattle.kinds.specs.Kinds.{View, view}
 use Rattle.units.specs.Units.{Entry, parent, path, reason1At, reason1, reason2At, reason2}
 use Rattle.literals.specs.Literals.{Found, orElse, given, firstOf}
-use Rattle.growth.specs.Growth.{reasonGrow, reason3At, reasonShrink, reason4At, reason34}
+use Rattle.growth.specs.Growth.{reasonGrow, reason3At, reasonShrink, reason4At, reason4aAt, reason4bAt, reason34}
 use Rattle.reasons.specs.Reasons.{findReason}
 use Rattle.literals.proofs.Pass.{each-length}
 
@@ -98,7 +98,7 @@ module _ (v : View) (e : Pair) where
   literate3 = given-literate _ (reasonGrow v e) grow-some
 
   literate4 : Literate (reason4At v e)
-  unfolding reason4At
+  unfolding reason4At reason4aAt reason4bAt
   literate4 = orElse-literate _ _ (given-literate _ (reasonGrow v e) grow-some) (given-literate _ (reasonShrink v e) shrink-some)
 
 -- a reason has a literal

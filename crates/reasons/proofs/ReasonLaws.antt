@@ -23,7 +23,7 @@ use Rattle.kinds.specs.Kinds.{View, view, viewWith}
 use Rattle.literals.proofs.Pass.{each-length}
 use Rattle.units.specs.Units.{Entry, reason1At, reason1, reason2At, reason2, path, parent, breadthFirst}
 use Rattle.literals.specs.Literals.{Found, orElse, given, firstOf, each}
-use Rattle.growth.specs.Growth.{blockName, reasonGrow, reason3At, gap, reasonShrink, reason4At, reason34}
+use Rattle.growth.specs.Growth.{blockName, reasonGrow, reason3At, gap, reasonShrink, reason4At, reason4aAt, reason4bAt, reason34}
 use Rattle.reasons.specs.Reasons.{findReason}
 use Rattle.kinds.proofs.Lengths.{block-length, fence-length}
 
@@ -118,7 +118,7 @@ module _ (v : View) (e : Pair) (h : length (e .between) ≤ size (v .grid)) wher
       ))
 
   short4 : Short (bound (v .grid)) (reason4At v e)
-  unfolding reason4At
+  unfolding reason4At reason4aAt reason4bAt
   short4 = orElse-short (bound (v .grid)) _ _ (given-short (bound (v .grid)) _ (reasonGrow v e) grow-length) (given-short (bound (v .grid)) _ (reasonShrink v e) shrink-length)
 
 -- a pair's cells lie on an arrow

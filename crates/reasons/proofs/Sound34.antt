@@ -30,7 +30,7 @@ use Rattle.kinds.proofs.Fence.{reach-in, in-reach, block-in, in-block, length-r
 use Rattle.reasons.proofs.First.{first-some, agrees-left, agrees-right, agrees-each, or-else-some, or-else-none, given-none, given-some}
 use Rattle.reasons.proofs.Plain.{lineLen, RulesAt, on-line, Which, lineAt}
 use Rattle.literals.specs.Literals.{given, firstOf, each}
-use Rattle.growth.specs.Growth.{reasonShrink, mostApart, blockName, reasonGrow, reason3At, gap, reason4At, reason34}
+use Rattle.growth.specs.Growth.{reasonShrink, mostApart, blockName, reasonGrow, reason3At, gap, reason4At, reason4aAt, reason4bAt, reason34}
 use Rattle.growth.proofs.Gap.{Choice, most-bound}
 use Rattle.reasons.proofs.Refute.{Arrows, Filling, reason-3, reason-4a, reason-4b}
 
@@ -142,7 +142,7 @@ module _ (set : Setting) where
     shrinkLiterals = each 1 (block v (name curCell)) ++ each 1 (lastCell ∷ []) ++ fence v (name lastCell) ++ each 0 (filter (empty cells) (tail (init between)))
 
     pub four-some : (r : List Literal) → reason4At v pair ≡ some r → (So tooFew × (reasonGrow v pair ≡ r)) ⊎ (So tooMany × (shrinkLiterals ≡ r))
-    unfolding reason4At reasonShrink view viewWith blockName gap
+    unfolding reason4At reason4aAt reason4bAt reasonShrink view viewWith blockName gap
     four-some r e = go (or-else-some (given tooFew (reasonGrow v pair)) (given tooMany shrinkLiterals) r e)
       where
         go : (given tooFew (reasonGrow v pair) ≡ some r) ⊎ ((given tooFew (reasonGrow v pair) ≡ none) × (given tooMany shrinkLiterals ≡ some r)) → (So tooFew × (reasonGrow v pair ≡ r)) ⊎ (So tooMany × (shrinkLiterals ≡ r))
@@ -150,7 +150,7 @@ module _ (set : Setting) where
         go (inr k) = inr (given-some tooMany shrinkLiterals r (k .1))
 
     pub four-none : reason4At v pair ≡ none → (¬ So tooFew) × (¬ So tooMany)
-    unfolding reason4At reasonShrink view viewWith blockName gap
+    unfolding reason4At reason4aAt reason4bAt reasonShrink view viewWith blockName gap
     four-none e = let w = or-else-none (given tooFew (reasonGrow v pair)) (given tooMany shrinkLiterals) e in (given-none tooFew (reasonGrow v pair) (w .0), given-none tooMany shrinkLiterals (w .1))
 
     -- a filling that agrees and meets the rules

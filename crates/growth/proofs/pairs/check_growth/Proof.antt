@@ -6,7 +6,7 @@ use Rattle.grid.proofs.SideLaws.{area}
 use Rattle.growth.proofs.PairChecks.{block-in}
 use Rattle.growth.proofs.PairFinds.{no-growth, growth-found}
 use Rattle.growth.proofs.PairNames.{scene-name, scene-kind}
-use Rattle.growth.proofs.Shifts.{in-few}
+use Rattle.shift.proofs.Shifts.{in-few}
 use borrow.Author.Needs.{needs}
 use Rattle.growth.proofs.pairs.check_growth.Statement.{statement}
 use Rattle.growth.proofs.pairs.check_growth.Tie as tie

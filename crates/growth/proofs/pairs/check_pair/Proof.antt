@@ -1,6 +1,6 @@
 use borrow.Author.Tests.{not-true, not-false}
-use Rattle.growth.specs.Pairs.{reasonAt, reason4aAt, reason4bAt, pairAt, viewOn}
-use Rattle.growth.specs.Growth.{reason4At}
+use Rattle.growth.specs.Pairs.{reasonAt, pairAt, viewOn}
+use Rattle.growth.specs.Growth.{reason4aAt, reason4bAt, reason4At}
 use Rattle.literals.proofs.Findings.{found-first, found-next, not-refused}
 use borrow.Author.Needs.{needs}
 use Rattle.growth.proofs.pairs.check_pair.Statement.{statement}

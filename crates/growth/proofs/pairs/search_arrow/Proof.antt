@@ -7,7 +7,7 @@ use lib.Arith.{lt-of-le-ne}
 use lib.ListN.{length, getD}
 use Rattle.board.specs.Board.{square}
 use Rattle.growth.specs.Pairs.{Scene}
-use Rattle.growth.specs.Shift.{Work}
+use Rattle.shift.specs.Shift.{Work}
 use Rattle.literals.proofs.Findings.{found-none, nothing-found, not-refused}
 use Rattle.growth.proofs.PairNames.{scene-part}
 use Rattle.growth.proofs.PairSearch.{ahead, search-start, search-done, search-more, search-found, search-end}

@@ -6,7 +6,7 @@ use mathlib.Core.List.{List, List·Memᴰ}
 use lib.ListN.{length, getD, take}
 use Rattle.groups.specs.Arrows.{linesOf}
 use Rattle.growth.specs.Pairs.{reasonAt, viewOn}
-use Rattle.growth.specs.Shift.{Work}
+use Rattle.shift.specs.Shift.{Work}
 use Rattle.literals.proofs.Findings.{found-none, nothing-found, not-refused}
 use Rattle.growth.proofs.PairSearch.{linesFrom, restOf, rest-end, rest-more, rest-found, sub-more, next-scene, next-line}
 use borrow.Author.Needs.{needs}

@@ -13,10 +13,10 @@ use lib.IntN.{ℤ}
 use lib.ListN.{getD}
 use Rattle.grid.specs.Side.{shiftedOf}
 use Rattle.reach.specs.Inside.{reachesAt}
-use Rattle.growth.specs.Shift.{landsIn, allLand}
-use Rattle.growth.proofs.Shifts.{all-upto, not-all}
-use Rattle.growth.proofs.shift.fits_by.Statement.{statement}
-use Rattle.growth.proofs.shift.fits_by.Tie as tie
+use Rattle.shift.specs.Shift.{landsIn, allLand}
+use Rattle.shift.proofs.Shifts.{all-upto, not-all}
+use Rattle.shift.proofs.fits_by.Statement.{statement}
+use Rattle.shift.proofs.fits_by.Tie as tie
 
 -- the cell at place k comes into the reach
 abbrev test : ℕ → ℕ → List ℕ → List ℕ → (ℕ → Bool) → ℤ → ℤ → ℕ → Bool

@@ -4,11 +4,10 @@ use Rattle.grid.specs.Grid.{size}
 use Rattle.grid.specs.Side.{sized}
 use Rattle.grid.proofs.GridLaws.{width-pos}
 use Rattle.grid.proofs.SideLaws.{area}
-use Rattle.growth.proofs.PairFinds.{gathered-inside}
-use Rattle.growth.proofs.Shifts.{in-few, gathered-long}
-use Rattle.growth.proofs.ShiftChains.{gathered-view}
-use Rattle.growth.proofs.shift.shift_fits.Statement.{statement}
-use Rattle.growth.proofs.shift.shift_fits.Tie as tie
+use Rattle.shift.proofs.Shifts.{in-few, gathered-long, gathered-inside}
+use Rattle.shift.proofs.ShiftChains.{gathered-view}
+use Rattle.shift.proofs.shift_fits.Statement.{statement}
+use Rattle.shift.proofs.shift_fits.Tie as tie
 
 small : (c : tie.Start) → c .args .h * c .args .w ≤ 1024
 small c = area (c .args .h) (c .args .w) (c .pre .0 .tall) (c .pre .0 .wide)

@@ -7,11 +7,11 @@ use Rattle.grid.specs.Lists.{any}
 use Rattle.grid.proofs.ListLaws.{mem-any}
 use Rattle.reach.specs.Chains.{cellsFrom}
 use Rattle.reach.specs.Inside.{reachesAt}
-use Rattle.growth.specs.Shift.{fitsAt}
-use Rattle.growth.proofs.ChainWalks.{Walk, walk-start, walk-in, walk-high, walk-mem, walk-more, walk-less, walk-end, none-more}
+use Rattle.shift.specs.Shift.{fitsAt}
+use Rattle.shift.proofs.ChainWalks.{Walk, walk-start, walk-in, walk-high, walk-mem, walk-more, walk-less, walk-end, none-more}
 use borrow.Author.Needs.{needs}
-use Rattle.growth.proofs.shift.fits_chain.Statement.{statement}
-use Rattle.growth.proofs.shift.fits_chain.Tie as tie
+use Rattle.shift.proofs.fits_chain.Statement.{statement}
+use Rattle.shift.proofs.fits_chain.Tie as tie
 
 -- no shift to a cell that was passed fits
 record Amid (owners : List ℕ) (n m : ℕ) (test : ℕ → Bool) (t : ℕ) : Type 0 where

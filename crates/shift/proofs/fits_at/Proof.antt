@@ -5,9 +5,9 @@ use mir.ValLaws.{toZ-ofZ}
 use Rattle.grid.specs.Side.{InPlace}
 use Rattle.grid.proofs.SideLaws.{in-place}
 use Rattle.grid.proofs.ShiftLaws.{way-small}
-use Rattle.growth.specs.Shift.{fitsAt}
-use Rattle.growth.proofs.shift.fits_at.Statement.{statement}
-use Rattle.growth.proofs.shift.fits_at.Tie as tie
+use Rattle.shift.specs.Shift.{fitsAt}
+use Rattle.shift.proofs.fits_at.Statement.{statement}
+use Rattle.shift.proofs.fits_at.Tie as tie
 
 -- cell t has a row and a column
 place : (c : tie.Start) → InPlace (c .args .h) (c .args .w) (c .args .t / c .args .w) (c .args .t % c .args .w)

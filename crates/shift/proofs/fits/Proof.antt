@@ -11,11 +11,11 @@ use Rattle.grid.proofs.SideLaws.{in-place}
 use Rattle.reach.specs.Chains.{cellsFrom}
 use Rattle.kinds.specs.Inside.{Limits}
 use Rattle.reach.specs.Inside.{reachesAt}
-use Rattle.growth.specs.Shift.{fitsAt}
-use Rattle.growth.proofs.ShiftChains.{fits-own, fits-float, fits-none}
+use Rattle.shift.specs.Shift.{fitsAt}
+use Rattle.shift.proofs.ShiftChains.{fits-own, fits-float, fits-none}
 use borrow.Author.Needs.{needs}
-use Rattle.growth.proofs.shift.fits.Statement.{statement}
-use Rattle.growth.proofs.shift.fits.Tie as tie
+use Rattle.shift.proofs.fits.Statement.{statement}
+use Rattle.shift.proofs.fits.Tie as tie
 
 -- some shift to a cell of the group m fits
 abbrev test : ℕ → ℕ → List ℕ → List ℕ → ℕ → List ℕ → List ℕ → List ℕ → ℕ → ℕ → ℕ → ℕ → Bool

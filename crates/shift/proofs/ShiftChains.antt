@@ -17,10 +17,10 @@ use Rattle.reach.specs.Inside.{reachesAt}
 use Rattle.reach.specs.Near.{NearFloats}
 use Rattle.kinds.proofs.Views.{any-same}
 use Rattle.reach.proofs.NearReach.{reached-is, reach-any}
-use Rattle.growth.specs.Shift.{blockIn, Gathered, BlockPlaces, fitsAt, shiftFits}
-use Rattle.growth.proofs.ChainWalks.{none-taken, some-taken}
+use Rattle.shift.specs.Shift.{blockIn, Gathered, BlockPlaces, fitsAt, shiftFits}
+use Rattle.shift.proofs.ChainWalks.{none-taken, some-taken}
 use Rattle.kinds.proofs.BlockArrays.{block-by}
-use Rattle.growth.proofs.Shifts.{gathered-places, fits-test, reach-inside, reach-tells}
+use Rattle.shift.proofs.Shifts.{gathered-places, fits-test, reach-inside, reach-tells}
 
 module _ (h w : ℕ) (limits : Limits h w) (lines : List (List ℕ)) (cells : List ℕ) {kinds owners near groups : List ℕ} {total : ℕ} (e f : ℕ)
     (held : Held (view (puzzleWith (sized h w) lines) cells) kinds owners) (floats : NearFloats (view (puzzleWith (sized h w) lines) cells) e near groups total)

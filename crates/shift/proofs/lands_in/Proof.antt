@@ -3,11 +3,11 @@ use mathlib.Core.Path.{refl, sym, _∙_}
 use mir.Syntax.{w32}
 use mir.ValLaws.{toZ-ofZ}
 use Rattle.grid.proofs.SideLaws.{area}
-use Rattle.growth.specs.Shift.{landsIn}
-use Rattle.growth.proofs.Shifts.{shifted-inside}
+use Rattle.shift.specs.Shift.{landsIn}
+use Rattle.shift.proofs.Shifts.{shifted-inside}
 use borrow.Author.Needs.{needs}
-use Rattle.growth.proofs.shift.lands_in.Statement.{statement}
-use Rattle.growth.proofs.shift.lands_in.Tie as tie
+use Rattle.shift.proofs.lands_in.Statement.{statement}
+use Rattle.shift.proofs.lands_in.Tie as tie
 
 shifted-requires : tie.Need-shifted-requires
 shifted-requires c κs = search needs

@@ -2,8 +2,8 @@ use native.Mathlib.Nat.{div-le-self, mod-le}
 use native.Mathlib.Omega.{arith}
 use mathlib.Core.Path.{refl}
 use borrow.Author.Needs.{needs}
-use Rattle.growth.proofs.shift.keep_place.Statement.{statement}
-use Rattle.growth.proofs.shift.keep_place.Tie as tie
+use Rattle.shift.proofs.keep_place.Statement.{statement}
+use Rattle.shift.proofs.keep_place.Tie as tie
 
 div-rows : tie.Need-div-rows
 div-rows c = search needs

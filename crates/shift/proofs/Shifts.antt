@@ -12,7 +12,7 @@ use lib.Dec.{eqb}
 use lib.IntN.{ℤ}
 use lib.ListN.{length, getD, set, drop, length-append, length-map, length-drop}
 use lib.Seq.{drop-cons, set-at, take-at, getD-take}
-use Rattle.grid.specs.Lists.{all, upto, range, member}
+use Rattle.grid.specs.Lists.{all, filter, upto, range, member}
 use Rattle.grid.specs.Grid.{Grid, size, row, col, cellsOf}
 use Rattle.grid.specs.Side.{sized, movedOf, placed, shiftedOf}
 use Rattle.grid.specs.declared.Step.{Step}
@@ -21,11 +21,11 @@ use Rattle.grid.specs.declared.Side.{Side}
 use Rattle.grid.specs.declared.Side.the-variants.{At, Off}
 use Rattle.grid.proofs.ListLaws.{so-false, all-mem, mem-all, mem-at, at-mem, upto-mem, mem-upto, filter-length, filter-mem, mem-filter, length-range, mem-member, member-mem}
 use Rattle.grid.proofs.GridLaws.{width-pos, in-cells}
-use Rattle.grid.proofs.SideLaws.{moved-to}
+use Rattle.grid.proofs.SideLaws.{area, moved-to}
 use Rattle.grid.proofs.ShiftLaws.{landing, landing-at, landing-any, sideIn}
 use Rattle.groups.specs.Rules.{fits}
 use Rattle.kinds.specs.Kinds.{View, inReach, reach}
-use Rattle.growth.specs.Shift.{blockIn, Gathered, BlockPlaces, Places, landsIn, allLand, fitsAt}
+use Rattle.shift.specs.Shift.{blockIn, Gathered, BlockPlaces, Places, landsIn, allLand, fitsAt}
 
 -- ---- the cells of a block in two arrays
 
@@ -177,3 +177,11 @@ shifted-inside h w y x dy dx d e = go (movedOf y dy h) (movedOf x dx w) refl ref
         rw k (digits-lt (moved-to y dy h r p .0) (moved-to x dx w c q .0))
     go (To r) Outside p q z = let n : _≡_ {A = ℕ} 0 1 = cc in absurd (omega arith)
     go Outside t p q z = let n : _≡_ {A = ℕ} 0 1 = cc in absurd (omega arith)
+
+-- the cells of a block that were gathered lie on the grid
+pub gathered-inside : (h w : ℕ) (kinds owners : List ℕ) (f : ℕ) {r c r′ c′ : List ℕ} {k : ℕ} → h ≤ 32 → w ≤ 32
+    → Gathered w (blockIn kinds owners (h * w) f) r c r′ c′ k → Places h w r′ c′ k
+unfolding blockIn
+gathered-inside h w kinds owners f p q s =
+    block-places h w p q (omega (arith, s .many, in-few kinds owners f (h * w), area h w p q))
+    (λ i m. upto-mem (h * w) (filter-mem (inIt kinds owners f) (upto (h * w)) m .0)) (gathered-places s)

@@ -6,12 +6,12 @@ use lib.Dec.{eqb}
 use lib.ListN.{getD}
 use Rattle.grid.specs.Lists.{filter}
 use Rattle.reach.specs.Chains.{Chains}
-use Rattle.growth.specs.Shift.{Gathered}
-use Rattle.growth.proofs.ChainWalks.{Walk, walk-start, walk-few, walk-high, walk-more, walk-less, walk-end, blockOf, block-more, block-few, block-all}
-use Rattle.growth.proofs.Shifts.{gathered-none, gathered-more}
+use Rattle.shift.specs.Shift.{Gathered}
+use Rattle.shift.proofs.ChainWalks.{Walk, walk-start, walk-few, walk-high, walk-more, walk-less, walk-end, blockOf, block-more, block-few, block-all}
+use Rattle.shift.proofs.Shifts.{gathered-none, gathered-more}
 use borrow.Author.Needs.{needs}
-use Rattle.growth.proofs.shift.gather_block.Statement.{statement}
-use Rattle.growth.proofs.shift.gather_block.Tie as tie
+use Rattle.shift.proofs.gather_block.Statement.{statement}
+use Rattle.shift.proofs.gather_block.Tie as tie
 
 -- the cells of the block that were passed are gathered
 record Amid (kinds owners : List ℕ) (n w f : ℕ) (rows₀ columns₀ rows columns : List ℕ) (count i : ℕ) : Type 0 where

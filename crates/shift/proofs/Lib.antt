@@ -1,0 +1,3 @@
+pub mod ChainWalks
+pub mod Shifts
+pub mod ShiftChains
