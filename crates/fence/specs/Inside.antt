@@ -8,7 +8,7 @@ use lib.Dec.{eqb}
 use lib.ListN.{length, getD, take, drop}
 use Rattle.grid.specs.Lists.{upto, any, filter}
 use Rattle.grid.specs.Grid.{Grid, neighbours}
-use Rattle.kinds.specs.Kinds.{beside, View, reach, fence, word}
+use Rattle.kinds.specs.Kinds.{View, fence, word}
 
 -- ---- the ordered part
 

@@ -6,7 +6,7 @@ use mathlib.Core.List.{List, [], _∷_, _++_}
 use lib.Dec.{ltb}
 use lib.ListN.{length, getD}
 use Rattle.grid.specs.Lists.{any, filter, flatMap, last, init, tail}
-use Rattle.board.specs.Board.{Literal, empty, square, undecided}
+use Rattle.board.specs.Board.{Literal, empty, undecided}
 use Rattle.groups.specs.Arrows.{Pair, pairs}
 use Rattle.groups.specs.Rules.{fits}
 use Rattle.kinds.specs.Kinds.{View, block, reach, fence}

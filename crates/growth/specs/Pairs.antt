@@ -9,7 +9,7 @@ use lib.Seq.{slice}
 use Rattle.grid.specs.Side.{sized}
 use Rattle.board.specs.Board.{Literal, square}
 use Rattle.groups.specs.Arrows.{onArrow, Pair, CellArray, linesOf}
-use Rattle.kinds.specs.Kinds.{View, view, block, reach, fence, reachMask}
+use Rattle.kinds.specs.Kinds.{View, view, block, fence, reachMask}
 use Rattle.literals.specs.Literals.{Found, each}
 use Rattle.growth.specs.Growth.{reason3At, reason4At}
 use Rattle.reach.specs.Chains.{Chains}

@@ -5,7 +5,7 @@ ghost use mathlib.Core.Path.{_≡_};
 ghost use Prim.Native.Nat.{_+_, _<_, _≤_};
 ghost use lib.ListN.{length, getD};
 ghost use lib.Seq.{slice};
-ghost use mathlib.Core.Bool.{false, _&&_, not};
+ghost use mathlib.Core.Bool.{false, _&&_};
 ghost use lib.Dec.{eqb};
 ghost use Rattle.grid.specs.Lists.{filter};
 ghost use Rattle.grid.specs.Grid.{size};

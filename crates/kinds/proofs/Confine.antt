@@ -3,7 +3,7 @@
 use Prim.Native.Nat.{ℕ}
 use mathlib.Core.Path.{_≡_, subst}
 use mathlib.Core.Logic.{_⊎_, inl, inr}
-use Rattle.kinds.specs.Meaning.{PartialBoard, Block, InArrow, Touch, Foreign, Neighbour, Floating, Reach}
+use Rattle.kinds.specs.Meaning.{PartialBoard, Block, InArrow, Touch, Foreign, Floating, Reach}
 use Rattle.grid.specs.Link.{Linked, here, step, linked-end, linked-trans, linked-sym, linked-inside, linked-map}
 
 module _ (B : PartialBoard) where

@@ -2,7 +2,7 @@
 -- Assumes nothing.
 use Prim.Native.Nat.{ℕ, _+_, _-_, _≤_, _<_}
 use mathlib.Core.Path.{_≡_}
-use mathlib.Core.Bool.{Bool, true, false, So, cond, _&&_, _||_, not}
+use mathlib.Core.Bool.{Bool, true, false, So, cond, _&&_, _||_}
 use mathlib.Core.List.{List, [], _∷_, map, List·Memᴰ}
 use lib.Dec.{eqb, ltb}
 use lib.ListN.{length, getD}
@@ -12,7 +12,7 @@ use Rattle.grid.specs.Side.{InGrid}
 use Rattle.record.specs.Record.{Puzzle}
 use Rattle.board.specs.Board.{square}
 use Rattle.groups.specs.Groups.{Joined, labels, noGroup, labelArray, maskOf}
-use Rattle.kinds.specs.Kinds.{Kind, vacant, barrier, floating, inBlock, beside, kindBeside, arrowBlock, View, reach, fence, kindCode, ownerBy, kindArray, ownerArray}
+use Rattle.kinds.specs.Kinds.{Kind, vacant, barrier, floating, inBlock, beside, kindBeside, arrowBlock, View, kindCode, ownerBy, kindArray, ownerArray}
 use Rattle.kinds.specs.declared.Owner.{Owner}
 use Rattle.kinds.specs.declared.Owner.the-variants.{Nobody, One, Many}
 use Rattle.kinds.specs.declared.DetailedCellKind.{DetailedCellKind}

@@ -5,8 +5,8 @@ use native.Mathlib.Omega.{arith}
 use native.Mathlib.Numerals.{add-one}
 use mathlib.Core.Path.{_≡_, refl, sym, ap, _∙_}
 use mathlib.Core.List.{List, [], _∷_, _++_, map, append-assoc, map-append}
-use lib.ListN.{length, getD, set, take, drop, length-append, length-map, length-drop, take-append-drop}
-use lib.Seq.{drop-cons, drop-drop, set-at, take-at, drop-at}
+use lib.ListN.{length, getD, set, drop, length-append, length-map, length-drop}
+use lib.Seq.{drop-cons, set-at}
 use Rattle.board.specs.Board.{Literal}
 use Rattle.kinds.specs.Kinds.{word}
 use Rattle.literals.specs.Buffer.{Wrote}

@@ -6,9 +6,9 @@ use native.Mathlib.Numerals.{add-one}
 use native.Mathlib.Decide.{decLe}
 use mathlib.Core.Path.{_≡_, refl, sym, ap, _∙_}
 use mathlib.Core.Bool.{Bool, true, false, cond}
-use mathlib.Core.List.{List, [], _∷_, _++_, map, map-append, append-nil}
-use lib.ListN.{length, getD, set, take, drop, length-map, length-take, length-drop, drop-of-length-le}
-use lib.Seq.{slice, slice-empty, take-suc, drop-append-le, length-take-le, length-slice}
+use mathlib.Core.List.{List, [], _∷_, _++_, map-append, append-nil}
+use lib.ListN.{length, getD, set, take, length-map, length-take, length-drop, drop-of-length-le}
+use lib.Seq.{slice, take-suc, drop-append-le, length-take-le}
 use Rattle.grid.specs.Lists.{range, upto, filter}
 use Rattle.grid.proofs.ListLaws.{filter-length, length-range}
 use Rattle.board.specs.Board.{Literal}

@@ -9,7 +9,7 @@ use lib.ListN.{length, getD, set}
 use Rattle.grid.specs.Lists.{upto, any, filter, arrayOf}
 use Rattle.grid.specs.Grid.{Grid, neighbours}
 use Rattle.groups.specs.Groups.{maskOf}
-use Rattle.kinds.specs.Kinds.{floating, View, floatNear, reach, reachMask}
+use Rattle.kinds.specs.Kinds.{View, floatNear, reach, reachMask}
 
 -- ---- reach
 

@@ -4,12 +4,11 @@ use Prim.Native.Nat.{ℕ, zero, suc, _+_, _-_, _*_, _≤_, _<_}
 use native.Mathlib.Omega.{arith}
 use native.Mathlib.Decide.{decLt}
 use native.Mathlib.Numerals.{add-one}
-use mathlib.Core.Path.{_≡_, refl, sym, ap, _∙_, subst}
-use mathlib.Core.Bool.{Bool, true, false, _&&_}
+use mathlib.Core.Path.{_≡_, refl, ap, _∙_, subst}
+use mathlib.Core.Bool.{true, false, _&&_}
 use mathlib.Core.List.{List, [], _∷_, _++_, List·Memᴰ}
 use lib.Dec.{leb, ltb}
 use lib.ListN.{length, getD, take, length-append, List·getD-eq-default}
-use lib.Seq.{getD-take, length-take-le}
 use borrow.Author.Tests.{ltb-true, leb-true, lt-ltb, le-ltb}
 use Rattle.grid.specs.Lists.{last, flatMap, arrayOf}
 use Rattle.grid.specs.Grid.{size}
@@ -18,7 +17,7 @@ use Rattle.grid.proofs.ListLaws.{and-true, at-mem, flatMap-mem}
 use Rattle.grid.proofs.ArrayLaws.{array-length, array-take, array-in, array-out}
 use Rattle.record.specs.Record.{Puzzle}
 use Rattle.record.specs.Valid.{Valid}
-use Rattle.record.specs.Problem.{arrowCells, endsFrom, problemOf, puzzleOf, gridOf, arrowsFrom}
+use Rattle.record.specs.Problem.{arrowCells, endsFrom, problemOf, puzzleOf, gridOf}
 use Rattle.record.specs.declared.Problem.{Problem}
 use Rattle.record.proofs.FreshLaws.{arrows-size, one-length, arrows-length}
 use Rattle.record.proofs.ProblemLaws.{length-ends, problem-puzzle}
@@ -26,7 +25,7 @@ use Rattle.form.specs.Form.{rises, ended, behind}
 use Rattle.board.specs.Form.{wellFormed}
 use Rattle.board.specs.declared.Board.{Board}
 use Rattle.board.proofs.BoardForm.{whole-is}
-use Rattle.form.proofs.ProblemForm.{Formed, valid-formed, formed-valid, formed-again, size-most, rises-last}
+use Rattle.form.proofs.ProblemForm.{valid-formed, formed-valid, formed-again, size-most, rises-last}
 use Rattle.kinds.specs.Kinds.{arrowBlock, blocksBeside, kindAt, kindsOf, view, viewWith}
 use Rattle.kinds.specs.Inside.{puzzleWith}
 use Rattle.literals.specs.declared.Finding.{Finding}
@@ -34,7 +33,7 @@ use Rattle.literals.specs.declared.Finding.the-variants.{Refused}
 use Rattle.literals.specs.Literals.{Found}
 use Rattle.units.specs.Units.{reason1At, reason1, reason2}
 use Rattle.reasons.specs.Reasons.{findReason}
-use Rattle.groups.specs.Arrows.{CellArray, linesOf}
+use Rattle.groups.specs.Arrows.{linesOf}
 use Rattle.reasons.specs.Arrays.{ArrowArrays}
 use Rattle.literals.specs.Buffer.{FoundAs, findingBy, bufferBy}
 use Rattle.reasons.specs.Find.{cellsOn, reasonOn, enough, findRefusal, findOf, bufferAfter}

@@ -5,7 +5,6 @@ use native.Mathlib.Omega.{arith}
 use mathlib.Core.Bool.{true, false}
 use mathlib.Core.Path.{_≡_, refl, subst, _∙_}
 use mathlib.Core.List.{List, [], _∷_, _++_, List·Memᴰ}
-use mathlib.Core.Option.{none}
 use lib.ListN.{length, getD, take}
 use lib.Seq.{take-suc}
 use Rattle.grid.specs.Lists.{last}

@@ -1,40 +1,37 @@
 -- Demand 3 holds: the boards that the contracts' definitions leave are those of the plain machine, and find's answer on them is its reason.
 -- Assumes nothing.
-use Prim.Native.Nat.{ℕ, suc, _+_, _*_, _/_, _%_, _≤_, _<_}
+use Prim.Native.Nat.{ℕ, _+_, _*_, _/_, _%_, _≤_, _<_}
 use native.Mathlib.Omega.{arith}
 use native.Mathlib.Decide.{decLe}
 use mathlib.Core.Logic.{_↔_}
 use mathlib.Core.Path.{_≡_, refl, sym, ap, _∙_}
-use mathlib.Core.Bool.{true, false, cond}
+use mathlib.Core.Bool.{true}
 use mathlib.Core.List.{List, [], _∷_, _++_, map, List·Memᴰ, List·Memᴰ·head, List·Memᴰ·tail}
 use mathlib.Core.Option.{none, some}
-use lib.Dec.{ltb}
-use lib.ListN.{length, take, drop, length-map}
+use lib.ListN.{length, drop, length-map}
 use lib.Seq.{take-at}
 use borrow.Author.Tests.{le-ltb, lt-ltb}
-use Rattle.grid.specs.Grid.{size}
 use Rattle.grid.proofs.ArrayLaws.{array-take}
-use Rattle.record.specs.Record.{Puzzle, Outcome, ok, refused, readRecord}
-use Rattle.record.specs.Problem.{gridOf, puzzleOf, problemOf}
+use Rattle.record.specs.Record.{Puzzle, ok, refused, readRecord}
+use Rattle.record.specs.Problem.{gridOf, problemOf}
 use Rattle.record.specs.Valid.{Valid}
 use Rattle.record.proofs.RecordLaws.{record-valid}
 use Rattle.record.proofs.ProblemLaws.{problem-puzzle}
 use Rattle.board.specs.Board.{Literal, Call, find, refusal, Full, cellsAfter}
 use Rattle.groups.specs.Rules.{BlockRules}
-use Rattle.board.specs.Kept.{boardOf, openOf}
-use Rattle.board.specs.Calls.{leftAll, standing}
+use Rattle.board.specs.Kept.{boardOf}
+use Rattle.board.specs.Calls.{standing}
 use Rattle.board.specs.Form.{wellFormed}
-use Rattle.board.specs.declared.Board.{Board}
 use Rattle.board.proofs.Standing.{Standing, calls-standing, cells-valid, standing-low}
 use Rattle.form.proofs.ProblemForm.{size-most}
 use Rattle.board.proofs.BoardForm.{is-whole, standing-whole}
 use Rattle.board.proofs.CallLaws.{opened-left, after-calls}
 use Rattle.kinds.specs.Kinds.{word}
 use Rattle.literals.specs.Literals.{Found}
-use Rattle.reasons.specs.Reasons.{findReason, findOn}
+use Rattle.reasons.specs.Reasons.{findOn}
 use Rattle.reasons.specs.Find.{cellsOn, reasonOn, enough, findRefusal, findOf, bufferAfter, literalOf, told, answerOn}
 use Rattle.literals.specs.Buffer.{findingBy, bufferBy}
-use Rattle.reasons.specs.Demand3.{boardAfter, Demand3, Demand}
+use Rattle.reasons.specs.Demand3.{boardAfter, Demand}
 use Rattle.reasons.proofs.OnMachine.{OnMachine, on-machine}
 
 -- a literal is read back from its number

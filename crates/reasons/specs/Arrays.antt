@@ -6,7 +6,6 @@ use mathlib.Core.List.{List, List·Memᴰ}
 use lib.ListN.{length, getD, take}
 use Rattle.grid.specs.Side.{sized}
 use Rattle.record.specs.Problem.{arrowCells}
-use Rattle.literals.specs.Literals.{each}
 use Rattle.kinds.specs.Inside.{puzzleWith, Given}
 use Rattle.groups.specs.Arrows.{CellArray, linesOf}
 

@@ -12,7 +12,7 @@ use lib.Dec.{eqb}
 use lib.IntN.{ℤ}
 use lib.ListN.{length, getD, set, drop, length-append, length-map, length-drop}
 use lib.Seq.{drop-cons, set-at, take-at, getD-take}
-use Rattle.grid.specs.Lists.{all, filter, upto, range, member}
+use Rattle.grid.specs.Lists.{all, upto, range, member}
 use Rattle.grid.specs.Grid.{Grid, size, row, col, cellsOf}
 use Rattle.grid.specs.Side.{sized, movedOf, placed, shiftedOf}
 use Rattle.grid.specs.declared.Step.{Step}

@@ -7,7 +7,7 @@ use native.Mathlib.Numerals.{add-one}
 use mathlib.Core.Logic.{_⊎_, inl, inr}
 use mathlib.Core.Path.{_≡_, refl, sym, ap, _∙_, subst}
 use mathlib.Core.Bool.{Bool, true, false, So, cond, _||_}
-use mathlib.Core.List.{List, [], _∷_, _++_, map, append-nil, List·Memᴰ, List·Memᴰ·head, List·Memᴰ·tail, List·Memᴰ·not-nil}
+use mathlib.Core.List.{List, [], _∷_, _++_, append-nil, List·Memᴰ, List·Memᴰ·head, List·Memᴰ·tail, List·Memᴰ·not-nil}
 use lib.Dec.{eqb}
 use lib.ListN.{length, getD, set, take, drop, replicate, length-append, length-replicate, length-drop, length-set, length-take, take-append-drop, drop-of-length-le, List·getD-eq-default, List·getD-map, List·getD-append, getD-replicate}
 use lib.Seq.{take-all, take-suc, drop-cons, take-append-le, drop-append-le, getD-take, getD-set-same, getD-set-other, set-at, take-suc-set}

@@ -11,7 +11,7 @@ use lib.Dec.{eqb}
 use lib.ListN.{length, length-append}
 use lib.Seq.{append-snoc}
 use borrow.Author.Tests.{eqb-true, eq-eqb}
-use Rattle.grid.specs.Lists.{Distinct, filter, any}
+use Rattle.grid.specs.Lists.{Distinct, filter}
 use Rattle.grid.proofs.ListLaws.{filter-mem, mem-filter, dec-so, so-false, and-true, true-and, not-so, so-not, any-mem, mem-any, distinct-filter}
 use Rattle.grid.specs.Grid.{Grid, size, neighbours, Adjacent}
 use Rattle.grid.specs.Link.{Linked, here, step, linked-start, linked-trans, linked-inside}

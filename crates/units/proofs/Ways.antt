@@ -1,10 +1,10 @@
 -- The path of reason 2 written cell by cell.
 -- Assumes nothing.
-use Prim.Native.Nat.{ℕ, zero, suc, _+_, _-_, _≤_, _<_}
+use Prim.Native.Nat.{ℕ, suc, _+_, _-_, _≤_, _<_}
 use native.Mathlib.Omega.{arith}
-use mathlib.Core.Path.{_≡_, refl, sym, ap, _∙_, subst}
+use mathlib.Core.Path.{_≡_, refl, sym, _∙_, subst}
 use mathlib.Core.Bool.{So}
-use mathlib.Core.List.{List, [], _∷_, _++_, append-nil, append-assoc, List·Memᴰ, List·Memᴰ·not-nil}
+use mathlib.Core.List.{List, [], _∷_, _++_, append-nil, append-assoc, List·Memᴰ·not-nil}
 use lib.ListN.{length, getD, set, take}
 use Rattle.grid.specs.Grid.{Grid, size}
 use Rattle.board.specs.Board.{square}
@@ -17,7 +17,7 @@ use Rattle.literals.specs.Buffer.{Wrote}
 use Rattle.units.specs.Search.{Listing}
 use Rattle.literals.proofs.BufferLaws.{wrote-none, wrote-more}
 use Rattle.units.specs.BreadthFirst.{Listed}
-use Rattle.units.proofs.Walk.{Early, Tree, tree-square, tree-length, whole-tree, whole-listed, parent-early, listed-left}
+use Rattle.units.proofs.Walk.{Early, tree-square, tree-length, whole-tree, whole-listed, parent-early, listed-left}
 use Rattle.units.proofs.Breadth.{square-below, mark-parent, path-end, path-on}
 
 module _ (g : Grid) (cells : List ℕ) (b : ℕ) where

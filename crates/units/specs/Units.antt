@@ -11,7 +11,6 @@ use Rattle.record.specs.Record.{Puzzle}
 use Rattle.board.specs.Board.{Literal, empty, square, filled}
 use Rattle.groups.specs.Groups.{labels, group, names}
 use Rattle.groups.specs.Arrows.{onArrow}
-use Rattle.kinds.specs.Kinds.{block}
 use Rattle.literals.specs.Literals.{Found, given, firstOf, each}
 
 -- an entry of a breadth-first list: a cell and its parent

@@ -1,12 +1,10 @@
 use Rattle.grid.proofs.SideLaws.{area}
-use mathlib.Core.Path.{_≡_, refl, sym, ap, _∙_}
-use mathlib.Core.List.{List}
+use mathlib.Core.Path.{_≡_, _∙_}
 use Prim.Native.Nat.{ℕ, _+_, _*_, _-_, _≤_, _<_}
 use native.Mathlib.Omega.{arith}
-use lib.ListN.{length, getD}
 use borrow.Author.Needs.{needs}
 use Rattle.grid.specs.Grid.{size}
-use Rattle.grid.specs.Side.{sized, InGrid}
+use Rattle.grid.specs.Side.{sized}
 use Rattle.grid.proofs.Turns.{in-size, size-small}
 use Rattle.units.proofs.Breadth.{Run, run-first, run-cell, run-below, run-more, run-done, fill-length, fill-at}
 use Rattle.units.proofs.breadth_first.Statement.{statement}

@@ -2,7 +2,7 @@ use mathlib.Core.Path.{_≡_, refl}
 use mathlib.Core.List.{_++_}
 use Prim.Native.Nat.{ℕ, _+_, _-_, _≤_, _<_}
 use native.Mathlib.Omega.{arith}
-use lib.ListN.{length, drop, replicate}
+use lib.ListN.{drop, replicate}
 use borrow.Author.Needs.{needs}
 use Rattle.units.proofs.Breadth.{fill-more}
 use Rattle.units.proofs.clear.Statement.{statement}

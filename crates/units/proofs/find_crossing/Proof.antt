@@ -1,8 +1,7 @@
-use mathlib.Core.Path.{_≡_, refl, sym, ap, _∙_, subst}
+use mathlib.Core.Path.{_≡_, sym, _∙_, subst}
 use Prim.Native.Nat.{_<_}
 use native.Mathlib.Omega.{arith}
 use Rattle.units.specs.Arrays.{Crossing}
-use Rattle.units.specs.declared.Ends.{Ends}
 use Rattle.units.specs.declared.Name.{Name}
 use Rattle.units.proofs.Crossings.{endsAt, first-below, crossing-is}
 use borrow.Author.Needs.{needs}

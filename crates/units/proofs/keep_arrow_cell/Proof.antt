@@ -1,6 +1,5 @@
-use mathlib.Core.Path.{_≡_, sym, _∙_}
+use mathlib.Core.Path.{_≡_, _∙_}
 use native.Mathlib.Omega.{arith}
-use lib.ListN.{getD}
 use Rattle.units.proofs.Crossings.{kept-plain, kept-out, kept-first, kept-second, kept-later}
 use borrow.Author.Needs.{needs}
 use Rattle.units.proofs.keep_arrow_cell.Statement.{statement}

@@ -1,15 +1,12 @@
 use Rattle.grid.proofs.Turns.{Turn, turn, turn-count, in-size, size-small}
-use Rattle.grid.specs.declared.Around.{Around}
-use mathlib.Core.Path.{_≡_, refl, sym, ap, _∙_, subst}
+use mathlib.Core.Path.{_≡_, sym, _∙_, subst}
 use mathlib.Core.List.{List, _++_}
 use Prim.Native.Nat.{ℕ, _+_, _*_, _-_, _≤_, _<_}
 use native.Mathlib.Omega.{arith}
 use lib.ListN.{length, getD, take}
-use borrow.Author.Needs.{needs}
 use Rattle.grid.specs.Grid.{Grid, size, neighbours}
 use Rattle.grid.specs.Side.{sized, aroundOf}
 use Rattle.grid.proofs.GridLaws.{apart}
-use Rattle.grid.proofs.AroundLaws.{around-count, around-at, around-in, around-few}
 use Rattle.units.specs.Units.{Entry}
 use Rattle.units.specs.Search.{Listing, Room, Offered}
 use Rattle.units.proofs.Listings.{offered-room, offered-more, offered-take, news, neighbour-offered, news-none, news-all}

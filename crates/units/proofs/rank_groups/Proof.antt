@@ -1,7 +1,6 @@
 use mathlib.Core.Path.{_≡_, subst, _∙_}
 use Prim.Native.Nat.{ℕ, _+_, _-_, _≤_, _<_}
 use native.Mathlib.Omega.{arith}
-use lib.ListN.{length, getD}
 use borrow.Author.Needs.{needs}
 use Rattle.units.specs.Arrays.{Ranked}
 use Rattle.units.proofs.Breadth.{fill-length, fill-at}

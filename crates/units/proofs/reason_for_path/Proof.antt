@@ -1,17 +1,16 @@
-use mathlib.Core.Path.{_≡_, refl, sym, ap, _∙_}
+use mathlib.Core.Path.{_≡_, sym, _∙_}
 use Prim.Native.Nat.{ℕ, _+_, _*_, _-_, _≤_, _<_}
 use native.Mathlib.Omega.{arith}
-use lib.ListN.{length, getD, take, length-set}
+use lib.ListN.{length, length-set}
 use mathlib.Core.List.{List}
 use lib.Seq.{getD-take}
-use borrow.Author.Needs.{needs}
 use borrow.Author.Tests.{eqb-true}
 use Rattle.grid.specs.Grid.{size}
-use Rattle.grid.specs.Side.{sized, InGrid}
+use Rattle.grid.specs.Side.{sized}
 use Rattle.grid.specs.Link.{linked-start}
 use Rattle.board.specs.Board.{square}
 use Rattle.literals.proofs.BufferLaws.{wrote-length}
-use Rattle.grid.proofs.Turns.{in-size, size-small}
+use Rattle.grid.proofs.Turns.{size-small}
 use Rattle.units.proofs.Breadth.{square-below}
 use Rattle.units.proofs.Ways.{Way, way-first, way-below, way-cell, way-mark, way-more, way-done}
 use Rattle.units.proofs.reason_for_path.Statement.{statement}

@@ -1,11 +1,10 @@
-use mathlib.Core.Path.{_≡_, refl, sym, ap, _∙_}
+use mathlib.Core.Path.{_≡_, _∙_}
 use mathlib.Core.Bool.{Bool, _&&_}
 use mathlib.Core.List.{List}
 use Prim.Native.Nat.{ℕ, _+_, _*_, _-_, _≤_, _<_}
 use native.Mathlib.Omega.{arith}
 use lib.Dec.{eqb}
-use lib.ListN.{length, getD, take, length-set}
-use borrow.Author.Needs.{needs}
+use lib.ListN.{length, getD, length-set}
 use Rattle.grid.specs.Lists.{any, filter, upto}
 use Rattle.grid.specs.Grid.{Grid, size, neighbours}
 use Rattle.grid.specs.Side.{sized}

@@ -1,8 +1,8 @@
-use mathlib.Core.Path.{_≡_, refl, sym, ap, _∙_}
+use mathlib.Core.Path.{_≡_, refl, _∙_}
 use mathlib.Core.List.{_++_}
 use Prim.Native.Nat.{ℕ, _+_, _-_, _≤_, _<_}
 use native.Mathlib.Omega.{arith}
-use lib.ListN.{length, drop, replicate}
+use lib.ListN.{drop, replicate}
 use borrow.Author.Needs.{needs}
 use Rattle.units.proofs.Breadth.{fill-more}
 use Rattle.units.proofs.reset.Statement.{statement}
