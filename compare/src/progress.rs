@@ -1,5 +1,6 @@
 //! A line now and then, and facts that reproduce a difference.
 
+use crate::random::Random;
 use crate::reading::record::{encode, Puzzle};
 use crate::reading::Literal;
 use std::time::{Duration, Instant};
@@ -29,6 +30,22 @@ impl Progress {
             self.last_line = Instant::now();
         }
     }
+}
+
+/// Compares so many times, each time on what comes next from the random numbers of the seed.
+pub fn repeatedly(
+    name: &'static str,
+    seed: u64,
+    count: usize,
+    mut compare: impl FnMut(&mut Random) -> Outcome,
+) -> Outcome {
+    let mut random = Random::new(seed);
+    let mut progress = Progress::new(name, count);
+    for done in 0..count {
+        progress.at(done);
+        compare(&mut random)?;
+    }
+    Ok(())
 }
 
 pub fn hexadecimal(bytes: &[u8]) -> String {

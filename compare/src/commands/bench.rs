@@ -10,7 +10,7 @@ use crate::processor::{processor_time, Whose};
 use crate::progress::Outcome;
 use crate::quota::boards_of_each_kind;
 use crate::random::Random;
-use crate::reading::host::two_bytes;
+use crate::reading::host::literal_bytes;
 use crate::reading::reasons::most_literals;
 use crate::reading::record::encode;
 use crate::reading::Literal;
@@ -78,7 +78,7 @@ fn prepared((board, _): &Known) -> Prepared {
     Prepared {
         problem: problem(puzzle),
         record: encode(puzzle),
-        decision_bytes: decisions.iter().flat_map(|&l| two_bytes(l)).collect(),
+        decision_bytes: literal_bytes(decisions),
         output: vec![0; 2 * most_literals(puzzle.size)],
         decisions: decisions.clone(),
     }

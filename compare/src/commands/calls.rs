@@ -4,8 +4,7 @@ use crate::answers::{by_original, by_reading, Answer};
 use crate::generate::boards::{any_board, Decided};
 use crate::generate::calls::{calls, Call};
 use crate::original::Original;
-use crate::progress::{facts, Outcome, Progress};
-use crate::random::Random;
+use crate::progress::{facts, repeatedly, Outcome};
 use crate::reading::board::Board;
 use crate::reading::record::Puzzle;
 use crate::shrink::shrunk;
@@ -20,16 +19,13 @@ struct Counts {
 }
 
 pub fn run(seed: u64, count: usize) -> Outcome {
-    let mut random = Random::new(seed);
-    let mut progress = Progress::new("calls", count);
     let mut counts = Counts::default();
-    for done in 0..count {
-        progress.at(done);
-        let goal = any_board(&mut random);
+    repeatedly("calls", seed, count, |random| {
+        let goal = any_board(random);
         let wanted = random.between(1, 20 + 2 * goal.decisions.len().min(100));
-        let calls = calls(&mut random, &goal, wanted, true);
-        compare(&goal, &calls, &mut counts)?;
-    }
+        let calls = calls(random, &goal, wanted, true);
+        compare(&goal, &calls, &mut counts)
+    })?;
     println!(
         "calls: {count} lists of {} calls, {} answers compared with the original, {} reasons; \
          refused 7 to 11: {:?}",

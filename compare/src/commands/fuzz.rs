@@ -12,7 +12,7 @@ use crate::generate::puzzles::{any_size, size_up_to};
 use crate::host::{HostCall, HOST_CALL, MISSING};
 use crate::progress::{Outcome, Progress};
 use crate::random::Random;
-use crate::reading::host::{opened_and_found, two_bytes};
+use crate::reading::host::{literal_bytes, opened_and_found};
 use crate::reading::reasons::Reason;
 use crate::reading::Refusal;
 use crate::tally::Tally;
@@ -81,8 +81,8 @@ fn check(
         Err(refusal) => (-i32::from(refusal.number()), Vec::new()),
         Ok(None) => (0, Vec::new()),
         Ok(Some(reason)) => {
-            let literals = reason.literals.iter().flat_map(|&l| two_bytes(l));
-            (reason.literals.len() as i32, literals.collect())
+            let literals = literal_bytes(&reason.literals);
+            (reason.literals.len() as i32, literals)
         }
     };
     let guard = random.pick(&[0, 0, 1, 64]);

@@ -2,8 +2,7 @@
 
 use crate::generate::boards::{any_board, Decided};
 use crate::original::Original;
-use crate::progress::{facts, Outcome, Progress};
-use crate::random::Random;
+use crate::progress::{facts, repeatedly, Outcome};
 use crate::reading::board::Cell;
 use crate::reading::groups::{blocks, potential_groups, Groups};
 use crate::reading::kinds::Kinds;
@@ -20,13 +19,10 @@ struct Counts {
 }
 
 pub fn run(seed: u64, count: usize) -> Outcome {
-    let mut random = Random::new(seed);
-    let mut progress = Progress::new("groups", count);
     let mut counts = Counts::default();
-    for done in 0..count {
-        progress.at(done);
-        compare(&any_board(&mut random), &mut counts)?;
-    }
+    repeatedly("groups", seed, count, |random| {
+        compare(&any_board(random), &mut counts)
+    })?;
     println!(
         "groups: {} boards with {} blocks and potential groups; kinds of {} boards, \
          reach and fence of {} arrow blocks",

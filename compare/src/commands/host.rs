@@ -3,7 +3,7 @@
 use crate::answers::{host_facts, of_host};
 use crate::generate::hosts::{any_host_input, HostInput};
 use crate::host::{HostCall, HOST_CALL, MISSING};
-use crate::progress::{Outcome, Progress};
+use crate::progress::{repeatedly, Outcome};
 use crate::random::Random;
 use crate::shrink::shrunk;
 
@@ -20,18 +20,15 @@ struct Counts {
 
 pub fn run(seed: u64, count: usize) -> Outcome {
     let host_call = HOST_CALL.ok_or(MISSING)?;
-    let mut random = Random::new(seed);
-    let mut progress = Progress::new("host", count);
     let mut counts = Counts::default();
-    for done in 0..count {
-        progress.at(done);
-        let input = any_host_input(&mut random);
-        match compare(host_call, &input)? {
+    repeatedly("host", seed, count, |random| {
+        match compare(host_call, &any_host_input(random))? {
             0 => counts.none += 1,
             number if number > 0 => counts.reasons += 1,
             number => counts.refused[-number as usize] += 1,
         }
-    }
+        Ok(())
+    })?;
     println!(
         "host: {count} calls, {} none, {} reasons; refused 1 to 12: {:?}",
         counts.none,

@@ -4,7 +4,7 @@ use crate::answers::of_host;
 use crate::generate::hosts::{any_host_input, HostInput};
 use crate::lists::inputs::fixed_inputs;
 use crate::original::AT_HAND;
-use crate::progress::{hexadecimal, Outcome, Progress};
+use crate::progress::{hexadecimal, repeatedly, Outcome};
 use crate::random::Random;
 use crate::reading::program::reason;
 use std::io::Write;
@@ -29,13 +29,10 @@ pub fn run(seed: u64, count: usize, program: &str) -> Outcome {
     println!("program: fixed inputs, {}", seen.line());
 
     let mut seen = Seen::default();
-    let mut random = Random::new(seed);
-    let mut progress = Progress::new("program", count);
-    for done in 0..count {
-        progress.at(done);
-        let input = any_input(&mut random);
-        seen.compare(program, &input, input.len())?;
-    }
+    repeatedly("program", seed, count, |random| {
+        let input = any_input(random);
+        seen.compare(program, &input, input.len())
+    })?;
     println!("program: {count} random inputs, {}", seen.line());
     Ok(())
 }

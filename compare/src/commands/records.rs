@@ -4,7 +4,7 @@
 use crate::generate::puzzles::any_puzzle;
 use crate::generate::records::{cut, damaged, zeros, Damaged};
 use crate::original::{Original, AT_HAND};
-use crate::progress::{hexadecimal, Outcome, Progress};
+use crate::progress::{hexadecimal, repeatedly, Outcome};
 use crate::random::Random;
 use crate::reading::record::{decode, encode, Puzzle};
 use crate::reading::Refusal;
@@ -20,20 +20,17 @@ struct Counts {
 }
 
 pub fn run(seed: u64, count: usize) -> Outcome {
-    let mut random = Random::new(seed);
-    let mut progress = Progress::new("records", count);
     let mut counts = Counts::default();
-    for done in 0..count {
-        progress.at(done);
-        let puzzle = any_puzzle(&mut random);
+    repeatedly("records", seed, count, |random| {
+        let puzzle = any_puzzle(random);
         good(&puzzle, &mut counts)?;
-        check(&damaged(&mut random, &puzzle), &mut counts)?;
+        check(&damaged(random, &puzzle), &mut counts)?;
         let record = encode(&puzzle);
         if record.len() < SMALL {
             every_small_damage(&record, &mut counts)?;
         }
-        overlapping_arrows(&mut random, puzzle, &mut counts)?;
-    }
+        overlapping_arrows(random, puzzle, &mut counts)
+    })?;
     for length in [0, 1, 2, 3, 4, 2_819, 2_820, 65_535, 65_536, 1_000_000] {
         check(&zeros(length), &mut counts)?;
     }

@@ -5,7 +5,7 @@ use super::finds::compare;
 use crate::generate::boards::{board_of_puzzle, Decided};
 use crate::generate::puzzles::{puzzle_of_size, size_up_to};
 use crate::original::AT_HAND;
-use crate::progress::{facts, Outcome, Progress};
+use crate::progress::{facts, repeatedly, Outcome};
 use crate::random::Random;
 use crate::reading::board::{Board, Cell};
 use crate::reading::finished::finished;
@@ -22,24 +22,22 @@ const ALL_BOARDS: usize = 8;
 const RANDOM_BOARDS: usize = 500;
 
 pub fn run(seed: u64, count: usize) -> Outcome {
-    let mut random = Random::new(seed);
-    let mut progress = Progress::new("small", count);
     let mut partly = Tally::default();
     let mut full = Tally::default();
     let mut solved = 0;
-    for done in 0..count {
-        progress.at(done);
-        let puzzle = small_puzzle(&mut random);
+    repeatedly("small", seed, count, |random| {
+        let puzzle = small_puzzle(random);
         let rules = every_full_board(&puzzle, &mut full)?;
         solved += rules.iter().filter(|&&hold| hold).count();
-        for board in boards(&mut random, puzzle) {
+        for board in boards(random, puzzle) {
             let reason = find(&board)?;
             if let Some(reason) = &reason {
                 sound(&board, reason, &rules)?;
             }
             partly.add(board.puzzle.size, reason.as_ref());
         }
-    }
+        Ok(())
+    })?;
     println!("small: {count} puzzles; reasons tried against every full board:");
     partly.print();
     println!("every full board of these puzzles ({solved} meet the block rules):");

@@ -4,7 +4,7 @@ use super::boards::Decided;
 use super::patterns::Pattern;
 use super::puzzles::square;
 use crate::reading::board::Cell;
-use crate::reading::record::{Code, Puzzle};
+use crate::reading::record::plain;
 
 const SIDE: usize = 32;
 
@@ -30,11 +30,7 @@ fn board(cell: impl Fn(usize, usize) -> Cell, arrows: &[&[(usize, usize)]]) -> D
         Cell::Undecided => None,
     };
     Decided {
-        puzzle: Puzzle {
-            size,
-            codes: vec![Code::Plain; size.cells()],
-            arrows: arrows.iter().map(arrow).collect(),
-        },
+        puzzle: plain(SIDE, SIDE, arrows.iter().map(arrow).collect()),
         decisions: (0..size.cells()).filter_map(value).collect(),
     }
 }

@@ -1,6 +1,7 @@
 //! `boards.list` and `calls.list`: lists of calls on one board.
 
 use super::numbers::cell_number;
+use super::strip::strip;
 use super::List;
 use crate::answers::{by_original, by_reading, Answer};
 use crate::generate::boards::{any_board, board_of_size, Decided};
@@ -11,7 +12,7 @@ use crate::progress::facts;
 use crate::random::Random;
 use crate::reading::board::Board;
 use crate::reading::grid::Size;
-use crate::reading::record::{decode, encode};
+use crate::reading::record::encode;
 
 const FORMAT: [&str; 8] = [
     "Entries to the end of the file: u16 record length, the record, u16 number of calls, the calls.",
@@ -43,13 +44,14 @@ fn call_lists(
     what: &str,
     finds: bool,
 ) -> Result<List, String> {
-    let mut list = List::new(name, limit, seed, what);
-    list.answers_are_the_originals();
+    let mut list = List::of_the_original(name, limit, seed, what);
     list.line("Its panics are refusals 9 and 10, and 7; it has no counterpart to 8 and 11.");
-    for line in FORMAT {
-        list.line(line);
-    }
-    add_entry(&mut list, &strip(), &leaf_calls(finds))?;
+    list.lines(&FORMAT);
+    let fresh = Decided {
+        puzzle: strip(),
+        decisions: Vec::new(),
+    };
+    add_entry(&mut list, &fresh, &leaf_calls(finds))?;
     let mut random = Random::new(seed ^ u64::from(finds));
     for goal in goals(&mut random) {
         let wanted = length(&mut random, &goal);
@@ -57,15 +59,6 @@ fn call_lists(
         add_entry(&mut list, &goal, &calls)?;
     }
     Ok(list)
-}
-
-/// Strip S of document 01.
-fn strip() -> Decided {
-    let record = [0x00, 0x80, 0x08, 0x00, 0x00, 0x05, 0xE0];
-    Decided {
-        puzzle: decode(&record).expect("a record of document 01"),
-        decisions: Vec::new(),
-    }
 }
 
 /// The document's leaves on S: refusals 7 to 10, and with finds its reasons and refusal 11.

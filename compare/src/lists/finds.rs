@@ -47,17 +47,14 @@ pub fn finds(seed: u64) -> Result<List, String> {
     }
 
     let what = "Boards with what find and finished say.";
-    let mut list = List::new("finds.list", 500_000, seed, what);
-    list.answers_are_the_originals();
+    let mut list = List::of_the_original("finds.list", 500_000, seed, what);
     list.line(&format!("{} boards: {}.", boards.len(), tally.line()));
     let number_finished = boards
         .iter()
         .filter(|(board, _)| is_finished(board))
         .count();
     list.line(&format!("{number_finished} boards are finished."));
-    for line in FORMAT {
-        list.line(line);
-    }
+    list.lines(&FORMAT);
     list.u16(1);
     for (board, reason) in &boards {
         add_entry(&mut list, board, reason.as_ref());

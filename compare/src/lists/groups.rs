@@ -33,11 +33,8 @@ const FORMAT: [&str; 16] = [
 
 pub fn groups(seed: u64) -> Result<List, String> {
     let what = "Boards with their groups, kinds, reach and fence.";
-    let mut list = List::new("groups.list", 600_000, seed, what);
-    list.answers_are_the_originals();
-    for line in FORMAT {
-        list.line(line);
-    }
+    let mut list = List::of_the_original("groups.list", 600_000, seed, what);
+    list.lines(&FORMAT);
     let mut random = Random::new(seed);
     let mut boards = patterns(&mut random);
     boards.extend(large_patterns(&mut random));

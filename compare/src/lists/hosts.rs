@@ -1,6 +1,6 @@
 //! `hosts.list`: host calls, refused ones among them.
 
-use super::List;
+use super::{strip, List};
 use crate::answers::of_host;
 use crate::generate::boards::{any_board, board_of_size, Decided};
 use crate::generate::hosts::{host_input, HostInput};
@@ -8,9 +8,9 @@ use crate::generate::long::long_reasons;
 use crate::generate::puzzles::square;
 use crate::random::Random;
 use crate::reading::grid::Size;
-use crate::reading::host::two_bytes;
+use crate::reading::host::literal_bytes;
 use crate::reading::reasons::most_literals;
-use crate::reading::record::{encode, Code, Puzzle};
+use crate::reading::record::encode;
 
 const FORMAT: [&str; 6] = [
     "Refusals and their order are document 01's, by the literal reading.",
@@ -22,11 +22,9 @@ const FORMAT: [&str; 6] = [
 ];
 
 pub fn hosts(seed: u64) -> Result<List, String> {
-    let mut list = List::new("hosts.list", 200_000, seed, "Calls of the host function.");
-    list.answers_are_the_originals();
-    for line in FORMAT {
-        list.line(line);
-    }
+    let mut list =
+        List::of_the_original("hosts.list", 200_000, seed, "Calls of the host function.");
+    list.lines(&FORMAT);
     for input in on_the_strip() {
         add_entry(&mut list, &input)?;
     }
@@ -71,25 +69,9 @@ fn add_entry(list: &mut List, input: &HostInput) -> Result<(), String> {
 
 /// Each refusal on document 01's strip S, alone and before each that comes after it.
 fn on_the_strip() -> Vec<HostInput> {
-    let strip = Puzzle {
-        size: Size {
-            height: 1,
-            width: 3,
-        },
-        codes: vec![Code::Plain; 3],
-        arrows: vec![vec![0, 1, 2]],
-    };
-    let good = encode(&strip);
-    let s_ending = |last: u8| [&good[..6], &[last]].concat();
-    let records = [
-        good.clone(),
-        good[..6].to_vec(),
-        vec![0x00, 0x40, 0x01, 0x80],
-        s_ending(0x80),
-        s_ending(0xC0),
-        s_ending(0xE1),
-        vec![],
-    ];
+    let mut records = strip::records();
+    let good = records[0].clone();
+    records.push(vec![]);
     let square_0 = [0x80, 0x00];
     let square_2 = [0x80, 0x02];
     let decisions: [Vec<u8>; 15] = [
@@ -123,15 +105,12 @@ fn on_the_strip() -> Vec<HostInput> {
             }
         }
     }
-    // each of the five bits, with either value
-    for bit in 2..7 {
-        for value in [0x00, 0x80] {
-            inputs.push(HostInput {
-                record: good.clone(),
-                decisions: vec![value | 1 << bit, 0x00],
-                output: 20,
-            });
-        }
+    for decision in strip::five_bits() {
+        inputs.push(HostInput {
+            record: good.clone(),
+            decisions: decision.to_vec(),
+            output: 20,
+        });
     }
     inputs
 }
@@ -141,7 +120,7 @@ fn output_limits(board: &Decided) -> [HostInput; 4] {
     let limit = 2 * most_literals(board.puzzle.size);
     [limit - 2, limit - 1, limit, limit + 1].map(|output| HostInput {
         record: encode(&board.puzzle),
-        decisions: board.decisions.iter().flat_map(|&l| two_bytes(l)).collect(),
+        decisions: literal_bytes(&board.decisions),
         output,
     })
 }

@@ -1,13 +1,13 @@
 //! `inputs.list`: standard inputs of the program `reason`, with what it prints.
 
-use super::List;
+use super::{strip, List};
 use crate::commands::program::{any_input, expected, joined, LONGEST};
 use crate::generate::long::long_reasons;
 use crate::generate::puzzles::square;
 use crate::random::Random;
-use crate::reading::grid::Size;
-use crate::reading::host::two_bytes;
-use crate::reading::record::{encode, Code, Puzzle};
+use crate::reading::host::literal_bytes;
+use crate::reading::record::{encode, plain};
+use crate::reading::Literal;
 
 const FORMAT: [&str; 5] = [
     "Refusals and their order are document 01's, by the literal reading.",
@@ -19,11 +19,8 @@ const FORMAT: [&str; 5] = [
 
 pub fn inputs(seed: u64) -> Result<List, String> {
     let what = "Standard inputs of the program `reason` with what it prints.";
-    let mut list = List::new("inputs.list", 250_000, seed, what);
-    list.answers_are_the_originals();
-    for line in FORMAT {
-        list.line(line);
-    }
+    let mut list = List::of_the_original("inputs.list", 250_000, seed, what);
+    list.lines(&FORMAT);
     let mut random = Random::new(seed);
     let mut inputs = fixed_inputs();
     while inputs.len() < 900 {
@@ -50,34 +47,12 @@ pub fn fixed_inputs() -> Vec<Vec<u8>> {
     inputs
 }
 
-fn plain(height: usize, width: usize, arrows: Vec<Vec<usize>>) -> Puzzle {
-    let size = Size { height, width };
-    Puzzle {
-        size,
-        codes: vec![Code::Plain; size.cells()],
-        arrows,
-    }
-}
-
-/// Document 01's strip S.
-fn strip() -> Vec<u8> {
-    encode(&plain(1, 3, vec![vec![0, 1, 2]]))
-}
-
 /// The program's example first; then each refusal on strip S, alone and before those that come after it.
 fn on_the_strip() -> Vec<Vec<u8>> {
-    let good = strip();
-    let s_ending = |last: u8| [&good[..6], &[last]].concat();
-    let records = [
-        good.clone(),
-        // 1, 2, 3, 4, 5, and 5 again for a byte behind the filler
-        good[..6].to_vec(),
-        vec![0x00, 0x40, 0x01, 0x80],
-        s_ending(0x80),
-        s_ending(0xC0),
-        s_ending(0xE1),
-        [&good[..], &[0x00]].concat(),
-    ];
+    let mut records = strip::records();
+    let good = records[0].clone();
+    // 5 again, for a byte behind the filler
+    records.push([&good[..], &[0x00]].concat());
     let decisions: [&[u8]; 14] = [
         &[0x80, 0x00, 0x80, 0x02],
         &[],
@@ -102,11 +77,8 @@ fn on_the_strip() -> Vec<Vec<u8>> {
             inputs.push(joined(record.len(), record, decisions));
         }
     }
-    // 12 by each of the five bits, with either value
-    for bit in 2..7 {
-        for value in [0x00, 0x80] {
-            inputs.push(joined(good.len(), &good, &[value | 1 << bit, 0x00]));
-        }
+    for decision in strip::five_bits() {
+        inputs.push(joined(good.len(), &good, &decision));
     }
     inputs
 }
@@ -129,7 +101,7 @@ fn leaves() -> Vec<Vec<u8>> {
 /// Too few bytes for the length or the record, a length that takes decisions in or leaves some of the record out,
 /// its high byte, and inputs about the limit.
 fn about_the_lengths() -> Vec<Vec<u8>> {
-    let good = strip();
+    let good = encode(&strip::strip());
     let decisions = [0x80, 0x00, 0x80, 0x02];
     let mut inputs = vec![vec![], vec![0x00], vec![0x07], vec![0xFF]];
     for length in 0..=12 {
@@ -159,7 +131,7 @@ fn long_inputs() -> Vec<Vec<u8>> {
     let mut inputs = Vec::new();
     for board in long_reasons() {
         let record = encode(&board.puzzle);
-        let decisions: Vec<u8> = board.decisions.iter().flat_map(|&l| two_bytes(l)).collect();
+        let decisions = literal_bytes(&board.decisions);
         inputs.push(joined(record.len(), &record, &decisions));
     }
     let side = square(32).height;
@@ -170,10 +142,8 @@ fn long_inputs() -> Vec<Vec<u8>> {
     ));
     inputs.push(joined(longest.len(), &longest, &[]));
     for value in [0, 1] {
-        let all: Vec<u8> = (0..side * side)
-            .flat_map(|c| two_bytes((c, value)))
-            .collect();
-        inputs.push(joined(longest.len(), &longest, &all));
+        let all: Vec<Literal> = (0..side * side).map(|c| (c, value)).collect();
+        inputs.push(joined(longest.len(), &longest, &literal_bytes(&all)));
     }
     inputs
 }

@@ -11,11 +11,12 @@ pub mod inputs;
 mod numbers;
 mod records;
 pub mod replay;
+mod strip;
 
 use crate::generate::boards::Decided;
 use crate::original::COMMIT;
 use crate::progress::Outcome;
-use crate::reading::host::two_bytes;
+use crate::reading::host::literal_bytes;
 use crate::reading::record::encode;
 use crate::reading::Literal;
 use std::fs;
@@ -61,6 +62,15 @@ impl List {
         list
     }
 
+    /// A list whose answers are the original's.
+    fn of_the_original(name: &'static str, limit: usize, seed: u64, what: &str) -> List {
+        let mut list = List::new(name, limit, seed, what);
+        list.line(&format!(
+            "The answers are the original's, semiexp/cspuz_core commit {COMMIT}."
+        ));
+        list
+    }
+
     /// A list that is run once and not kept.
     fn passing(what: &str) -> List {
         List {
@@ -77,11 +87,11 @@ impl List {
         self.head += &format!("# {text}\n");
     }
 
-    /// The head's line on where the answers are from.
-    fn answers_are_the_originals(&mut self) {
-        self.line(&format!(
-            "The answers are the original's, semiexp/cspuz_core commit {COMMIT}."
-        ));
+    /// Lines of the head.
+    fn lines(&mut self, texts: &[&str]) {
+        for text in texts {
+            self.line(text);
+        }
     }
 
     fn u8(&mut self, number: u8) {
@@ -119,9 +129,7 @@ impl List {
     /// A count and that many literals.
     fn literals(&mut self, literals: &[Literal]) {
         self.u16(literals.len());
-        for &literal in literals {
-            self.bytes(&two_bytes(literal));
-        }
+        self.bytes(&literal_bytes(literals));
     }
 
     /// The head, an empty line and the data.

@@ -7,7 +7,7 @@ use crate::generate::puzzles::{
 use crate::generate::records::{damaged, zeros, ArrowFields, Fields};
 use crate::random::Random;
 use crate::reading::grid::Size;
-use crate::reading::record::{decode, encode, Code, Puzzle};
+use crate::reading::record::{decode, encode, plain, Code, Puzzle};
 
 const FORMAT: [&str; 5] = [
     "Entries to the end of the file: u16 record length, the record, u8 refusal (0 to 5); if 0:",
@@ -20,9 +20,7 @@ const FORMAT: [&str; 5] = [
 pub fn records(seed: u64) -> List {
     let what = "Records with the puzzle or the refusal that reading them gives.";
     let mut list = List::new("records.list", 120_000, seed, what);
-    for line in FORMAT {
-        list.line(line);
-    }
+    list.lines(&FORMAT);
     let mut random = Random::new(seed);
     let groups: [Vec<Vec<u8>>; 8] = [
         largest_and_smallest(),
@@ -71,15 +69,6 @@ fn add_puzzle(list: &mut List, puzzle: &Puzzle) {
     for arrow in &puzzle.arrows {
         list.u16(arrow.len());
         list.numbers(arrow);
-    }
-}
-
-fn plain(height: usize, width: usize, arrows: Vec<Vec<usize>>) -> Puzzle {
-    let size = Size { height, width };
-    Puzzle {
-        size,
-        codes: vec![Code::Plain; size.cells()],
-        arrows,
     }
 }
 

@@ -9,9 +9,7 @@ pub fn host_call(record: &[u8], decisions: &[u8], output: &mut [u8]) -> i32 {
     match answer(record, decisions, output.len()) {
         Err(refusal) => -i32::from(refusal.number()),
         Ok(literals) => {
-            for (place, &literal) in literals.iter().enumerate() {
-                output[2 * place..2 * place + 2].copy_from_slice(&two_bytes(literal));
-            }
+            output[..2 * literals.len()].copy_from_slice(&literal_bytes(&literals));
             literals.len() as i32
         }
     }
@@ -57,6 +55,14 @@ pub fn literal([high, low]: [u8; 2]) -> Result<Literal, Refusal> {
     }
     let index = usize::from(high & 0b11) * 256 + usize::from(low);
     Ok((index, high >> 7))
+}
+
+/// The bytes of literals, one after another.
+pub fn literal_bytes(literals: &[Literal]) -> Vec<u8> {
+    literals
+        .iter()
+        .flat_map(|&literal| two_bytes(literal))
+        .collect()
 }
 
 pub fn two_bytes((index, value): Literal) -> [u8; 2] {

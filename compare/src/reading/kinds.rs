@@ -92,17 +92,17 @@ impl Kinds {
         self.kind_of.iter().map(in_reach).collect()
     }
 
-    /// Every empty cell that touches the reach, and all cells of the rivals.
+    /// Every empty cell that touches the reach, and all cells of each disturbing block.
     pub fn fence(&self, block: usize) -> Vec<Literal> {
         let reach = self.reach(block);
-        let rivals = self.rivals(block, &reach);
+        let disturbing = self.disturbing(block, &reach);
         let mut fence = Vec::new();
         for cell in 0..self.size.cells() {
             match self.kind_of[cell] {
                 Kind::Empty if self.size.touches(cell, |beside| reach[beside]) => {
                     fence.push((cell, 0));
                 }
-                Kind::ArrowBlock(other) if rivals.contains(&other) => fence.push((cell, 1)),
+                Kind::ArrowBlock(other) if disturbing.contains(&other) => fence.push((cell, 1)),
                 _ => {}
             }
         }
@@ -110,20 +110,20 @@ impl Kinds {
     }
 
     /// Each other arrow block with some cell beside an undecided cell that touches the reach.
-    fn rivals(&self, block: usize, reach: &[bool]) -> Vec<usize> {
-        let mut rivals = Vec::new();
+    fn disturbing(&self, block: usize, reach: &[bool]) -> Vec<usize> {
+        let mut disturbing = Vec::new();
         for cell in 0..self.size.cells() {
             let undecided = self.cells[cell] == Cell::Undecided;
             if undecided && self.size.touches(cell, |beside| reach[beside]) {
                 for beside in self.size.neighbours(cell) {
                     match self.kind_of[beside] {
-                        Kind::ArrowBlock(other) if other != block => rivals.push(other),
+                        Kind::ArrowBlock(other) if other != block => disturbing.push(other),
                         _ => {}
                     }
                 }
             }
         }
-        rivals
+        disturbing
     }
 }
 

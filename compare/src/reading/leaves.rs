@@ -2,25 +2,15 @@
 
 use super::board::{Board, Cell};
 use super::finished::finished;
-use super::grid::Size;
 use super::groups::block_rules_hold;
 use super::host::host_call;
 use super::program::reason;
 use super::reasons::{find, find_reason};
-use super::record::{decode, encode, Code, Puzzle};
+use super::record::{decode, encode, plain, Code};
 use super::{Literal, Refusal};
 
 const S: [u8; 7] = [0x00, 0x80, 0x08, 0x00, 0x00, 0x05, 0xE0];
 const T: [u8; 4] = [0x00, 0x40, 0x00, 0x00];
-
-fn plain(height: usize, width: usize, arrows: &[&[usize]]) -> Puzzle {
-    let size = Size { height, width };
-    Puzzle {
-        size,
-        codes: vec![Code::Plain; size.cells()],
-        arrows: arrows.iter().map(|arrow| arrow.to_vec()).collect(),
-    }
-}
 
 fn board(record: &[u8], decisions: &[Literal]) -> Board {
     Board::after(&decode(record).unwrap(), decisions)
@@ -33,7 +23,7 @@ fn found(record: &[u8], decisions: &[Literal]) -> Option<Vec<Literal>> {
 
 #[test]
 fn strip_s() {
-    assert_eq!(encode(&plain(1, 3, &[&[0, 1, 2]])), S);
+    assert_eq!(encode(&plain(1, 3, vec![vec![0, 1, 2]])), S);
     assert_eq!(found(&S, &[]), None);
     assert_eq!(found(&S, &[(0, 1), (1, 1)]), Some(vec![(0, 1), (1, 1)]));
     assert_eq!(
@@ -45,14 +35,14 @@ fn strip_s() {
 
 #[test]
 fn pair_t() {
-    assert_eq!(encode(&plain(1, 2, &[])), T);
+    assert_eq!(encode(&plain(1, 2, vec![])), T);
     assert_eq!(found(&T, &[(1, 1)]), Some(vec![(1, 1)]));
     assert_eq!(found(&T, &[(0, 0), (1, 1)]), Some(vec![(0, 0), (1, 1)]));
 }
 
 #[test]
 fn grid_of_2_by_5() {
-    let record = encode(&plain(2, 5, &[&[0, 1, 2, 3, 4]]));
+    let record = encode(&plain(2, 5, vec![(0..5).collect()]));
     let mut decisions = vec![(0, 1), (4, 1), (8, 1), (9, 1), (1, 0), (5, 0)];
     assert_eq!(found(&record, &decisions), None);
     decisions.push((2, 0));
@@ -89,7 +79,7 @@ fn refused_calls() {
 /// 1 × 3, arrow 2 1 0: the cell between the two squares is a barrier.
 #[test]
 fn barrier_is_not_reachable() {
-    let record = encode(&plain(1, 3, &[&[2, 1, 0]]));
+    let record = encode(&plain(1, 3, vec![vec![2, 1, 0]]));
     let reason = vec![(2, 1), (0, 1), (2, 1)];
     assert_eq!(found(&record, &[(0, 1), (2, 1)]), Some(reason));
 }
@@ -97,7 +87,7 @@ fn barrier_is_not_reachable() {
 /// 2 × 4, full: the first pair meets 4 (a), but a later one meets 3.
 #[test]
 fn four_waits_for_three() {
-    let record = encode(&plain(2, 4, &[&[7, 6, 5, 1, 2, 3]]));
+    let record = encode(&plain(2, 4, vec![vec![7, 6, 5, 1, 2, 3]]));
     let values = [1, 0, 1, 0, 1, 1, 0, 1];
     let decisions: Vec<Literal> = values.into_iter().enumerate().collect();
     let reason = vec![(0, 1), (4, 1), (5, 1), (2, 1), (1, 0), (3, 0), (6, 0)];
@@ -108,7 +98,7 @@ fn four_waits_for_three() {
 fn finished_boards() {
     assert!(finished(&board(&S, &[(0, 0), (1, 0), (2, 0)])));
     assert!(!finished(&board(&S, &[(0, 0), (1, 0)])));
-    let mut puzzle = plain(2, 3, &[&[0, 1, 2]]);
+    let mut puzzle = plain(2, 3, vec![vec![0, 1, 2]]);
     puzzle.codes[3] = Code::Black;
     puzzle.codes[5] = Code::Given;
     let values = [1, 0, 1, 0, 0, 1];

@@ -29,6 +29,16 @@ impl Puzzle {
     }
 }
 
+/// With all cells plain.
+pub fn plain(height: usize, width: usize, arrows: Vec<Vec<usize>>) -> Puzzle {
+    let size = Size { height, width };
+    Puzzle {
+        size,
+        codes: vec![Code::Plain; size.cells()],
+        arrows,
+    }
+}
+
 /// The first fault in reading order counts.
 pub fn decode(record: &[u8]) -> Result<Puzzle, Refusal> {
     let mut fields = Fields::new(record);

@@ -1,10 +1,5 @@
-pub mod Writing
-pub mod TextLaws
-pub mod Digits
-pub mod Lines
-pub mod Codes
-pub mod ToldLaws
-pub mod HostTold
+pub mod Finds
 pub mod Answers
+pub mod Refusals
 pub mod Inputs
 pub mod Leaves

@@ -10,7 +10,7 @@ use Rattle.grid.specs.Lists.{flatMap}
 use Rattle.record.specs.Record.{Outcome, ok, refused}
 use Rattle.literals.specs.Literals.{Found}
 use Rattle.host.specs.Host.{hostFinds}
-use Rattle.answer.specs.Text.{digits, line, twoWords, noneText, reasonText, refusedText, literalLine}
+use Rattle.text.specs.Text.{digits, line, twoWords, noneText, reasonText, refusedText, literalLine}
 
 -- the text for what the host call finds
 unfoldable pub textOf : Outcome Found → List ℕ

@@ -22,7 +22,8 @@ use Rattle.form.specs.Form.{long, behind, fresh, problemFormed, shown, stated, 
 use Rattle.form.proofs.ArrayTests.{behind-kept, kept-behind, fresh-is, is-fresh}
 use Rattle.form.proofs.ProblemForm.{Formed, formed-is, is-formed, formed-again, valid-formed, size-most}
 use Rattle.board.specs.declared.Board.{Board}
-use Rattle.board.specs.Board.{Literal, valueAt, cellsAfter, decided}
+use Rattle.grid.specs.Cells.{Literal}
+use Rattle.board.specs.Board.{valueAt, cellsAfter, decided}
 use Rattle.board.specs.Kept.{boardOf}
 use Rattle.board.specs.Form.{wellFormed}
 use Rattle.board.proofs.Standing.{Standing, none, more, index, standing-low, standing-distinct, cell-value}

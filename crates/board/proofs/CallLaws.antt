@@ -25,7 +25,8 @@ use Rattle.record.proofs.WriteLaws.{round-trip, written-bytes}
 use Rattle.form.specs.Form.{problemFormed, sized}
 use Rattle.form.proofs.ProblemForm.{size-most, formed-valid}
 use Rattle.board.specs.declared.Board.{Board}
-use Rattle.board.specs.Board.{Literal, valueAt, cellsAfter, Call, decide, undo, find, decided, after, refusal, afterAll, SameCells, SameDecisions}
+use Rattle.grid.specs.Cells.{Literal}
+use Rattle.board.specs.Board.{valueAt, cellsAfter, Call, decide, undo, find, decided, after, refusal, afterAll, SameCells, SameDecisions}
 use Rattle.board.specs.Kept.{boardOf, opening, openOf, blankBoard}
 use Rattle.board.specs.Form.{wellFormed}
 use Rattle.board.specs.Decide.{area, decideRefusal, undoRefusal, placed, removed, answered, decideOf, undoOf}

@@ -1,4 +1,3 @@
-pub mod BoardLaws
 pub mod Standing
 pub mod BoardForm
 pub mod CallLaws

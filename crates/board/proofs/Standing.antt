@@ -13,8 +13,9 @@ use borrow.Author.Tests.{lt-ltb, le-leb, ltb-true, leb-true, not-true, eqb-true,
 use Rattle.grid.specs.Lists.{Distinct, range, upto, init}
 use Rattle.grid.proofs.ListLaws.{and-true, dec-so, so-false, mem-any, distinct-snoc, getD-map-range, length-map-range}
 use Rattle.grid.specs.Grid.{Grid, size, cellsOf}
-use Rattle.board.specs.Board.{SameCells, SameDecisions, Literal, valueAt, cellsAfter, Call, decide, undo, find, decided, after, afterAll}
-use Rattle.board.proofs.BoardLaws.{ValidCells}
+use Rattle.grid.specs.Cells.{Literal}
+use Rattle.board.specs.Board.{SameCells, SameDecisions, valueAt, cellsAfter, Call, decide, undo, find, decided, after, afterAll}
+use Rattle.grid.proofs.CellLaws.{ValidCells}
 
 -- decisions one after the other, each on an undecided cell of the grid
 pub data Standing (g : Grid) : List Literal → Type 0 where

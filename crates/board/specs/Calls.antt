@@ -8,7 +8,8 @@ use Rattle.record.specs.Record.{Puzzle}
 use Rattle.record.specs.Problem.{numberOf}
 use Rattle.record.specs.declared.Answer.the-variants.{Done}
 use Rattle.board.specs.declared.Board.{Board}
-use Rattle.board.specs.Board.{Literal, Call, decide, undo, find, SameCells, SameDecisions, afterAll, refusal}
+use Rattle.grid.specs.Cells.{Literal}
+use Rattle.board.specs.Board.{Call, decide, undo, find, SameCells, SameDecisions, afterAll, refusal}
 use Rattle.board.specs.Kept.{boardOf, openOf}
 use Rattle.board.specs.Decide.{decideOf, undoOf}
 

@@ -9,7 +9,8 @@ use Rattle.record.specs.Problem.{problemOf, blank}
 use Rattle.record.specs.declared.Answer.the-variants.{Done, Refused}
 use Rattle.board.specs.declared.Board.{Board}
 use Rattle.board.specs.declared.Opened.{Opened}
-use Rattle.board.specs.Board.{Literal, cellsAfter}
+use Rattle.grid.specs.Cells.{Literal}
+use Rattle.board.specs.Board.{cellsAfter}
 
 -- the board of a puzzle with the standing decisions ds, in arrays
 unfoldable pub boardOf : Puzzle → List Literal → Board

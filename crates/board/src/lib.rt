@@ -173,8 +173,9 @@ impl Board {
         ) {
             return false;
         }
-        form::good_decisions(height * width, self.decided, &self.cells, &self.order)
+        decisions::good_decisions(height * width, self.decided, &self.cells, &self.order)
     }
+
     // Adds a standing decision. Refused: 6 a board that no list of calls could leave, 7 an index off the grid, 8 a value above 1,
     // 9 a cell that is decided already.
     pub fn decide(self, index: usize, value: u8) -> Decided
@@ -247,6 +248,7 @@ impl Board {
             board: next,
         }
     }
+
     // Adds the decisions in a list of bytes, 16 bits each, most significant first, on a board that is tested once. Refused: 6; for
     // each decision in turn 12, 7, 9; an odd byte at the end 12. A refusal gives the board back as it came.
     pub fn decide_all(self, decisions: &[u8]) -> Decided
@@ -285,24 +287,4 @@ impl Board {
             },
         }
     }
-}
-
-// ---- on one board lent by the caller
-
-// `decide` on a lent board.
-pub fn decide_in(board: &mut Board, index: usize, value: u8) -> Answer
-    ensures { λ r. ⌜ (r ≡ decideOf (now (board .entry)) index value .answer) × (now (board .exit) ≡ decideOf (now (board .entry)) index value .board) ⌝ }
-{
-    let d = (*board).decide(index, value);
-    *board = d.board;
-    d.answer
-}
-
-// `undo` on a lent board.
-pub fn undo_in(board: &mut Board) -> Answer
-    ensures { λ r. ⌜ (r ≡ undoOf (now (board .entry)) .answer) × (now (board .exit) ≡ undoOf (now (board .entry)) .board) ⌝ }
-{
-    let d = (*board).undo();
-    *board = d.board;
-    d.answer
 }

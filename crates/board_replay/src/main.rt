@@ -2,115 +2,29 @@
 // with what the list says. Then boards that no list of calls could leave, damaged one field at a time: each must be refused with 6 and
 // come back unchanged.
 //
-// A head of lines ends with an empty line. Then come entries to the end: u16 length, that many bytes of record, u16 number of calls,
-// and the calls: u8 kind, and for 0 (decide) u16 index, u8 value, u8 refusal; for 1 (undo) u8 refusal; for 3 (cells) a state for
+// A list has a head of lines that begin with `#`, an empty line, and entries to its end: u16 length, that many bytes of record, u16 number
+// of calls, and the calls: u8 kind, and for 0 (decide) u16 index, u8 value, u8 refusal; for 1 (undo) u8 refusal; for 3 (cells) a state for
 // each cell. A u16 has its high byte first; a refusal is 0 for none.
 use board::Board;
 use board::Decided;
 use libc::STDOUT_FILENO;
-use record::Answer;
 use record::Problem;
-ghost use Prim.Native.Nat.{_+_, _≤_, _<_};
+use replay::Run;
+use replay::Tally;
+ghost use Prim.Native.Nat.{_<_};
 ghost use mathlib.Core.Path.{_≡_};
 ghost use lib.ListN.{length};
 ghost use Rattle.board.specs.Decide.{decideOf, undoOf};
 
-// What was counted, and whether the list ended with an entry.
-struct Tally {
-    boards: usize,
-    differ: usize,
-    whole: bool,
-}
-
-// What a call left: the board, whether something differed, and where the call ends in the list, 0 where the list ends inside it.
+// What a call left: the board, whether something differed, and where the call ends in the list, far behind it where the list ends
+// inside the call.
 struct Step {
     board: Board,
     differs: bool,
     end: usize,
 }
 
-fn room() -> [u8; 131072]
-    ensures { λ r. ⌜ 131072 ≡ length r ⌝ }
-{
-    [0; 131072]
-}
-
-fn wide(x: u8) -> usize
-    ensures { λ r. ⌜ r < 256 ⌝ }
-{
-    x as usize
-}
-
-// The byte at at, 0 behind the end.
-fn byte_at(list: &[u8], at: usize) -> usize
-    ensures { λ r. ⌜ r < 256 ⌝ }
-{
-    if at < list.len() {
-        return wide(list[at]);
-    }
-    0
-}
-
-// The u16 at at, with 0 for each byte behind the end.
-fn number_at(list: &[u8], at: usize) -> usize
-    requires { ⌜ at ≤ length (now list) ⌝ }
-    ensures { λ r. ⌜ r < 65536 ⌝ }
-{
-    byte_at(list, at) * 256 + byte_at(list, at + 1)
-}
-
-// Where the data begins: behind the first empty line, or behind the end where there is none.
-fn data_start(list: &[u8]) -> usize {
-    let mut i = 1;
-    while i < list.len() {
-        if list[i - 1] == 10 {
-            if list[i] == 10 {
-                return i + 1;
-            }
-        }
-        i += 1;
-    }
-    i
-}
-
-// The number of an answer: 0 where the call is done.
-fn number(answer: Answer) -> usize {
-    match answer {
-        Answer::Done => 0,
-        Answer::Refused(k) => wide(k),
-    }
-}
-
-// Whether the states in the array differ from the n states of the list from at on, with 2 behind them.
-fn states_differ(list: &[u8], at: usize, n: usize, cells: &[u8; 1024]) -> bool
-    requires { ⌜ at ≤ length (now list) ⌝ }
-{
-    let mut i = 0;
-    while i < 1024 {
-        let mut state = 2;
-        if i < n {
-            state = byte_at(list, at + i);
-        }
-        if wide(cells[i]) != state {
-            return true;
-        }
-        i += 1;
-    }
-    false
-}
-
 // Whether two arrays differ.
-fn bytes_differ(a: &[u8; 1024], b: &[u8; 1024]) -> bool {
-    let mut i = 0;
-    while i < 1024 {
-        if a[i] != b[i] {
-            return true;
-        }
-        i += 1;
-    }
-    false
-}
-
 fn words_differ(a: &[u16; 1024], b: &[u16; 1024]) -> bool {
     let mut i = 0;
     while i < 1024 {
@@ -128,7 +42,7 @@ fn problems_differ(p: Problem, q: Problem) -> bool {
     }
     let a = p.cells;
     let b = q.cells;
-    if bytes_differ(&a, &b) {
+    if replay::cells_differ(&a, 0, 1024, &b, 0) {
         return true;
     }
     let a = p.arrows;
@@ -149,7 +63,7 @@ fn boards_differ(x: Board, y: Board) -> bool {
     }
     let a = x.cells;
     let b = y.cells;
-    if bytes_differ(&a, &b) {
+    if replay::cells_differ(&a, 0, 1024, &b, 0) {
         return true;
     }
     let a = x.order;
@@ -162,7 +76,7 @@ fn decide_lent(board: Board, index: usize, value: u8) -> Decided
     ensures { λ r. ⌜ r ≡ decideOf board index value ⌝ }
 {
     let mut lent = board;
-    let answer = board::decide_in(&mut lent, index, value);
+    let answer = lent::decide_in(&mut lent, index, value);
     Decided {
         answer,
         board: lent,
@@ -174,7 +88,7 @@ fn undo_lent(board: Board) -> Decided
     ensures { λ r. ⌜ r ≡ undoOf board ⌝ }
 {
     let mut lent = board;
-    let answer = board::undo_in(&mut lent);
+    let answer = lent::undo_in(&mut lent);
     Decided {
         answer,
         board: lent,
@@ -189,24 +103,60 @@ fn answered(d: Decided, l: Decided, expected: usize, end: usize) -> Step {
     let lent = l.board;
     Step {
         board,
-        differs: number(answer) != expected
-            || number(lent_answer) != expected
+        differs: replay::number(answer) != expected
+            || replay::number(lent_answer) != expected
             || boards_differ(lent, board),
         end,
     }
 }
 
-// H × W, and 0 where a size is above 32.
-fn area(height: usize, width: usize) -> usize
-    ensures { λ r. ⌜ r ≤ 1024 ⌝ }
+// The step of a call that the list ends inside of, or that is of no kind.
+fn broken(board: Board) -> Step {
+    Step {
+        board,
+        differs: true,
+        end: usize::MAX,
+    }
+}
+
+// Makes the decide at at.
+fn make_decide(list: &[u8], at: usize, b: Board) -> Step
+    requires { ⌜ at < length (now list) ⌝ }
 {
-    if 32 < height {
-        return 0;
+    if list.len() < at + 5 {
+        return broken(b);
     }
-    if 32 < width {
-        return 0;
+    let index = replay::number_at(list, at + 1);
+    let value = list[at + 3];
+    answered(
+        b.decide(index, value),
+        decide_lent(b, index, value),
+        replay::wide(list[at + 4]),
+        at + 5,
+    )
+}
+
+// Makes the undo at at.
+fn make_undo(list: &[u8], at: usize, b: Board) -> Step
+    requires { ⌜ at < length (now list) ⌝ }
+{
+    if list.len() < at + 2 {
+        return broken(b);
     }
-    height * width
+    answered(b.undo(), undo_lent(b), replay::wide(list[at + 1]), at + 2)
+}
+
+// Compares the cells at at.
+fn compare_cells(list: &[u8], at: usize, b: Board) -> Step
+    requires { ⌜ at < length (now list) ⌝ }
+{
+    let n = replay::area(b.problem.height, b.problem.width);
+    let cells = b.cells;
+    Step {
+        board: b,
+        differs: replay::cells_differ(list, at + 1, n, &cells, 2),
+        end: at + 1 + n,
+    }
 }
 
 // Makes the call at at.
@@ -214,137 +164,60 @@ fn make_call(list: &[u8], at: usize, b: Board) -> Step
     requires { ⌜ at < length (now list) ⌝ }
 {
     let kind = list[at];
-    if kind == 0 {
-        if list.len() < at + 5 {
-            return Step {
-                board: b,
-                differs: true,
-                end: 0,
-            };
-        }
-        let index = number_at(list, at + 1);
-        let value = list[at + 3];
-        return answered(
-            b.decide(index, value),
-            decide_lent(b, index, value),
-            wide(list[at + 4]),
-            at + 5,
-        );
+    match kind {
+        0 => make_decide(list, at, b),
+        1 => make_undo(list, at, b),
+        3 => compare_cells(list, at, b),
+        _ => broken(b),
     }
-    if kind == 1 {
-        if list.len() < at + 2 {
-            return Step {
-                board: b,
-                differs: true,
-                end: 0,
-            };
-        }
-        return answered(b.undo(), undo_lent(b), wide(list[at + 1]), at + 2);
-    }
-    let n = area(b.problem.height, b.problem.width);
-    if kind != 3 {
-        return Step {
-            board: b,
-            differs: true,
-            end: 0,
-        };
-    }
-    if list.len() < at + 1 + n {
-        return Step {
-            board: b,
-            differs: true,
-            end: 0,
-        };
-    }
-    let cells = b.cells;
-    Step {
-        board: b,
-        differs: states_differ(list, at + 1, n, &cells),
-        end: at + 1 + n,
-    }
-}
-
-// What the calls of an entry counted, and where the entry ends, 0 where the list ends inside it.
-struct Run {
-    differ: usize,
-    end: usize,
 }
 
 // Makes the calls of an entry, which begin at start, on a fresh board of its record.
-fn run_calls(list: &[u8], start: usize, calls: usize, fresh: Board) -> Run
-    requires { ⌜ calls < 65536 ⌝ }
-{
+fn run_calls(list: &[u8], start: usize, calls: usize, fresh: Board) -> Run {
     let mut b = fresh;
-    let mut differ = 0;
-    let mut at = start;
+    let mut made = Run {
+        parts: 0,
+        differ: 0,
+        end: start,
+    };
     let mut i = 0;
     while i < calls {
+        let at = made.end;
         if list.len() <= at {
-            return Run { differ, end: 0 };
+            return Run::broken();
         }
         let s = make_call(list, at, b);
         b = s.board;
-        if s.differs {
-            differ += 1;
-        }
-        at = s.end;
-        if at == 0 {
-            return Run { differ, end: 0 };
-        }
+        made = made.then(Run::of(s.differs, s.end));
         i += 1;
     }
-    Run { differ, end: at }
+    made
 }
 
 // Opens the record of the entry at at, and makes its calls.
 fn run_entry(list: &[u8], at: usize) -> Run
     requires { ⌜ at < length (now list) ⌝ }
 {
-    let calls = at + 2 + number_at(list, at);
+    let calls = at + 2 + replay::number_at(list, at);
     if list.len() < calls + 2 {
-        return Run { differ: 0, end: 0 };
+        return Run::broken();
     }
     let o = Board::open(&list[at + 2..calls]);
     let answer = o.answer;
     let board = o.board;
-    if number(answer) != 0 {
-        return Run { differ: 1, end: 0 };
+    if replay::number(answer) != 0 {
+        return Run::broken();
     }
-    run_calls(list, calls + 2, number_at(list, calls), board)
+    run_calls(list, calls + 2, replay::number_at(list, calls), board)
 }
 
 // Goes through the entries.
-fn replay(list: &[u8]) -> Tally {
-    let mut boards = 0;
-    let mut differ = 0;
-    let mut at = data_start(list);
-    if list.len() < at {
-        return Tally {
-            boards,
-            differ,
-            whole: false,
-        };
+fn go_through(list: &[u8]) -> Tally {
+    let mut tally = Tally::of(list, 0);
+    while tally.at < list.len() {
+        tally = tally.with(run_entry(list, tally.at), list.len());
     }
-    while at < list.len() {
-        let r = run_entry(list, at);
-        boards += 1;
-        if r.differ != 0 {
-            differ += 1;
-        }
-        if r.end <= at {
-            return Tally {
-                boards,
-                differ,
-                whole: false,
-            };
-        }
-        at = r.end;
-    }
-    Tally {
-        boards,
-        differ,
-        whole: true,
-    }
+    tally
 }
 
 // ---- damaged boards
@@ -353,7 +226,7 @@ fn replay(list: &[u8]) -> Tally {
 fn taken(d: Decided, b: Board) -> bool {
     let answer = d.answer;
     let board = d.board;
-    number(answer) != 6 || boards_differ(board, b)
+    replay::number(answer) != 6 || boards_differ(board, b)
 }
 
 // Whether some call on the board is not refused with 6, or changes it.
@@ -512,16 +385,9 @@ fn damages(b: Board) -> usize {
 }
 
 fn main() {
-    let mut space = room();
+    let mut space = replay::room();
     let n = io::read_full(0, &mut space);
-    let tally = replay(&space[..n]);
-    io::print_decimal(STDOUT_FILENO, tally.boards as u64);
-    io::write_all(STDOUT_FILENO, b" boards, ");
-    io::print_decimal(STDOUT_FILENO, tally.differ as u64);
-    io::write_all(STDOUT_FILENO, b" differ\n");
-    if !tally.whole {
-        io::write_all(STDOUT_FILENO, b"list damaged\n");
-    }
+    go_through(&space[..n]).print(b" boards, ", b"");
     let o = Board::open(b"\x00\x80\x08\x00\x00\x05\xE0");
     let fresh = o.board;
     let d = fresh.decide(0, 1);

@@ -15,29 +15,24 @@ use borrow.Author.Tests.{eqb-true, eq-eqb, ne-eqb}
 use Rattle.grid.specs.Lists.{upto, any, filter, flatMap, member}
 use Rattle.grid.specs.Grid.{Grid, size, cellsOf, neighbours, touches}
 use Rattle.grid.specs.Side.{sized}
-use Rattle.grid.proofs.ListLaws.{so-false, and-true, true-and, any-mem, mem-any, upto-mem, mem-upto, filter-mem, mem-filter, member-mem, mem-member, getD-map-range}
+use Rattle.grid.proofs.ListLaws.{and-true, true-and, any-mem, mem-any, upto-mem, mem-upto, filter-mem, mem-filter, member-mem, mem-member, getD-map-range}
 use Rattle.grid.proofs.GridLaws.{beside as side, on-grid, adj-sym}
+use Rattle.grid.proofs.AppendLaws.{same-test, any-agree, filter-agree}
 use Rattle.record.specs.Record.{Puzzle}
-use Rattle.board.specs.Board.{Literal, empty, square, undecided}
+use Rattle.grid.specs.Cells.{Literal, empty, square, undecided}
 use Rattle.groups.specs.Groups.{labels}
-use Rattle.kinds.specs.Kinds.{Kind, vacant, barrier, floating, inBlock, beside, kindBeside, blocksBeside, kindAt, kindsOf, isIn, has, View, view, viewWith, inReach, reach, rival, fenceAt, fence, word, kindCode, ownerBy, reachMask}
+use Rattle.kinds.specs.Kinds.{Kind, vacant, barrier, floating, inBlock, neighbour, kindTouching, blocksTouched, kindAt, kindsOf, isIn, has, View, view, viewWith, inReach, reach, disturbing, fenceAt, fence, word, kindCode, ownerBy, reachMask}
 use Rattle.kinds.specs.Inside.{puzzleWith, Held}
-use Rattle.fence.specs.Inside.{litAt, Ordered, ofBlock, rivals, touched, adds, addsAmong, Fenced}
+use Rattle.fence.specs.Inside.{litAt, Ordered, ofBlock, inDisturbing, touched, adds, addsAmong, Fenced}
 use Rattle.kinds.proofs.Filled.{mask-at, mark-test}
-use Rattle.kinds.proofs.Views.{any-same}
-use Rattle.reach.proofs.Reaches.{filter-same, in-by, code-get, owner-get}
-
--- two tests that follow from each other are one
-bool-same : (a b : Bool) → (So a → So b) → (So b → So a) → a ≡ b
-bool-same true b f g = sym (f refl)
-bool-same false b f g = sym (so-false b (λ s. false≢true (g s)))
+use Rattle.reach.proofs.Reaches.{in-by, code-get, owner-get}
 
 -- an undecided cell is not vacant
-beside-code : (l : List ℕ) → kindCode (kindBeside l) ≡ 0 → ⊥
-unfolding kindCode kindBeside
-beside-code [] e = omega (arith, e)
-beside-code (x ∷ []) e = omega (arith, e)
-beside-code (x ∷ y ∷ l) e = omega (arith, e)
+touching-code : (l : List ℕ) → kindCode (kindTouching l) ≡ 0 → ⊥
+unfolding kindCode kindTouching
+touching-code [] e = omega (arith, e)
+touching-code (x ∷ []) e = omega (arith, e)
+touching-code (x ∷ y ∷ l) e = omega (arith, e)
 
 -- ---- the fence as a filtered list
 
@@ -47,8 +42,8 @@ module _ (v : View) (f : ℕ) (r : List ℕ) where
   fenced i vacant = touches (v .grid) r i
   fenced i barrier = false
   fenced i floating = false
-  fenced i (inBlock e) = not (eqb e f) && rival v r e
-  fenced i (beside e) = false
+  fenced i (inBlock e) = not (eqb e f) && disturbing v r e
+  fenced i (neighbour e) = false
 
   fence-word : (K : List ℕ) (i : ℕ) (k : Kind) → getD K i 0 ≡ kindCode k → map word (fenceAt v f r i k) ≡ cond (fenced i k) (litAt K i ∷ []) []
   unfolding fenceAt fenced word litAt kindCode
@@ -59,12 +54,12 @@ module _ (v : View) (f : ℕ) (r : List ℕ) where
       by false = refl
   fence-word K i barrier e = refl
   fence-word K i floating e = refl
-  fence-word K i (inBlock x) e = rw e (by (not (eqb x f) && rival v r x))
+  fence-word K i (inBlock x) e = rw e (by (not (eqb x f) && disturbing v r x))
     where
       by : (b : Bool) → map word (cond b ((i, 1) ∷ []) []) ≡ cond b ((32768 + i) ∷ []) []
       by true = refl
       by false = refl
-  fence-word K i (beside x) e = refl
+  fence-word K i (neighbour x) e = refl
 
 map-join : (l m : List Literal) → map word (l ++ m) ≡ map word l ++ map word m
 map-join [] m = refl
@@ -92,25 +87,25 @@ module _ (v : View) (f : ℕ) (r : List ℕ) where
   fenced-empty x barrier e s = absurd (omega (arith, e))
   fenced-empty x floating e s = absurd (omega (arith, e))
   fenced-empty x (inBlock a) e s = absurd (omega (arith, e))
-  fenced-empty x (beside a) e s = absurd (omega (arith, e))
+  fenced-empty x (neighbour a) e s = absurd (omega (arith, e))
 
-  fenced-block : (x m : ℕ) (k : Kind) → kindCode k ≡ 1 → ((e : ℕ) → ownerBy m k ≡ e → So (not (eqb e f) && rival v r e)) → So (fenced v f r x k)
+  fenced-block : (x m : ℕ) (k : Kind) → kindCode k ≡ 1 → ((e : ℕ) → ownerBy m k ≡ e → So (not (eqb e f) && disturbing v r e)) → So (fenced v f r x k)
   unfolding fenced kindCode ownerBy
   fenced-block x m vacant e s = absurd (omega (arith, e))
   fenced-block x m barrier e s = absurd (omega (arith, e))
   fenced-block x m floating e s = absurd (omega (arith, e))
   fenced-block x m (inBlock a) e s = s a refl
-  fenced-block x m (beside a) e s = absurd (omega (arith, e))
+  fenced-block x m (neighbour a) e s = absurd (omega (arith, e))
 
   -- what is fenced is vacant or in another arrow block
   fenced-says : (x m : ℕ) (k : Kind) → So (fenced v f r x k)
-      → ((kindCode k ≡ 0) × So (touches (v .grid) r x)) ⊎ ((e : ℕ) × (kindCode k ≡ 1) × (ownerBy m k ≡ e) × So (not (eqb e f) && rival v r e))
+      → ((kindCode k ≡ 0) × So (touches (v .grid) r x)) ⊎ ((e : ℕ) × (kindCode k ≡ 1) × (ownerBy m k ≡ e) × So (not (eqb e f) && disturbing v r e))
   unfolding fenced kindCode ownerBy
   fenced-says x m vacant s = inl (refl, s)
   fenced-says x m barrier s = absurd (false≢true s)
   fenced-says x m floating s = absurd (false≢true s)
   fenced-says x m (inBlock a) s = inr (a, refl, refl, s)
-  fenced-says x m (beside a) s = absurd (false≢true s)
+  fenced-says x m (neighbour a) s = absurd (false≢true s)
 
 -- ---- the cells that are inserted. values is the array of the cells
 module _ (p : Puzzle) (small : size (p .grid) ≤ 1024) (values K O marks : List ℕ) (f : ℕ)
@@ -144,13 +139,13 @@ module _ (p : Puzzle) (small : size (p .grid) ≤ 1024) (values K O marks : List
   unfolding reachMask reach cellsOf view viewWith
   marked-is j l =
       ap (λ (m : List ℕ). eqb (getD m j 0) 1) M ∙ ap (λ (x : ℕ). eqb x 1) (mask-at g (inReach v f) j l) ∙ mark-test (inReach v f j)
-      ∙ bool-same (inReach v f j) (member j R)
+      ∙ same-test (inReach v f j) (member j R)
       (λ s. mem-member j R (mem-filter (inReach v f) (upto (size g)) (mem-upto (size g) l) s))
       (λ s. filter-mem (inReach v f) (upto (size g)) (member-mem j R s) .1)
 
   touched-is : (i : ℕ) → i < size g → touched marks g i ≡ touches g R i
   unfolding touched touches
-  touched-is i l = any-same _ _ (neighbours g i) (λ j m. marked-is j (on-grid g l (side g i m)))
+  touched-is i l = any-agree _ _ (neighbours g i) (λ j m. marked-is j (on-grid g l (side g i m)))
 
   value : (i : ℕ) → i < size g → getD cells i 0 ≡ getD values i 0
   value i l = getD-take (size g) values i 0 l
@@ -158,9 +153,9 @@ module _ (p : Puzzle) (small : size (p .grid) ≤ 1024) (values K O marks : List
   open-code : (i : ℕ) → i < size g → getD cells i 0 ≡ 2 → getD K i 0 ≡ 0 → ⊥
   unfolding kindsOf kindAt cellsOf upto empty square view viewWith
   open-code i l e z =
-      let k : kind i ≡ kindBeside (blocksBeside p cells (labels g (square cells)) i) =
+      let k : kind i ≡ kindTouching (blocksTouched p cells (labels g (square cells)) i) =
       getD-map-range (kindAt p cells (labels g (square cells))) 0 (size g) i vacant l ∙ ap (kindAt p cells (labels g (square cells))) (zero-add i) ∙ rw e in
-      beside-code (blocksBeside p cells (labels g (square cells)) i) (sym (ap kindCode k) ∙ sym (code i l) ∙ z)
+      touching-code (blocksTouched p cells (labels g (square cells)) i) (sym (ap kindCode k) ∙ sym (code i l) ∙ z)
 
   -- a cell of the arrow block e, by the arrays and by the kinds
   in-is : (j e : ℕ) → j < size g → (eqb (getD K j 0) 1 && eqb (getD O j 0) e) ≡ isIn e (kind j)
@@ -168,7 +163,7 @@ module _ (p : Puzzle) (small : size (p .grid) ≤ 1024) (values K O marks : List
 
   -- an inserted cell is fenced
   there : (x : ℕ) → x < size g → (i : ℕ) → i < size g → So (adds values K O marks g f i x) → So (fenced v f R x (kind x))
-  unfolding adds rivals ofBlock rival has cellsOf view viewWith undecided
+  unfolding adds inDisturbing ofBlock disturbing has cellsOf view viewWith undecided
   there x lx i l s = by (ℕ-discrete (getD K i 0) 0)
     where
       by : Dec (getD K i 0 ≡ 0) → So (fenced v f R x (kind x))
@@ -178,10 +173,10 @@ module _ (p : Puzzle) (small : size (p .grid) ≤ 1024) (values K O marks : List
           let e : i ≡ x = eqb-true i x (q .1) in
           fenced-empty v f R x (kind x) (sym (code x lx) ∙ ap (λ (y : ℕ). getD K y 0) (sym e) ∙ k) (subst (λ (y : ℕ). So (touches g R y)) e (sym (touched-is i l) ∙ q .0))
       by (no k) =
-          let h : So (eqb (getD values i 0) 2 && touched marks g i && any (λ j. rivals K O f j x) (neighbours g i)) = rw (ne-eqb (getD K i 0) 0 k) at s in
+          let h : So (eqb (getD values i 0) 2 && touched marks g i && any (λ j. inDisturbing K O f j x) (neighbours g i)) = rw (ne-eqb (getD K i 0) 0 k) at s in
           let a = and-true (eqb (getD values i 0) 2 && touched marks g i) _ h in
           let b = and-true (eqb (getD values i 0) 2) _ (a .0) in
-          let j = any-mem (λ j. rivals K O f j x) (neighbours g i) (a .1) in
+          let j = any-mem (λ j. inDisturbing K O f j x) (neighbours g i) (a .1) in
           let lj = on-grid g l (side g i (j .1)) in
           let c = and-true (eqb (getD K (j .0) 0) 1 && not (eqb (getD O (j .0) 0) f)) _ (j .2) in
           let d = and-true (eqb (getD K (j .0) 0) 1) _ (c .0) in
@@ -197,10 +192,10 @@ module _ (p : Puzzle) (small : size (p .grid) ≤ 1024) (values K O marks : List
 
   -- a fenced cell is inserted
   back : (x : ℕ) → x < size g → So (fenced v f R x (kind x)) → (i : ℕ) × (i < size g) × So (adds values K O marks g f i x)
-  unfolding adds rivals ofBlock rival has cellsOf view viewWith undecided
+  unfolding adds inDisturbing ofBlock disturbing has cellsOf view viewWith undecided
   back x lx s = by (fenced-says v f R x (float x) (kind x) s)
     where
-      by : ((kindCode (kind x) ≡ 0) × So (touches g R x)) ⊎ ((e : ℕ) × (kindCode (kind x) ≡ 1) × (ownerBy (float x) (kind x) ≡ e) × So (not (eqb e f) && rival v R e)) → (i : ℕ) × (i < size g) × So (adds values K O marks g f i x)
+      by : ((kindCode (kind x) ≡ 0) × So (touches g R x)) ⊎ ((e : ℕ) × (kindCode (kind x) ≡ 1) × (ownerBy (float x) (kind x) ≡ e) × So (not (eqb e f) && disturbing v R e)) → (i : ℕ) × (i < size g) × So (adds values K O marks g f i x)
       by (inl (z, t)) = (x, lx, rw (code x lx ∙ z) (true-and (touched-is x lx ∙ t) (eq-eqb x x refl)))
       by (inr (e, z, q, t)) =
           let a = and-true (not (eqb e f)) _ t in
@@ -224,7 +219,7 @@ module _ (p : Puzzle) (small : size (p .grid) ≤ 1024) (values K O marks : List
 
   among-is : (x : ℕ) → x < size g → addsAmong values K O marks g f (size g) x ≡ fenced v f R x (kind x)
   unfolding addsAmong
-  among-is x lx = bool-same _ _
+  among-is x lx = same-test _ _
       (λ s. let r = any-mem (λ i. adds values K O marks g f i x) (upto (size g)) s in there x lx (r .0) (upto-mem (size g) (r .1)) (r .2))
       (λ s. let r = back x lx s in mem-any (λ i. adds values K O marks g f i x) (upto (size g)) (mem-upto (size g) (r .1)) (r .2))
 
@@ -232,7 +227,7 @@ module _ (p : Puzzle) (small : size (p .grid) ≤ 1024) (values K O marks : List
   fence-list : map (litAt K) (filter (addsAmong values K O marks g f (size g)) (upto (size g))) ≡ map word (fence v f)
   unfolding fence cellsOf view viewWith
   fence-list =
-      ap (map (litAt K)) (filter-same _ (λ x. fenced v f R x (kind x)) (upto (size g)) (λ x m. among-is x (upto-mem (size g) m)))
+      ap (map (litAt K)) (filter-agree _ (λ x. fenced v f R x (kind x)) (upto (size g)) (λ x m. among-is x (upto-mem (size g) m)))
       ∙ sym (flat-filter (λ i. fenceAt v f R i (kind i)) (litAt K) (λ x. fenced v f R x (kind x)) (upto (size g)) (λ i m. fence-word v f R K i (kind i) (code i (upto-mem (size g) m))))
 
 length-lit : (K l : List ℕ) → length (map (litAt K) l) ≡ length l

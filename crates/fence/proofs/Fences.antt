@@ -5,7 +5,7 @@ use native.Mathlib.Decide.{ℕ-discrete, decLt}
 use native.Mathlib.Omega.{arith}
 use mathlib.Core.Logic.{_⊎_, inl, inr}
 use mathlib.Core.Path.{_≡_, refl, sym, ap, _∙_}
-use mathlib.Core.Bool.{Bool, true, false, So, cond, _&&_, _||_, not}
+use mathlib.Core.Bool.{Bool, true, false, So, cond, _&&_, _||_, not, or-false, or-assoc}
 use mathlib.Core.List.{List, [], _∷_, _++_, List·Memᴰ}
 use lib.Dec.{eqb, ltb}
 use lib.ListN.{length, getD}
@@ -13,17 +13,13 @@ use borrow.Author.Tests.{eqb-true, eq-eqb, ne-eqb, lt-ltb, le-ltb}
 use Rattle.grid.specs.Lists.{range, upto, filter, any}
 use Rattle.grid.specs.Grid.{Grid, neighbours}
 use Rattle.grid.proofs.ListLaws.{split, and-true, true-and, so-orl, so-orr, or-so, any-mem, mem-any}
-use Rattle.fence.specs.Inside.{key, Place, Inserted, litAt, Ordered, Whole, ofBlock, rivals, touched, adds, addsAmong}
-use Rattle.kinds.proofs.Filled.{any-append, any-more}
+use Rattle.grid.proofs.AppendLaws.{any-append, any-more}
+use Rattle.fence.specs.Inside.{key, Place, Inserted, litAt, Ordered, Whole, ofBlock, inDisturbing, touched, adds, addsAmong}
 use Rattle.fence.proofs.Ordering.{key-lit, ordered-same, found, absent, ordered-insert}
-
-or-none : (b : Bool) → b ≡ (b || false)
-or-none true = refl
-or-none false = refl
 
 -- nothing is added
 pub none-added : {K base part : List ℕ} {n c : ℕ} (t T : ℕ → Bool) → ((x : ℕ) → T x ≡ false) → Ordered K n base t part c → Ordered K n base (λ x. t x || T x) part c
-none-added t T e O = ordered-same t (λ x. t x || T x) (λ x l. rw (e x) (or-none (t x))) O
+none-added t T e O = ordered-same t (λ x. t x || T x) (λ x l. rw (e x) (sym (or-false (t x)))) O
 
 -- ---- whether an index is there
 module _ {K base part : List ℕ} {n c : ℕ} {t : ℕ → Bool} (O : Ordered K n base t part c) (i : ℕ) (l : i < n) where
@@ -83,7 +79,7 @@ module _ (K O : List ℕ) (e : ℕ) where
 
       by : (x : ℕ) → Dec (i ≡ x) → ((t x || (ofBlock K O e x && ltb x i)) || (ofBlock K O e i && eqb i x)) ≡ (t x || (ofBlock K O e x && ltb x (i + 1)))
       by x (yes q) = rw (← q, le-ltb i i (omega arith), lt-ltb i (i + 1) (omega arith), eq-eqb i i refl, and-no (ofBlock K O e i), and-yes (ofBlock K O e i)) (here (t i) (ofBlock K O e i))
-      by x (no q) = rw (ne-eqb i x q, and-no (ofBlock K O e i)) (sym (or-none _) ∙ ap (λ (b : Bool). t x || (ofBlock K O e x && b)) (low (decLt x i)))
+      by x (no q) = rw (ne-eqb i x q, and-no (ofBlock K O e i)) (or-false _ ∙ ap (λ (b : Bool). t x || (ofBlock K O e x && b)) (low (decLt x i)))
         where
           low : Dec (x < i) → ltb x i ≡ ltb x (i + 1)
           low (yes h) = lt-ltb x i h ∙ sym (lt-ltb x (i + 1) (omega arith))
@@ -94,73 +90,69 @@ module _ (K O : List ℕ) (e : ℕ) where
 
 -- ---- the arrow block of a neighbour
 module _ (K O : List ℕ) (f j : ℕ) where
-  pub rival-none : (getD K j 0 ≡ 1 → ⊥) → (x : ℕ) → rivals K O f j x ≡ false
-  unfolding rivals
-  rival-none h x = rw (ne-eqb (getD K j 0) 1 h)
+  pub disturbing-none : (getD K j 0 ≡ 1 → ⊥) → (x : ℕ) → inDisturbing K O f j x ≡ false
+  unfolding inDisturbing
+  disturbing-none h x = rw (ne-eqb (getD K j 0) 1 h)
 
-  pub rival-own : getD O j 0 ≡ f → (x : ℕ) → rivals K O f j x ≡ false
-  unfolding rivals
-  rival-own h x = rw (eq-eqb (getD O j 0) f h) (by (eqb (getD K j 0) 1))
+  pub disturbing-own : getD O j 0 ≡ f → (x : ℕ) → inDisturbing K O f j x ≡ false
+  unfolding inDisturbing
+  disturbing-own h x = rw (eq-eqb (getD O j 0) f h) (by (eqb (getD K j 0) 1))
     where
       by : (b : Bool) → (b && false && ofBlock K O (getD O j 0) x) ≡ false
       by true = refl
       by false = refl
 
-  -- what is said of a rival's cell
-  rival-says : (x : ℕ) → So (rivals K O f j x) → (getD K x 0 ≡ 1) × (getD O x 0 ≡ getD O j 0)
-  unfolding rivals ofBlock
-  rival-says x h =
+  -- what is said of a cell of a disturbing block
+  disturbing-says : (x : ℕ) → So (inDisturbing K O f j x) → (getD K x 0 ≡ 1) × (getD O x 0 ≡ getD O j 0)
+  unfolding inDisturbing ofBlock
+  disturbing-says x h =
       let a = and-true (eqb (getD K j 0) 1 && not (eqb (getD O j 0) f)) _ h in
       let b = and-true (eqb (getD K x 0) 1) _ (a .1) in
       (eqb-true (getD K x 0) 1 (b .0), eqb-true (getD O x 0) (getD O j 0) (b .1))
 
-  pub rival-old : {base part : List ℕ} {n c : ℕ} (t : ℕ → Bool) → Whole K O t → getD K j 0 ≡ 1 → t j ≡ true → Ordered K n base t part c → Ordered K n base (λ x. t x || rivals K O f j x) part c
-  rival-old t whole k s Q = ordered-same t (λ x. t x || rivals K O f j x) (λ x _. by x (split (rivals K O f j x))) Q
+  pub disturbing-old : {base part : List ℕ} {n c : ℕ} (t : ℕ → Bool) → Whole K O t → getD K j 0 ≡ 1 → t j ≡ true → Ordered K n base t part c → Ordered K n base (λ x. t x || inDisturbing K O f j x) part c
+  disturbing-old t whole k s Q = ordered-same t (λ x. t x || inDisturbing K O f j x) (λ x _. by x (split (inDisturbing K O f j x))) Q
     where
-      by : (x : ℕ) → (rivals K O f j x ≡ true) ⊎ (rivals K O f j x ≡ false) → t x ≡ (t x || rivals K O f j x)
-      by x (inl h) = let q = rival-says x h in rw (whole j x s k (q .0) (sym (q .1)))
-      by x (inr h) = rw h (or-none (t x))
+      by : (x : ℕ) → (inDisturbing K O f j x ≡ true) ⊎ (inDisturbing K O f j x ≡ false) → t x ≡ (t x || inDisturbing K O f j x)
+      by x (inl h) = let q = disturbing-says x h in rw (whole j x s k (q .0) (sym (q .1)))
+      by x (inr h) = rw h (sym (or-false (t x)))
 
-  pub rival-new : {base part : List ℕ} {n c : ℕ} (t : ℕ → Bool) → getD K j 0 ≡ 1 → (getD O j 0 ≡ f → ⊥) → Ordered K n base (λ x. t x || ofBlock K O (getD O j 0) x) part c → Ordered K n base (λ x. t x || rivals K O f j x) part c
-  unfolding rivals
-  rival-new t k ne Q = ordered-same (λ x. t x || ofBlock K O (getD O j 0) x) (λ x. t x || rivals K O f j x) (λ x _. rw (k, ne-eqb (getD O j 0) f ne)) Q
+  pub disturbing-new : {base part : List ℕ} {n c : ℕ} (t : ℕ → Bool) → getD K j 0 ≡ 1 → (getD O j 0 ≡ f → ⊥) → Ordered K n base (λ x. t x || ofBlock K O (getD O j 0) x) part c → Ordered K n base (λ x. t x || inDisturbing K O f j x) part c
+  unfolding inDisturbing
+  disturbing-new t k ne Q = ordered-same (λ x. t x || ofBlock K O (getD O j 0) x) (λ x. t x || inDisturbing K O f j x) (λ x _. rw (k, ne-eqb (getD O j 0) f ne)) Q
 
   -- it comes whole
-  rival-whole : (a b : ℕ) → So (rivals K O f j a) → getD K b 0 ≡ 1 → getD O a 0 ≡ getD O b 0 → So (rivals K O f j b)
-  unfolding rivals ofBlock
-  rival-whole a b h k o =
-      let q = rival-says a h in
+  disturbing-whole : (a b : ℕ) → So (inDisturbing K O f j a) → getD K b 0 ≡ 1 → getD O a 0 ≡ getD O b 0 → So (inDisturbing K O f j b)
+  unfolding inDisturbing ofBlock
+  disturbing-whole a b h k o =
+      let q = disturbing-says a h in
       let r = and-true (eqb (getD K j 0) 1 && not (eqb (getD O j 0) f)) _ h in
       true-and (r .0) (true-and (eq-eqb (getD K b 0) 1 k) (eq-eqb (getD O b 0) (getD O j 0) (sym o ∙ q .1)))
 
 -- ---- the arrow blocks of neighbours in turn
 module _ (K O : List ℕ) (f : ℕ) where
   -- a cell of one of the arrow blocks of the cells js other than f
-  abbrev pub rivalOf : List ℕ → ℕ → Bool
-  rivalOf js x = any (λ j. rivals K O f j x) js
+  abbrev pub inDisturbingAmong : List ℕ → ℕ → Bool
+  inDisturbingAmong js x = any (λ j. inDisturbing K O f j x) js
 
-  rivals-whole : (js : List ℕ) (a b : ℕ) → So (rivalOf js a) → getD K b 0 ≡ 1 → getD O a 0 ≡ getD O b 0 → So (rivalOf js b)
-  rivals-whole js a b h k o = let r = any-mem (λ j. rivals K O f j a) js h in mem-any (λ j. rivals K O f j b) js (r .1) (rival-whole K O f (r .0) a b (r .2) k o)
+  disturbing-among-whole : (js : List ℕ) (a b : ℕ) → So (inDisturbingAmong js a) → getD K b 0 ≡ 1 → getD O a 0 ≡ getD O b 0 → So (inDisturbingAmong js b)
+  disturbing-among-whole js a b h k o = let r = any-mem (λ j. inDisturbing K O f j a) js h in mem-any (λ j. inDisturbing K O f j b) js (r .1) (disturbing-whole K O f (r .0) a b (r .2) k o)
 
-  pub whole-rivals : (t : ℕ → Bool) (js : List ℕ) → Whole K O t → Whole K O (λ x. t x || rivalOf js x)
-  whole-rivals t js whole a b s ka kb o = by (or-so {a = t a} s)
+  pub whole-disturbing : (t : ℕ → Bool) (js : List ℕ) → Whole K O t → Whole K O (λ x. t x || inDisturbingAmong js x)
+  whole-disturbing t js whole a b s ka kb o = by (or-so {a = t a} s)
     where
-      by : So (t a) ⊎ So (rivalOf js a) → So (t b || rivalOf js b)
-      by (inl h) = so-orl (rivalOf js b) (whole a b h ka kb o)
-      by (inr h) = so-orr (t b) (rivals-whole js a b h kb o)
+      by : So (t a) ⊎ So (inDisturbingAmong js a) → So (t b || inDisturbingAmong js b)
+      by (inl h) = so-orl (inDisturbingAmong js b) (whole a b h ka kb o)
+      by (inr h) = so-orr (t b) (disturbing-among-whole js a b h kb o)
 
-  pub rivals-none : (x : ℕ) → rivalOf [] x ≡ false
+  pub disturbing-among-none : (x : ℕ) → inDisturbingAmong [] x ≡ false
   unfolding any
-  rivals-none x = refl
+  disturbing-among-none x = refl
 
-  pub rivals-more : {base part : List ℕ} {n c : ℕ} (t : ℕ → Bool) (js : List ℕ) (j : ℕ) → Ordered K n base (λ x. (t x || rivalOf js x) || rivals K O f j x) part c → Ordered K n base (λ x. t x || rivalOf (js ++ (j ∷ [])) x) part c
+  pub disturbing-among-more : {base part : List ℕ} {n c : ℕ} (t : ℕ → Bool) (js : List ℕ) (j : ℕ) → Ordered K n base (λ x. (t x || inDisturbingAmong js x) || inDisturbing K O f j x) part c → Ordered K n base (λ x. t x || inDisturbingAmong (js ++ (j ∷ [])) x) part c
   unfolding any
-  rivals-more t js j Q = ordered-same (λ x. (t x || rivalOf js x) || rivals K O f j x) (λ x. t x || rivalOf (js ++ (j ∷ [])) x)
-      (λ x _. or-assoc (t x) (rivalOf js x) (rivals K O f j x) ∙ ap (λ (b : Bool). t x || b) (ap (λ (b : Bool). rivalOf js x || b) (or-none (rivals K O f j x)) ∙ sym (any-append (λ k. rivals K O f k x) js (j ∷ [])))) Q
-    where
-      or-assoc : (a b c : Bool) → ((a || b) || c) ≡ (a || (b || c))
-      or-assoc true b c = refl
-      or-assoc false b c = refl
+  disturbing-among-more t js j Q = ordered-same (λ x. (t x || inDisturbingAmong js x) || inDisturbing K O f j x) (λ x. t x || inDisturbingAmong (js ++ (j ∷ [])) x)
+      (λ x _. or-assoc (t x) (inDisturbingAmong js x) (inDisturbing K O f j x) ∙ ap (λ (b : Bool). t x || b) (ap (λ (b : Bool). inDisturbingAmong js x || b) (sym (or-false (inDisturbing K O f j x))) ∙ sym (any-append (λ k. inDisturbing K O f k x) js (j ∷ [])))) Q
 
 -- ---- whether a neighbour is marked
 module _ (marks : List ℕ) where
@@ -187,7 +179,7 @@ module _ (cells K O marks : List ℕ) (g : Grid) (f i : ℕ) where
   unfolding adds
   adds-untouched h x = rw h (by (eqb (getD K i 0) 0) (eqb (getD cells i 0) 2))
     where
-      by : (a b : Bool) → cond a (false && eqb i x) (b && false && any (λ j. rivals K O f j x) (neighbours g i)) ≡ false
+      by : (a b : Bool) → cond a (false && eqb i x) (b && false && any (λ j. inDisturbing K O f j x) (neighbours g i)) ≡ false
       by true b = refl
       by false true = refl
       by false false = refl
@@ -206,10 +198,10 @@ module _ (cells K O marks : List ℕ) (g : Grid) (f i : ℕ) where
       (ordered-insert Q i i l (ap key lit ∙ key-lit K i (omega (arith, Q .small))) lit I)
 
   -- the other arrow blocks beside it
-  pub adds-rivals : {base part : List ℕ} {n c : ℕ} (t : ℕ → Bool) → (getD K i 0 ≡ 0 → ⊥) → getD cells i 0 ≡ 2 → touched marks g i ≡ true → Ordered K n base (λ x. t x || any (λ j. rivals K O f j x) (neighbours g i)) part c
+  pub adds-disturbing : {base part : List ℕ} {n c : ℕ} (t : ℕ → Bool) → (getD K i 0 ≡ 0 → ⊥) → getD cells i 0 ≡ 2 → touched marks g i ≡ true → Ordered K n base (λ x. t x || any (λ j. inDisturbing K O f j x) (neighbours g i)) part c
       → Ordered K n base (λ x. t x || adds cells K O marks g f i x) part c
   unfolding adds
-  adds-rivals t k e h Q = ordered-same (λ x. t x || any (λ j. rivals K O f j x) (neighbours g i)) (λ x. t x || adds cells K O marks g f i x) (λ x _. rw (ne-eqb (getD K i 0) 0 k, e, h)) Q
+  adds-disturbing t k e h Q = ordered-same (λ x. t x || any (λ j. inDisturbing K O f j x) (neighbours g i)) (λ x. t x || adds cells K O marks g f i x) (λ x _. rw (ne-eqb (getD K i 0) 0 k, e, h)) Q
 
   adds-whole : (a b : ℕ) → So (adds cells K O marks g f i a) → getD K a 0 ≡ 1 → getD K b 0 ≡ 1 → getD O a 0 ≡ getD O b 0 → So (adds cells K O marks g f i b)
   unfolding adds
@@ -221,9 +213,9 @@ module _ (cells K O marks : List ℕ) (g : Grid) (f i : ℕ) where
           let q : i ≡ a = eqb-true i a (and-true (touched marks g i) _ h .1) in
           absurd (omega (arith, ap (λ (y : ℕ). getD K y 0) q, k, ka))
       by (no k) =
-          let h : So (eqb (getD cells i 0) 2 && touched marks g i && any (λ j. rivals K O f j a) (neighbours g i)) = rw (ne-eqb (getD K i 0) 0 k) at s in
+          let h : So (eqb (getD cells i 0) 2 && touched marks g i && any (λ j. inDisturbing K O f j a) (neighbours g i)) = rw (ne-eqb (getD K i 0) 0 k) at s in
           let r = and-true (eqb (getD cells i 0) 2 && touched marks g i) _ h in
-          rw (ne-eqb (getD K i 0) 0 k) (true-and (r .0) (rivals-whole K O f (neighbours g i) a b (r .1) kb o))
+          rw (ne-eqb (getD K i 0) 0 k) (true-and (r .0) (disturbing-among-whole K O f (neighbours g i) a b (r .1) kb o))
 
 -- ---- the cells in row order
 module _ (cells K O marks : List ℕ) (g : Grid) (f : ℕ) where

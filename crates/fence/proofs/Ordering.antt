@@ -4,8 +4,8 @@ use Prim.Native.Nat.{ℕ, zero, suc, _+_, _-_, _≤_, _<_}
 use native.Mathlib.Omega.{arith}
 use mathlib.Core.Logic.{_⊎_, inl, inr}
 use mathlib.Core.Path.{_≡_, refl, sym, ap, _∙_, subst}
-use mathlib.Core.Bool.{Bool, true, false, So, cond, _||_}
-use mathlib.Core.List.{List, [], _∷_, _++_, map, List·Memᴰ, List·Memᴰ·head, List·Memᴰ·tail, List·Memᴰ·not-nil, List·Memᴰ·append-cases, Memᴰ·append-left, Memᴰ·append-right}
+use mathlib.Core.Bool.{Bool, true, false, So, cond, _||_, or-false}
+use mathlib.Core.List.{List, [], _∷_, _++_, map, List·Memᴰ, List·Memᴰ·head, List·Memᴰ·tail, List·Memᴰ·not-nil, List·Memᴰ·append-cases, Memᴰ·append-left, Memᴰ·append-right, map-append}
 use lib.Dec.{eqb}
 use lib.ListN.{length, getD, take, drop, take-append-drop, length-append}
 use lib.Seq.{getD-take, drop-drop}
@@ -13,9 +13,8 @@ use borrow.Author.Tests.{eqb-true, eq-eqb}
 use Rattle.grid.specs.Lists.{upto, filter}
 use Rattle.grid.proofs.ListLaws.{filter-mem, mem-filter, upto-mem, mem-upto, at-mem, so-orl, so-orr, or-so, filter-length, length-range}
 use Rattle.grid.proofs.RisingLaws.{Rising, nil, cons, range-rising, filter-rising}
+use Rattle.grid.proofs.AppendLaws.{filter-agree}
 use Rattle.fence.specs.Inside.{key, litAt, Place, Inserted, old, new, Ordered}
-use Rattle.kinds.proofs.Filled.{map-append}
-use Rattle.reach.proofs.Reaches.{filter-same}
 
 -- ---- rising lists
 
@@ -140,7 +139,7 @@ key-lit K i h = by (eqb (getD K i 0) 1)
 -- the same cells by another test
 pub ordered-same : {K base part : List ℕ} {n c : ℕ} (S T : ℕ → Bool) → ((j : ℕ) → j < n → S j ≡ T j) → Ordered K n base S part c → Ordered K n base T part c
 ordered-same {n = n} S T e O =
-    let q : filter S (upto n) ≡ filter T (upto n) = filter-same S T (upto n) (λ j m. e j (upto-mem n m)) in
+    let q : filter S (upto n) ≡ filter T (upto n) = filter-agree S T (upto n) (λ j m. e j (upto-mem n m)) in
     record { list = rw q at (O .list); number = rw q at (O .number); rest = O .rest; long = O .long; room = O .room; small = O .small }
 
 module _ {K base part : List ℕ} {n c : ℕ} {S : ℕ → Bool} (O : Ordered K n base S part c) where
@@ -234,11 +233,7 @@ module _ {K base part : List ℕ} {n c : ℕ} {S : ℕ → Bool} (O : Ordered K 
       where
         by : (j : ℕ) (b : Bool) → eqb i j ≡ b → S j ≡ (S j || b)
         by j true v = subst (λ (y : ℕ). S y ≡ (S y || true)) (eqb-true i j v) (rw (found p h q))
-        by j false v = or-none (S j)
-          where
-            or-none : (b : Bool) → b ≡ (b || false)
-            or-none true = refl
-            or-none false = refl
+        by j false v = sym (or-false (S j))
     ordered-insert {r} {part′} e (new {p} P ne w t d s) = record {
       list = t ∙ ap (λ (z : List ℕ). take p z ++ (x ∷ drop p z)) (O .list) ∙ rw (map-take (litAt K) p F, map-drop (litAt K) p F, e) (sym (map-append (litAt K) (take p F) (i ∷ drop p F)) ∙ ap (map (litAt K)) (same p P ne));
       number = omega (arith, w, O .number, longer p P ne, ap length (same p P ne));

@@ -65,8 +65,8 @@ module _ (kinds owners : List ℕ) where
   ofBlock e i = eqb (getD kinds i 0) 1 && eqb (getD owners i 0) e
 
   -- cell j is in an arrow block other than f, and x is in the same
-  unfoldable pub rivals : ℕ → ℕ → ℕ → Bool
-  rivals f j x = eqb (getD kinds j 0) 1 && not (eqb (getD owners j 0) f) && ofBlock (getD owners j 0) x
+  unfoldable pub inDisturbing : ℕ → ℕ → ℕ → Bool
+  inDisturbing f j x = eqb (getD kinds j 0) 1 && not (eqb (getD owners j 0) f) && ofBlock (getD owners j 0) x
 
 -- a neighbour of cell i is marked
 unfoldable pub touched : List ℕ → Grid → ℕ → Bool
@@ -77,7 +77,7 @@ module _ (cells kinds owners marks : List ℕ) (g : Grid) (f : ℕ) where
   unfoldable pub adds : ℕ → ℕ → Bool
   adds i x =
       cond (eqb (getD kinds i 0) 0) (touched marks g i && eqb i x)
-      (eqb (getD cells i 0) 2 && touched marks g i && any (λ j. rivals kinds owners f j x) (neighbours g i))
+      (eqb (getD cells i 0) 2 && touched marks g i && any (λ j. inDisturbing kinds owners f j x) (neighbours g i))
 
   -- one of the first k cells does
   unfoldable pub addsAmong : ℕ → ℕ → Bool

@@ -10,7 +10,7 @@ ghost use Rattle.grid.specs.Grid.{neighbours};
 ghost use Rattle.grid.specs.Side.{sized, InGrid};
 ghost use Rattle.kinds.specs.Kinds.{view, reachMask};
 ghost use Rattle.kinds.specs.Inside.{Limits, puzzleWith, Held};
-ghost use Rattle.fence.specs.Inside.{Place, Shifted, Inserted, Ordered, Room, Whole, ofBlock, rivals, touched, adds, Fenced};
+ghost use Rattle.fence.specs.Inside.{Place, Shifted, Inserted, Ordered, Room, Whole, ofBlock, inDisturbing, touched, adds, Fenced};
 use grid::Side;
 
 // The place of a literal among the first count of the part, which stand by rising index.
@@ -83,7 +83,8 @@ fn insert_cell(
     count: usize,
 ) -> usize
     requires { ⌜ (i < 1024) × (count < length (now part)) ⌝ }
-    ensures { λ r. ⌜ ((base : List ℕ) (n : ℕ) (t : ℕ → Bool) → i < n → Ordered (now (kinds .entry)) n base t (now (part .entry)) count → Ordered (now (kinds .entry)) n base (λ x. t x || (ofBlock (now (kinds .entry)) (now (owners .entry)) e i && eqb i x)) (now (part .exit)) r) ⌝ }
+    ensures { λ r. ⌜ ((base : List ℕ) (n : ℕ) (t : ℕ → Bool) → i < n → Ordered (now (kinds .entry)) n base t (now (part .entry)) count
+        → Ordered (now (kinds .entry)) n base (λ x. t x || (ofBlock (now (kinds .entry)) (now (owners .entry)) e i && eqb i x)) (now (part .exit)) r) ⌝ }
 {
     if kinds[i] != 1 {
         return count;
@@ -104,7 +105,8 @@ fn insert_block(
     count: usize,
 ) -> usize
     requires { ⌜ Room (now kinds) (now owners) n (now part) count ⌝ }
-    ensures { λ r. ⌜ ((base : List ℕ) (t : ℕ → Bool) → Ordered (now (kinds .entry)) n base t (now (part .entry)) count → Ordered (now (kinds .entry)) n base (λ x. t x || ofBlock (now (kinds .entry)) (now (owners .entry)) e x) (now (part .exit)) r) ⌝ }
+    ensures { λ r. ⌜ ((base : List ℕ) (t : ℕ → Bool) → Ordered (now (kinds .entry)) n base t (now (part .entry)) count
+        → Ordered (now (kinds .entry)) n base (λ x. t x || ofBlock (now (kinds .entry)) (now (owners .entry)) e x) (now (part .exit)) r) ⌝ }
 {
     let mut total = count;
     for i in 0..n {
@@ -114,7 +116,7 @@ fn insert_block(
 }
 
 // Inserts the arrow block of cell j, if it is in one other than f that is not there yet; the new count.
-fn insert_rival(
+fn insert_disturbing_block(
     kinds: &[u8; 1024],
     owners: &[u16; 1024],
     n: usize,
@@ -124,7 +126,9 @@ fn insert_rival(
     count: usize,
 ) -> usize
     requires { ⌜ (j < n) × Room (now kinds) (now owners) n (now part) count ⌝ }
-    ensures { λ r. ⌜ ((base : List ℕ) (t : ℕ → Bool) → Whole (now (kinds .entry)) (now (owners .entry)) t → Ordered (now (kinds .entry)) n base t (now (part .entry)) count → Ordered (now (kinds .entry)) n base (λ x. t x || rivals (now (kinds .entry)) (now (owners .entry)) f j x) (now (part .exit)) r) ⌝ }
+    ensures { λ r. ⌜ ((base : List ℕ) (t : ℕ → Bool) → Whole (now (kinds .entry)) (now (owners .entry)) t
+        → Ordered (now (kinds .entry)) n base t (now (part .entry)) count
+        → Ordered (now (kinds .entry)) n base (λ x. t x || inDisturbing (now (kinds .entry)) (now (owners .entry)) f j x) (now (part .exit)) r) ⌝ }
 {
     if kinds[j] != 1 {
         return count;
@@ -140,7 +144,7 @@ fn insert_rival(
 }
 
 // Inserts the arrow blocks other than f that cell i touches; the new count.
-fn insert_rivals(
+fn insert_disturbing_blocks(
     kinds: &[u8; 1024],
     owners: &[u16; 1024],
     h: usize,
@@ -151,7 +155,9 @@ fn insert_rivals(
     count: usize,
 ) -> usize
     requires { ⌜ InGrid h w i × Room (now kinds) (now owners) (h * w) (now part) count ⌝ }
-    ensures { λ r. ⌜ ((base : List ℕ) (t : ℕ → Bool) → Whole (now (kinds .entry)) (now (owners .entry)) t → Ordered (now (kinds .entry)) (h * w) base t (now (part .entry)) count → Ordered (now (kinds .entry)) (h * w) base (λ x. t x || any (λ j. rivals (now (kinds .entry)) (now (owners .entry)) f j x) (neighbours (sized h w) i)) (now (part .exit)) r) ⌝ }
+    ensures { λ r. ⌜ ((base : List ℕ) (t : ℕ → Bool) → Whole (now (kinds .entry)) (now (owners .entry)) t
+        → Ordered (now (kinds .entry)) (h * w) base t (now (part .entry)) count
+        → Ordered (now (kinds .entry)) (h * w) base (λ x. t x || any (λ j. inDisturbing (now (kinds .entry)) (now (owners .entry)) f j x) (neighbours (sized h w) i)) (now (part .exit)) r) ⌝ }
 {
     let n = h * w;
     let y = i / w;
@@ -161,7 +167,7 @@ fn insert_rivals(
         let side = grid::toward(h, w, y, x, k);
         match side {
             Side::At(j) => {
-                total = insert_rival(kinds, owners, n, f, j, part, total);
+                total = insert_disturbing_block(kinds, owners, n, f, j, part, total);
             }
             Side::Off => {}
         }
@@ -204,7 +210,9 @@ fn insert_fence_of(
     count: usize,
 ) -> usize
     requires { ⌜ InGrid h w i × Room (now kinds) (now owners) (h * w) (now part) count ⌝ }
-    ensures { λ r. ⌜ ((base : List ℕ) (t : ℕ → Bool) → Whole (now (kinds .entry)) (now (owners .entry)) t → Ordered (now (kinds .entry)) (h * w) base t (now (part .entry)) count → Ordered (now (kinds .entry)) (h * w) base (λ x. t x || adds (now (cells .entry)) (now (kinds .entry)) (now (owners .entry)) (now (marks .entry)) (sized h w) f i x) (now (part .exit)) r) ⌝ }
+    ensures { λ r. ⌜ ((base : List ℕ) (t : ℕ → Bool) → Whole (now (kinds .entry)) (now (owners .entry)) t
+        → Ordered (now (kinds .entry)) (h * w) base t (now (part .entry)) count
+        → Ordered (now (kinds .entry)) (h * w) base (λ x. t x || adds (now (cells .entry)) (now (kinds .entry)) (now (owners .entry)) (now (marks .entry)) (sized h w) f i x) (now (part .exit)) r) ⌝ }
 {
     if kinds[i] == 0 {
         if touches_marked(marks, h, w, i) {
@@ -216,7 +224,7 @@ fn insert_fence_of(
         return count;
     }
     if touches_marked(marks, h, w, i) {
-        return insert_rivals(kinds, owners, h, w, f, i, part, count);
+        return insert_disturbing_blocks(kinds, owners, h, w, f, i, part, count);
     }
     count
 }
@@ -233,7 +241,10 @@ pub fn reason_for_adjacent_floating_boundary(
     part: &mut [u16],
 ) -> usize
     requires { ⌜ Limits h w × (h * w < length (now part)) ⌝ }
-    ensures { λ r. ⌜ ((arrows : List (List ℕ)) → Held (view (puzzleWith (sized h w) arrows) (take (h * w) (now (cells .entry)))) (now (kinds .entry)) (now (owners .entry)) → now (marks .entry) ≡ reachMask (view (puzzleWith (sized h w) arrows) (take (h * w) (now (cells .entry)))) f → Fenced (view (puzzleWith (sized h w) arrows) (take (h * w) (now (cells .entry)))) f (now (part .entry)) (now (part .exit)) r) ⌝ }
+    ensures { λ r. ⌜ ((arrows : List (List ℕ))
+        → Held (view (puzzleWith (sized h w) arrows) (take (h * w) (now (cells .entry)))) (now (kinds .entry)) (now (owners .entry))
+        → now (marks .entry) ≡ reachMask (view (puzzleWith (sized h w) arrows) (take (h * w) (now (cells .entry)))) f
+        → Fenced (view (puzzleWith (sized h w) arrows) (take (h * w) (now (cells .entry)))) f (now (part .entry)) (now (part .exit)) r) ⌝ }
 {
     let n = h * w;
     let mut count: usize = 0;

@@ -3,39 +3,37 @@
 use Prim.Native.Nat.{ℕ, _+_, _*_, _≤_, _<_}
 use native.Mathlib.Omega.{arith}
 use native.Mathlib.Decide.{decLt}
-use mathlib.Core.Path.{_≡_, refl, sym, ap, _∙_}
-use mathlib.Core.Bool.{Bool, true, false, So, _&&_, and-false}
+use mathlib.Core.Path.{_≡_, refl, sym, _∙_}
+use mathlib.Core.Bool.{Bool, true, false}
 use mathlib.Core.Logic.{_↔_}
 use mathlib.Core.List.{List, [], _∷_, List·Memᴰ, List·Memᴰ·head, List·Memᴰ·tail}
-use mathlib.Core.Option.{Option, none, some}
-use lib.Dec.{eqb}
+use mathlib.Core.Option.{none, some}
 use lib.ListN.{length, getD, take, List·getD-eq-default}
 use lib.Seq.{getD-take, length-take-le}
 use borrow.Author.Tests.{eqb-true, le-ltb}
 use Rattle.grid.specs.Lists.{upto, all}
-use Rattle.grid.specs.Grid.{Grid, size}
-use Rattle.grid.proofs.ListLaws.{all-mem, mem-all, mem-upto, upto-mem, so-false}
+use Rattle.grid.specs.Grid.{size}
+use Rattle.grid.proofs.ListLaws.{all-mem, mem-upto, upto-mem, so-false}
 use Rattle.record.specs.Problem.{puzzleOf, gridOf}
-use Rattle.record.specs.Valid.{Valid}
 use Rattle.record.proofs.LineLaws.{valid-arrows}
 use Rattle.form.proofs.ProblemForm.{formed-valid, size-most}
-use Rattle.board.specs.Board.{Literal, undecided}
+use Rattle.grid.specs.Cells.{Literal, undecided}
+use Rattle.board.specs.Board.{enough}
 use Rattle.board.specs.Form.{wellFormed}
 use Rattle.board.specs.declared.Board.{Board}
-use Rattle.board.proofs.BoardLaws.{ValidCells, un-below}
 use Rattle.board.proofs.BoardForm.{whole-is}
 use Rattle.groups.specs.Rules.{BlockRules, rulesTest}
 use Rattle.groups.proofs.RulesLaws.{rules-test, test-rules}
 use Rattle.kinds.proofs.Bridge.{Setting}
 use Rattle.literals.specs.Literals.{Found}
-use Rattle.reasons.specs.Find.{cellsOn, reasonOn, enough, findRefusal, findOf}
+use Rattle.reasons.specs.Find.{cellsOn, reasonOn, findRefusal, findOf}
 use Rattle.literals.specs.Buffer.{findingBy}
 use Rattle.literals.specs.declared.Finding.the-variants.{Nothing, Reason, Refused}
 use Rattle.reasons.proofs.Sound.{complete}
 use Rattle.finished.specs.Finished.{Finished, keeps, keepsAll, finishedTest}
 use Rattle.finished.specs.Verdicts.{verdict, finishedOf}
 use Rattle.finished.specs.declared.Verdict.the-variants as verdicts
-use Rattle.finished.proofs.FinishedLaws.{Kept, kept, finished-means}
+use Rattle.finished.proofs.FinishedLaws.{kept, finished-means}
 
 -- 6
 pub finished-ill : (b : Board) → wellFormed b ≡ false → verdicts.Refused 6 ≡ finishedOf b

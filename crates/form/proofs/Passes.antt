@@ -3,15 +3,13 @@
 use Prim.Native.Nat.{ℕ, _+_, _≤_, _<_}
 use native.Mathlib.Numerals.{add-one}
 use mathlib.Core.Path.{_≡_, refl, _∙_}
-use native.Mathlib.Omega.{arith}
 use mathlib.Core.Bool.{Bool, true, false, cond, _&&_, and-false, and-true}
 use mathlib.Core.List.{List}
 use lib.Dec.{eqb, leb}
 use lib.ListN.{length, getD, drop, drop-of-length-le}
 use lib.Seq.{drop-cons}
 use borrow.Author.Tests.{lt-ltb, le-ltb}
-use Rattle.grid.specs.Lists.{all, last, member, upto}
-use Rattle.grid.proofs.ListLaws.{getD-range, length-range}
+use Rattle.grid.specs.Lists.{all, last, member}
 use Rattle.form.specs.Form.{rises, shown}
 use Rattle.form.specs.Inside.{Marks}
 
@@ -55,15 +53,6 @@ module _ (l : List ℕ) (at k : ℕ) where
   pub last-end : length l ≤ k → last at (drop k l) ≡ at
   unfolding last
   last-end h = rw (drop-of-length-le l {i = k} h) refl
-
--- the numbers below n, by place
-pub upto-at : (n i : ℕ) → i < n → getD (upto n) i 0 ≡ i
-unfolding upto
-upto-at n i h = getD-range 0 n i h ∙ omega arith
-
-pub upto-length : (n : ℕ) → length (upto n) ≡ n
-unfolding upto
-upto-length n = length-range 0 n
 
 -- what is right for a cell by its mark is right by the list that is marked
 pub right-shown : {listed marks : List ℕ} (cells : List ℕ) → Marks listed marks → (i : ℕ) → i < 1024

@@ -6,7 +6,7 @@ use native.Mathlib.Omega.{arith}
 use mathlib.Core.Logic.{_⊎_, inl, inr}
 use mathlib.Core.Path.{_≡_, refl, ap, _∙_}
 use mathlib.Core.Bool.{Bool, true, _&&_}
-use mathlib.Core.List.{List, [], _∷_, _++_, List·Memᴰ, List·Memᴰ·head, List·Memᴰ·tail, List·Memᴰ·append-cases, Memᴰ·append-left, Memᴰ·append-right, List·Memᴰ·cases-cons}
+use mathlib.Core.List.{List, [], _∷_, _++_, List·Memᴰ, List·Memᴰ·head, List·Memᴰ·tail, List·Memᴰ·append-cases, Memᴰ·append-left, Memᴰ·append-right}
 use lib.Dec.{leb, ltb}
 use lib.ListN.{length, take, drop, replicate, length-append, length-drop}
 use lib.Seq.{length-take-le, drop-drop, take-add}
@@ -19,7 +19,7 @@ use Rattle.record.specs.Record.{Puzzle}
 use Rattle.record.specs.Valid.{Walk, end, on, Fresh, arrow, Arrows, Valid}
 use Rattle.record.specs.Problem.{problemOf, puzzleOf, gridOf, arrowsFrom, endsFrom, arrowCells}
 use Rattle.record.specs.declared.Problem.{Problem}
-use Rattle.record.proofs.FreshLaws.{fewer, arrows-size, arrows-length}
+use Rattle.record.proofs.FreshLaws.{fewer, arrows-size, arrows-length, fresh-append}
 use Rattle.record.proofs.ProblemLaws.{length-ends, arrows-again}
 use Rattle.form.specs.Form.{long, behind, rises, fresh, walks, path, sized, coded, ended, drawn, problemFormed}
 use Rattle.form.proofs.ArrayTests.{behind-kept, kept-behind, fresh-is, is-fresh}
@@ -60,21 +60,6 @@ fresh-right {u} (j ∷ a) b (Fresh.cons h r) = fewer turn (fresh-right a b r)
         go (inl k) = Memᴰ·append-left (j ∷ u) k
         go (inr k) = Memᴰ·append-right a (List·Memᴰ·tail k)
 
-fresh-join : {u a b : List ℕ} → Fresh u a → Fresh (a ++ u) b → Fresh u (a ++ b)
-fresh-join Fresh.nil s = s
-fresh-join {u} (Fresh.cons {j} {js} h r) s = Fresh.cons h (fresh-join r (fewer turn s))
-  where
-    turn : (x : ℕ) → List·Memᴰ x (js ++ (j ∷ u)) → List·Memᴰ x (j ∷ (js ++ u))
-    turn x m = go (List·Memᴰ·append-cases js m)
-      where
-        later : (x ≡ j) ⊎ List·Memᴰ x u → List·Memᴰ x (j ∷ (js ++ u))
-        later (inl e) = List·Memᴰ·head e
-        later (inr k) = List·Memᴰ·tail (Memᴰ·append-right js k)
-
-        go : List·Memᴰ x js ⊎ List·Memᴰ x (j ∷ u) → List·Memᴰ x (j ∷ (js ++ u))
-        go (inl k) = List·Memᴰ·tail (Memᴰ·append-left u k)
-        go (inr k) = later (List·Memᴰ·cases-cons k)
-
 -- arrows that pass the tests
 arrows-is : (g : Grid) (u : List ℕ) (l : List (List ℕ)) → all nonempty l ≡ true → all (path g) l ≡ true
     → Fresh u (arrowCells l) → ((x : ℕ) → List·Memᴰ x (arrowCells l) → x < size g) → Arrows g u l
@@ -97,7 +82,7 @@ is-path {g} (Arrows.cons (arrow h w) f r) = true-and (is-walks g w) (is-path r)
 is-fresh-line : {g : Grid} {u : List ℕ} {l : List (List ℕ)} → Arrows g u l → Fresh u (arrowCells l)
 unfolding arrowCells flatMap
 is-fresh-line Arrows.nil = Fresh.nil
-is-fresh-line (Arrows.cons a f r) = fresh-join f (is-fresh-line r)
+is-fresh-line (Arrows.cons a f r) = fresh-append f (is-fresh-line r)
 
 -- ---- arrows cut out of a line
 
@@ -318,10 +303,10 @@ module _ (p : Puzzle) (v : Valid p) where
   few-ends : length (endsFrom 0 (p .arrows)) ≤ 1024
   few-ends = omega (arith, length-ends 0 (p .arrows), few-arrows (v .arrows), few-cells)
 
-  ends-taken : take (length (p .arrows)) (arrayOf 0 (endsFrom 0 (p .arrows))) ≡ endsFrom 0 (p .arrows)
+  pub ends-taken : take (length (p .arrows)) (arrayOf 0 (endsFrom 0 (p .arrows))) ≡ endsFrom 0 (p .arrows)
   ends-taken = rw (← length-ends 0 (p .arrows)) (array-take 0 (endsFrom 0 (p .arrows)))
 
-  last-end : last 0 (endsFrom 0 (p .arrows)) ≡ length (arrowCells (p .arrows))
+  pub last-end : last 0 (endsFrom 0 (p .arrows)) ≡ length (arrowCells (p .arrows))
   last-end = ends-last 0 (p .arrows) ∙ omega arith
 
   cells-taken : take (size (p .grid)) (arrayOf 0 (p .given)) ≡ p .given
@@ -340,7 +325,7 @@ module _ (p : Puzzle) (v : Valid p) where
       (true-and (le-leb (length (p .arrows)) 1024 (omega (arith, few-ends, length-ends 0 (p .arrows)))) (rw ends-taken (ends-rise 0 (v .arrows))))
       (kept-behind 0 (length (p .arrows)) (endsFrom 0 (p .arrows)) (length-ends 0 (p .arrows)))
 
-  line-below : (x : ℕ) → List·Memᴰ x (arrowCells (p .arrows)) → x < size (p .grid)
+  pub line-below : (x : ℕ) → List·Memᴰ x (arrowCells (p .arrows)) → x < size (p .grid)
   unfolding arrowCells
   line-below x m = let r = flatMap-mem (λ a. a) (p .arrows) m in arrows-size (v .arrows) (r .0) (r .1) x (r .2)
 

@@ -1,19 +1,19 @@
-// Tests of the arrays of a board: whether they are those of an accepted record, and whether those of decisions on its cells.
+// Tests of the arrays of a board: whether they are those of an accepted record, and the passes over one array.
 ghost use mathlib.Core.Path.{_≡_};
-ghost use mathlib.Core.Bool.{true, cond, _&&_};
-ghost use mathlib.Core.List.{List, []};
+ghost use mathlib.Core.Bool.{true};
+ghost use mathlib.Core.List.{[]};
 ghost use Prim.Native.Nat.{ℕ, _-_, _≤_, _<_};
-ghost use lib.Dec.{eqb, leb, ltb};
+ghost use lib.Dec.{ltb};
 ghost use lib.ListN.{length, take, drop};
-ghost use Rattle.grid.specs.Lists.{all, last, member, upto};
+ghost use Rattle.grid.specs.Lists.{all, last, member};
 ghost use Rattle.grid.specs.Grid.{Grid, size, neighbours};
 ghost use Rattle.record.specs.Problem.{arrowsFrom};
-ghost use Rattle.form.specs.Form.{behind, rises, fresh, path, sized, drawn, problemFormed, shown, stated, ordered};
+ghost use Rattle.form.specs.Form.{behind, rises, fresh, path, sized, drawn, problemFormed};
 ghost use Rattle.form.specs.Inside.{Blank, Marks, RowStarts, Suits, Below, Cut};
 
 // Whether v stands at every place from `from` on. Like the passes below it goes on to the end, since a pass without a way out is
 // done many places at a time.
-fn filled(a: &[u8; 1024], from: usize, v: u8) -> bool
+pub fn filled(a: &[u8; 1024], from: usize, v: u8) -> bool
     requires { ⌜ length (now a) ≡ 1024 ⌝ }
     ensures { λ r. ⌜ r ≡ behind v from (now (a .entry)) ⌝ }
 {
@@ -29,7 +29,7 @@ fn filled(a: &[u8; 1024], from: usize, v: u8) -> bool
 }
 
 // Whether 0 stands at every place from `from` on.
-fn zeros(a: &[u16; 1024], from: usize) -> bool
+pub fn zeros(a: &[u16; 1024], from: usize) -> bool
     requires { ⌜ length (now a) ≡ 1024 ⌝ }
     ensures { λ r. ⌜ r ≡ behind 0 from (now (a .entry)) ⌝ }
 {
@@ -85,7 +85,7 @@ fn rising(ends: &[u16; 1024], count: usize) -> Ends
 }
 
 // Marks the first `count` cells of the list; false where one is n or more, or is marked already.
-fn mark(marks: &mut [u8; 1024], list: &[u16; 1024], count: usize, n: usize) -> bool
+pub fn mark(marks: &mut [u8; 1024], list: &[u16; 1024], count: usize, n: usize) -> bool
     requires { ⌜ Blank (now marks) × (length (now list) ≡ 1024) × (count ≤ 1024) × (n ≤ 1024) ⌝ }
     ensures { λ r. ⌜ (r ≡ fresh n [] (take count (now (list .entry)))) × (r ≡ true → Marks (take count (now (list .entry))) (now (marks .exit))) ⌝ }
 {
@@ -145,7 +145,8 @@ fn follows<'a>(
     end: usize,
 ) -> bool
     requires { ⌜ (length (now line) ≡ 1024) × (at < end) × (end ≤ 1024) × (w ≤ 32) × Below end 1024 (now line) ⌝ }
-    ensures { λ r. ⌜ ((g : Grid) → Suits g w (now (starts .entry)) → Below end (size g) (now (line .entry)) → r ≡ path g (take (end - at) (drop at (now (line .entry))))) ⌝ }
+    ensures { λ r. ⌜ ((g : Grid) → Suits g w (now (starts .entry)) → Below end (size g) (now (line .entry))
+        → r ≡ path g (take (end - at) (drop at (now (line .entry))))) ⌝ }
 {
     let mut good = true;
     let mut i = grid::wide(line[at]);
@@ -170,7 +171,8 @@ fn all_follow<'a>(
     count: usize,
 ) -> bool
     requires { ⌜ (length (now arrows) ≡ 1024) × (length (now ends) ≡ 1024) × (count ≤ 1024) × (w ≤ 32) × Cut (take count (now ends)) (now arrows) ⌝ }
-    ensures { λ r. ⌜ ((g : Grid) → Suits g w (now (starts .entry)) → Below (last 0 (take count (now (ends .entry)))) (size g) (now (arrows .entry)) → r ≡ all (path g) (arrowsFrom (now (arrows .entry)) 0 (take count (now (ends .entry))))) ⌝ }
+    ensures { λ r. ⌜ ((g : Grid) → Suits g w (now (starts .entry)) → Below (last 0 (take count (now (ends .entry)))) (size g) (now (arrows .entry))
+        → r ≡ all (path g) (arrowsFrom (now (arrows .entry)) 0 (take count (now (ends .entry))))) ⌝ }
 {
     let mut good = true;
     let mut at: usize = 0;
@@ -182,32 +184,6 @@ fn all_follow<'a>(
         }
         at = end;
         k += 1;
-    }
-    good
-}
-
-// Whether the state v is right for a cell with this mark: empty or square where it is marked, else undecided.
-fn right(mark: u8, v: u8) -> bool
-    ensures { λ r. ⌜ r ≡ cond (eqb mark 0) (eqb v 2) (leb v 1) ⌝ }
-{
-    if mark == 0 {
-        return v == 2;
-    }
-    v <= 1
-}
-
-// Whether just the marked cells of the first n are decided.
-fn all_right<'a>(cells: &'a [u8; 1024], marks: &'a [u8; 1024], n: usize) -> bool
-    requires { ⌜ n ≤ 1024 ⌝ }
-    ensures { λ r. ⌜ ((listed : List ℕ) → Marks listed (now (marks .entry)) → r ≡ all (shown listed (now (cells .entry))) (upto n)) ⌝ }
-{
-    let mut good = true;
-    let mut i = 0;
-    while i < n {
-        if !right(marks[i], cells[i]) {
-            good = false;
-        }
-        i += 1;
     }
     good
 }
@@ -237,7 +213,8 @@ fn good_arrows<'a>(
     count: usize,
     total: usize,
 ) -> bool
-    requires { ⌜ (length (now arrows) ≡ 1024) × (length (now ends) ≡ 1024) × (n ≤ 1024) × (0 < w) × (w ≤ 32) × (count ≤ 1024) × (rises 0 (take count (now ends)) ≡ true) × (total ≡ last 0 (take count (now ends))) ⌝ }
+    requires { ⌜ (length (now arrows) ≡ 1024) × (length (now ends) ≡ 1024) × (n ≤ 1024) × (0 < w) × (w ≤ 32) × (count ≤ 1024)
+        × (rises 0 (take count (now ends)) ≡ true) × (total ≡ last 0 (take count (now ends))) ⌝ }
     ensures { λ r. ⌜ ((g : Grid) → g .width ≡ w → size g ≡ n → r ≡ drawn g (take count (now (ends .entry))) (now (arrows .entry))) ⌝ }
 {
     if 1024 < total {
@@ -289,30 +266,4 @@ pub fn good_problem<'a>(
         return false;
     }
     zeros(ends, count)
-}
-
-// Whether the states of the n cells and the order of the decisions agree.
-pub fn good_decisions<'a>(
-    n: usize,
-    decided: usize,
-    cells: &'a [u8; 1024],
-    order: &'a [u16; 1024],
-) -> bool
-    requires { ⌜ (n ≤ 1024) × (length (now cells) ≡ 1024) × (length (now order) ≡ 1024) ⌝ }
-    ensures { λ r. ⌜ r ≡ (ordered n decided (now (order .entry)) && stated n (take decided (now (order .entry))) (now (cells .entry))) ⌝ }
-{
-    if 1024 < decided {
-        return false;
-    }
-    let mut marks = [0u8; 1024];
-    if !mark(&mut marks, order, decided, n) {
-        return false;
-    }
-    if !zeros(order, decided) {
-        return false;
-    }
-    if !all_right(cells, &marks, n) {
-        return false;
-    }
-    filled(cells, n, 2)
 }

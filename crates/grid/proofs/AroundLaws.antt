@@ -7,8 +7,8 @@ use native.Mathlib.Numerals.{add-one}
 use mathlib.Core.Path.{_≡_, refl, sym, _∙_, subst}
 use mathlib.Core.Bool.{Bool, true, false}
 use mathlib.Core.List.{List, [], _∷_, _++_, append-assoc, append-nil, List·Memᴰ}
-use lib.ListN.{length, getD, set, take, replicate, length-append, length-replicate, List·getD-append}
-use lib.Seq.{take-append-seam, set-at}
+use lib.ListN.{length, getD, set, replicate, length-append, List·getD-append}
+use lib.Seq.{set-at}
 use Rattle.grid.specs.declared.Side.{Side}
 use Rattle.grid.specs.declared.Side.the-variants.{At, Off}
 use Rattle.grid.specs.Grid.{Grid, size, only, up, down, left, right, neighbours, Adjacent}
@@ -108,11 +108,6 @@ module _ (g : Grid) (i : ℕ) where
   unfolding aroundOf
   around-count = refl
 
-  -- the first places hold them
-  pub around-take : take (aroundOf g i .count) (aroundOf g i .cells) ≡ neighbours g i
-  unfolding aroundOf
-  around-take = take-append-seam (neighbours g i) _
-
   -- each in its place
   pub around-at : (k : ℕ) → k < aroundOf g i .count → getD (aroundOf g i .cells) k 0 ≡ getD (neighbours g i) k 0
   unfolding aroundOf
@@ -125,11 +120,6 @@ module _ (g : Grid) (i : ℕ) where
   -- .. and a cell of the grid
   pub around-in : i < size g → (k : ℕ) → k < aroundOf g i .count → getD (aroundOf g i .cells) k 0 < size g
   around-in l k h = on-grid g l (beside g i (around-mem k h))
-
-  -- there are four places
-  pub around-long : length (aroundOf g i .cells) ≡ 4
-  unfolding aroundOf
-  around-long = simp (length-append, length-replicate) (omega (arith, neighbours-few))
 
 -- ---- for callers that look in the four directions in turn. r is what `toward` answers in direction k, with the row and the column of cell i
 

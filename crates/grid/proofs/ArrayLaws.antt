@@ -1,11 +1,11 @@
 -- Lists kept in arrays of 1,024 places.
 -- Assumes nothing.
-use Prim.Native.Nat.{ℕ, zero, suc, _+_, _-_, _≤_, _<_}
+use Prim.Native.Nat.{ℕ, suc, _+_, _-_, _≤_, _<_}
 use native.Mathlib.Omega.{arith}
-use mathlib.Core.Path.{_≡_, refl, sym, ap, _∙_, subst}
+use mathlib.Core.Path.{_≡_, refl, sym, _∙_, subst}
 use mathlib.Core.List.{List, [], _∷_, _++_, append-assoc}
-use lib.ListN.{length, getD, set, take, drop, replicate, length-append, length-replicate, getD-replicate, List·getD-append, List·getD-eq-default}
-use lib.Seq.{take-append-seam, drop-append-seam, getD-append-add, set-append-left, set-at, take-at}
+use lib.ListN.{length, getD, set, take, drop, replicate, length-append, length-replicate, getD-replicate, List·getD-append}
+use lib.Seq.{take-append-seam, drop-append-seam, getD-append-add, set-append-left, set-at}
 use Rattle.grid.specs.Lists.{arrayOf}
 
 module _ {A : Type 0} (d : A) where
@@ -60,7 +60,3 @@ module _ {A : Type 0} (d : A) where
     where
       go : (m n : ℕ) → m ≡ suc n → set ((l ++ (a ∷ [])) ++ replicate n d) (length l) d ≡ l ++ replicate m d
       go m n e = rw (append-assoc l (a ∷ []) (replicate n d)) (rw e (set-at l a (replicate n d) d (length l) refl))
-
-  -- two lists of one length in equal arrays are equal
-  pub array-same : (l m : List A) → length l ≡ length m → arrayOf d l ≡ arrayOf d m → l ≡ m
-  array-same l m h e = sym (array-take l) ∙ rw (e, h) (array-take m)

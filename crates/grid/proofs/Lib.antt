@@ -1,4 +1,5 @@
 pub mod ListLaws
+pub mod AppendLaws
 pub mod Count
 pub mod Finite
 pub mod GridLaws
@@ -9,3 +10,4 @@ pub mod SideLaws
 pub mod ShiftLaws
 pub mod AroundLaws
 pub mod Turns
+pub mod CellLaws

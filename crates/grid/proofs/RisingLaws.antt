@@ -1,10 +1,9 @@
 -- Sets as rising lists: the cells of a grid rise, and so do those that pass a test.
 -- Assumes nothing.
 use Prim.Native.Nat.{ℕ, zero, suc, _<_}
-use native.Mathlib.Omega.{arith}
 use mathlib.Core.Bool.{Bool, true, false, cond}
 use mathlib.Core.List.{List, [], _∷_, List·Memᴰ}
-use Rattle.grid.specs.Lists.{range, upto, filter, Distinct}
+use Rattle.grid.specs.Lists.{range, upto, filter}
 use Rattle.grid.specs.Grid.{Grid, size, cellsOf}
 use Rattle.grid.proofs.ListLaws.{filter-mem, range-mem}
 
@@ -31,8 +30,3 @@ filter-rising p (cons {x} {xs} h r) = go (p x) (filter-rising p r)
 pub cells-rising : (g : Grid) → Rising (cellsOf g)
 unfolding cellsOf upto
 cells-rising g = range-rising 0 (size g)
-
--- a rising list has no member twice
-pub rising-distinct : {l : List ℕ} → Rising l → Distinct l
-rising-distinct nil = tt
-rising-distinct (cons {x} h r) = (λ m. let k : x < x = h x m in omega arith, rising-distinct r)

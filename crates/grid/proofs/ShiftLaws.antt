@@ -3,9 +3,9 @@
 use Prim.Native.Nat.{ℕ, zero, suc, _+_, _-_, _*_, _/_, _%_, _<_}
 use native.Mathlib.Omega.{arith}
 use native.Mathlib.Nat.{mod-lt, div-lt-iff-lt-mul}
-use mathlib.Core.Path.{_≡_, refl, sym, ap}
+use mathlib.Core.Path.{_≡_, refl, ap}
 use mathlib.Core.Logic.{_↔_}
-use mathlib.Core.Bool.{Bool, true, false, cond, So, _&&_, false≢true}
+use mathlib.Core.Bool.{Bool, true, false, cond, So, _&&_}
 use mathlib.Core.List.{List, List·Memᴰ}
 use lib.Arith.{digits-lt, digits-div, digits-mod}
 use lib.Dec.{eqb, ltb}
@@ -22,6 +22,7 @@ use Rattle.grid.specs.Side.{movedOf, placed, shiftedOf}
 use Rattle.grid.proofs.ListLaws.{and-true, true-and, any-mem, mem-any, member-mem, mem-member, so-false}
 use Rattle.grid.proofs.GridLaws.{width-pos, index}
 use Rattle.grid.proofs.SideLaws.{Reaches, moved-to, to-moved}
+use Rattle.grid.proofs.AppendLaws.{same-test}
 
 -- the way from one small number to another is small
 pub way-small : (a b : ℕ) → a < 1024 → b < 1024 → mag (pos b -ℤ pos a) < 1024
@@ -115,10 +116,6 @@ module _ (g : Grid) (f t c : ℕ) where
 unfoldable pub sideIn : Side → List ℕ → Bool
 sideIn (At d) r = member d r
 sideIn Off r = false
-
-same-test : (a b : Bool) → (So a → So b) → (So b → So a) → a ≡ b
-same-test true b f h = sym (f refl)
-same-test false b f h = sym (so-false b (λ k. false≢true (h k)))
 
 module _ (g : Grid) (f t c : ℕ) where
   -- the test by sums that is tried at each cell of a list

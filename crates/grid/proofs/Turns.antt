@@ -2,13 +2,13 @@
 -- Assumes nothing.
 use Prim.Native.Nat.{ℕ, _≤_, _<_}
 use native.Mathlib.Omega.{arith}
-use mathlib.Core.Path.{_≡_, refl, sym, ap, _∙_}
+use mathlib.Core.Path.{_≡_}
 use lib.ListN.{length, getD}
 use Rattle.grid.specs.Grid.{Grid, size, neighbours}
 use Rattle.grid.specs.Side.{sized, aroundOf, InGrid}
 use Rattle.grid.specs.declared.Around.{Around}
 use Rattle.grid.proofs.SideLaws.{area}
-use Rattle.grid.proofs.AroundLaws.{around-count, around-at, around-in, around-few, around-mem}
+use Rattle.grid.proofs.AroundLaws.{around-count, around-at, around-in, around-few}
 
 -- the k-th neighbour of the cell p
 pub record Turn (g : Grid) (p k : ℕ) (a : Around) : Type 0 where

@@ -2,3 +2,4 @@ pub mod Lists
 pub mod Link
 pub mod Grid
 pub mod Side
+pub mod Cells

@@ -1,5 +1,6 @@
 // A grid's cells, their four neighbours, and signed moves that stop at the edges.
 ghost use mathlib.Core.Path.{_≡_};
+ghost use mathlib.Core.Bool.{cond};
 ghost use Prim.Native.Nat.{_+_, _*_, _<_};
 ghost use lib.Signed.{mag};
 ghost use lib.IntN.{pos, _-ℤ_};
@@ -32,6 +33,13 @@ pub fn wide(x: u16) -> usize
     ensures { λ r. ⌜ r ≡ x ⌝ }
 {
     x as usize
+}
+
+// One of two numbers. A function of its own, so that it can be compiled without a branch: the choice is hard to predict where it is used.
+pub fn pick(first: bool, a: u16, b: u16) -> u16
+    ensures { λ r. ⌜ r ≡ cond first a b ⌝ }
+{
+    if first { a } else { b }
 }
 
 // The place `d` steps on, if it is not before the first and is below `limit`.
@@ -110,7 +118,7 @@ fn put(cells: [u16; 4], count: usize, j: u16) -> [u16; 4]
 }
 
 // The neighbours of the cell at row y, column x.
-pub fn neighbours_at(h: usize, w: usize, y: usize, x: usize) -> Around
+fn neighbours_at(h: usize, w: usize, y: usize, x: usize) -> Around
     requires { ⌜ InPlace h w y x ⌝ }
     ensures { λ r. ⌜ r ≡ aroundOf (sized h w) (y * w + x) ⌝ }
 {

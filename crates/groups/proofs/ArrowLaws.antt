@@ -10,7 +10,7 @@ use lib.ListN.{length, getD, take, drop, length-append, length-take, length-drop
 use lib.Seq.{getD-append-seam, getD-append-add, split-at, getD-take, getD-drop}
 use Rattle.grid.specs.Lists.{init, tail}
 use Rattle.grid.proofs.ListLaws.{so-false, mem-at, at-mem, length-init, length-tail, getD-init, getD-tail}
-use Rattle.board.specs.Board.{square}
+use Rattle.grid.specs.Cells.{square}
 use Rattle.groups.specs.Arrows.{Pair, pairsFrom, pairs}
 
 -- a pair of squares on an arrow a, with no square between

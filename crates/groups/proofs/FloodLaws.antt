@@ -1,15 +1,15 @@
 -- The mathematics of a flood: no code is named here.
 -- Assumes nothing.
 use Prim.Native.Nat.{ℕ, zero, suc, _+_, _-_, _*_, _/_, _%_, _≤_, _<_}
-use native.Mathlib.Decide.{ℕ-discrete, decLt}
+use native.Mathlib.Decide.{decLt}
 use native.Mathlib.Nat.{div-add-mod'}
 use native.Mathlib.Omega.{arith}
 use mathlib.Core.Path.{_≡_, refl, sym, ap, _∙_}
-use mathlib.Core.Bool.{Bool, true, false, So, cond}
+use mathlib.Core.Bool.{Bool, true, false, So, cond, false≢true}
 use mathlib.Core.Logic.{_⊎_, inl, inr}
 use mathlib.Core.List.{List, [], _∷_, List·Memᴰ, List·Memᴰ·head, List·Memᴰ·append-cases, List·Memᴰ·not-nil, List·Memᴰ·eq-of-singleton}
 use lib.Dec.{eqb}
-use lib.ListN.{length, getD, set, length-set, replicate, length-replicate, getD-replicate}
+use lib.ListN.{length, getD, set, length-set, replicate, length-replicate, getD-replicate, List·getD-eq-default}
 use lib.Seq.{getD-set-same, getD-set-other}
 use borrow.Author.Tests.{eq-eqb, ne-eqb}
 use Rattle.grid.specs.Link.{here, step, linked-end}
@@ -19,18 +19,11 @@ use Rattle.grid.specs.declared.Side.the-variants.{At}
 use Rattle.grid.proofs.GridLaws.{adj-sym}
 use Rattle.grid.proofs.SideLaws.{area, in-place, in-grid, beside-at, beside-in, towards-mem}
 use Rattle.grid.proofs.AroundLaws.{gathered, gathered-next, gathered-same, gathered-all}
+use Rattle.grid.proofs.AppendLaws.{by-eq}
 use Rattle.groups.specs.Groups.{Joined, noGroup}
-use Rattle.groups.specs.Flood.{free, Offered, skip, take, OfferedSide, beyond, within, Kept, same, new, Shut, Flooding, Right, none, some, Sofar, Spread, Ready}
+use Rattle.groups.specs.Flood.{unlabelled, free, Marked, Only, Offered, skip, take, OfferedSide, beyond, within, Kept, same, new, Shut, Flooding, Right, none, out, some, Sofar, Spread, Ready}
 use Rattle.groups.proofs.GroupLaws.{linked-size}
 use Rattle.groups.proofs.LabelLaws.{Components}
-
--- by cases on whether j is q
-by-eq : {P : Type 0} (j q : ℕ) → (j ≡ q → P) → ((j ≡ q → ⊥) → P) → P
-by-eq {P} j q f h = go (ℕ-discrete j q)
-  where
-    go : Dec (j ≡ q) → P
-    go (yes e) = f e
-    go (no ne) = h ne
 
 -- the entry at j after a store at q
 data Entry (L : List ℕ) (q v j : ℕ) : Type 0 where
@@ -41,10 +34,10 @@ at : (L : List ℕ) (q v j : ℕ) → q < length L → Entry L q v j
 at L q v j h = by-eq j q (λ e. hit e (rw e (getD-set-same L q v 0 h))) (λ ne. miss ne (getD-set-other L q j v 0 ne))
 
 -- a label is given: one entry fewer is free
-pub free-set : (L : List ℕ) (q s : ℕ) → getD L q 0 ≡ noGroup → (s ≡ noGroup → ⊥) → free (set L q s) + 1 ≡ free L
+pub free-set : (L : List ℕ) (q s : ℕ) → getD L q 0 ≡ unlabelled → (s ≡ unlabelled → ⊥) → free (set L q s) + 1 ≡ free L
 unfolding free
 free-set [] q s e ne = absurd (omega (arith, e))
-free-set (x ∷ xs) zero s e ne = rw (ne-eqb s noGroup ne, eq-eqb x noGroup e) (omega arith)
+free-set (x ∷ xs) zero s e ne = rw (ne-eqb s unlabelled ne, eq-eqb x unlabelled e) (omega arith)
 free-set (x ∷ xs) (suc q) s e ne = omega (arith, free-set xs q s e ne)
 
 one-le : (b : Bool) → cond b 1 0 ≤ 1
@@ -55,47 +48,55 @@ one-le false = omega arith
 pub free-le : (L : List ℕ) → free L ≤ length L
 unfolding free
 free-le [] = omega arith
-free-le (x ∷ xs) = omega (arith, free-le xs, one-le (eqb x noGroup))
+free-le (x ∷ xs) = omega (arith, free-le xs, one-le (eqb x unlabelled))
 
 -- an entry with no label is an entry
-below-long : (L : List ℕ) (q : ℕ) → getD L q 0 ≡ noGroup → q < length L
+below-long : (L : List ℕ) (q : ℕ) → getD L q 0 ≡ unlabelled → q < length L
 below-long [] q e = absurd (omega (arith, e))
 below-long (x ∷ xs) zero e = omega arith
 below-long (x ∷ xs) (suc q) e = omega (arith, below-long xs q e)
 
 -- a label that is there stays
-set-stays : (L : List ℕ) (q s : ℕ) → s < 1024 → getD L q 0 ≡ noGroup → (k : ℕ) → (getD L k 0 ≡ noGroup → ⊥) → getD (set L q s) k 0 ≡ noGroup → ⊥
+set-stays : (L : List ℕ) (q s : ℕ) → s < 1024 → getD L q 0 ≡ unlabelled → (k : ℕ) → (getD L k 0 ≡ unlabelled → ⊥) → getD (set L q s) k 0 ≡ unlabelled → ⊥
 set-stays L q s small u k h = go (at L q s k (below-long L q u))
   where
-    go : Entry L q s k → getD (set L q s) k 0 ≡ noGroup → ⊥
+    go : Entry L q s k → getD (set L q s) k 0 ≡ unlabelled → ⊥
     go (hit e v) x = omega (arith, v, x)
     go (miss ne v) x = h (sym v ∙ x)
 
 -- what one offer does
-module _ {p : ℕ → Bool} {q s : ℕ} {L st : List ℕ} {c : ℕ} {L′ st′ : List ℕ} {r : ℕ} (small : s < 1024) where
-  offered-room : Offered p q s L st c L′ st′ r → c + free L ≤ 1024 → r + free L′ ≤ 1024
+module _ {q s : ℕ} {L st : List ℕ} {c : ℕ} {L′ st′ : List ℕ} {r : ℕ} (small : s < 1024) where
+  offered-room : Offered q s L st c L′ st′ r → c + free L ≤ 1024 → r + free L′ ≤ 1024
   offered-room (skip no-go l t e) h = rw (l, e) h
-  offered-room (take o u l t e) h = rw (l, e) (omega (arith, free-set L q s u (λ x. omega (arith, x))))
+  offered-room (take u l t e) h = rw (l, e) (omega (arith, free-set L q s u (λ x. omega (arith, x))))
 
-  offered-falls : Offered p q s L st c L′ st′ r → 2 * free L′ + r ≤ 2 * free L + c
+  offered-falls : Offered q s L st c L′ st′ r → 2 * free L′ + r ≤ 2 * free L + c
   offered-falls (skip no-go l t e) = rw (l, e) (omega arith)
-  offered-falls (take o u l t e) = rw (l, e) (omega (arith, free-set L q s u (λ x. omega (arith, x))))
+  offered-falls (take u l t e) = rw (l, e) (omega (arith, free-set L q s u (λ x. omega (arith, x))))
 
-  offered-stays : Offered p q s L st c L′ st′ r → (k : ℕ) → (getD L k 0 ≡ noGroup → ⊥) → getD L′ k 0 ≡ noGroup → ⊥
+  offered-stays : Offered q s L st c L′ st′ r → (k : ℕ) → (getD L k 0 ≡ unlabelled → ⊥) → getD L′ k 0 ≡ unlabelled → ⊥
   offered-stays (skip no-go l t e) k h = rw l h
-  offered-stays (take o u l t e) k h = rw l (set-stays L q s small u k h)
+  offered-stays (take u l t e) k h = rw l (set-stays L q s small u k h)
 
-  pub offered-labelled : Offered p q s L st c L′ st′ r → So (p q) → getD L′ q 0 ≡ noGroup → ⊥
-  offered-labelled (skip no-go l t e) o = rw l (no-go o)
-  offered-labelled (take o′ u l t e) o = rw l (λ x. omega (arith, x, getD-set-same L q s 0 (below-long L q u)))
+  pub offered-labelled : Offered q s L st c L′ st′ r → getD L′ q 0 ≡ unlabelled → ⊥
+  offered-labelled (skip no-go l t e) = rw l no-go
+  offered-labelled (take u l t e) = rw l (λ x. omega (arith, x, getD-set-same L q s 0 (below-long L q u)))
 
   pub offered-keeps :
-      {g : Grid} {L₀ : List ℕ} {i : ℕ} → Offered p q s L st c L′ st′ r → (So (p q) → Joined g p s q) → Flooding g p s L₀ i L st c
+      {g : Grid} {p : ℕ → Bool} {L₀ : List ℕ} {i : ℕ} → Offered q s L st c L′ st′ r → (So (p q) → Joined g p s q) → Flooding g p s L₀ i L st c
       → Flooding g p s L₀ i L′ st′ r
-  offered-keeps (skip no-go l t e) linked F = rw (l, t, e) F
-  offered-keeps {g} {L₀} {i} (take o u l t e) linked F = rw (l, t, e) moved
+  offered-keeps {g} {p} {L₀} {i} (skip no-go l t e) linked F = rw (l, t, e) (record {
+    labels-long = F .labels-long;
+    stack-long = length-set st c q ∙ F .stack-long;
+    room = F .room;
+    only = F .only;
+    kept = F .kept;
+    waiting = λ t h. rw (getD-set-other st c t q 0 (λ f. omega (arith, f))) (F .waiting t h);
+    done = λ j h x gone. F .done j h x (λ t b y. gone t b (getD-set-other st c t q 0 (λ f. omega (arith, f)) ∙ y));
+  })
+  offered-keeps {g} {p} {L₀} {i} (take u l t e) linked F = rw (l, t, e) moved
     where
-      apart : s ≡ noGroup → ⊥
+      apart : s ≡ unlabelled → ⊥
       apart x = omega (arith, x)
 
       q-in : q < length L
@@ -105,9 +106,9 @@ module _ {p : ℕ → Bool} {q s : ℕ} {L st : List ℕ} {c : ℕ} {L′ st′ 
       c-in = omega (arith, free-set L q s u apart, F .room, F .stack-long)
 
       joined : Joined g p s q
-      joined = linked o
+      joined = linked (F .only q u .1)
 
-      was : Kept g p s L₀ L q → getD L₀ q 0 ≡ noGroup
+      was : Kept g p s L₀ L q → getD L₀ q 0 ≡ unlabelled
       was (same k) = sym k ∙ u
       was (new k₀ k n) = k₀
 
@@ -115,6 +116,10 @@ module _ {p : ℕ → Bool} {q s : ℕ} {L st : List ℕ} {c : ℕ} {L′ st′ 
       kept′ j k (hit e v) = new (rw e (was (F .kept q))) v (rw e joined)
       kept′ j (same k) (miss ne v) = same (v ∙ k)
       kept′ j (new k₀ k n) (miss ne v) = new k₀ (v ∙ k) n
+
+      only′ : (j : ℕ) → getD (set L q s) j 0 ≡ unlabelled → Entry L q s j → (j < size g) × So (p j)
+      only′ j x (hit e v) = absurd (omega (arith, x, v))
+      only′ j x (miss ne v) = F .only j (sym v ∙ x)
 
       waiting′ : (t : ℕ) → t < c + 1 → Entry st c q t → Joined g p s (getD (set st c q) t 0)
       waiting′ t h (hit e v) = rw v joined
@@ -131,6 +136,7 @@ module _ {p : ℕ → Bool} {q s : ℕ} {L st : List ℕ} {c : ℕ} {L′ st′ 
         labels-long = length-set L q s ∙ F .labels-long;
         stack-long = length-set st c q ∙ F .stack-long;
         room = omega (arith, free-set L q s u apart, F .room);
+        only = λ j x. only′ j x (at L q s j q-in);
         kept = λ j. kept′ j (F .kept j) (at L q s j q-in);
         waiting = λ t h. waiting′ t h (at st c q t c-in);
         done = λ j h x gone ne. done′ j h x gone ne (at L q s j q-in);
@@ -145,8 +151,8 @@ beside-small {h} {w} {y} {x} {q} k p e = omega (arith, beside-in (sized h w) (y 
 pub record Offers (g : Grid) (p : ℕ → Bool) (s i k : ℕ) (L st : List ℕ) (c : ℕ) (L′ st′ : List ℕ) (r : ℕ) : Type 0 where
   pub room : r + free L′ ≤ 1024
   falls : 2 * free L′ + r ≤ 2 * free L + c
-  stays : (j : ℕ) → (getD L j 0 ≡ noGroup → ⊥) → getD L′ j 0 ≡ noGroup → ⊥
-  labelled : (j : ℕ) → List·Memᴰ j (gathered g i k) → So (p j) → getD L′ j 0 ≡ noGroup → ⊥
+  stays : (j : ℕ) → (getD L j 0 ≡ unlabelled → ⊥) → getD L′ j 0 ≡ unlabelled → ⊥
+  labelled : (j : ℕ) → List·Memᴰ j (gathered g i k) → So (p j) → getD L′ j 0 ≡ unlabelled → ⊥
   keeps : (L₀ : List ℕ) → ((j : ℕ) → List·Memᴰ j (neighbours g i) → So (p j) → Joined g p s j) → Flooding g p s L₀ i L st c → Flooding g p s L₀ i L′ st′ r
 
 module _ {g : Grid} {p : ℕ → Bool} {s i : ℕ} {L st : List ℕ} {c : ℕ} where
@@ -164,7 +170,7 @@ module _ {g : Grid} {p : ℕ → Bool} {s i : ℕ} {L st : List ℕ} {c : ℕ} w
   -- one more
   pub offers-more :
       {k : ℕ} {L′ st′ : List ℕ} {r : ℕ} {L″ st″ : List ℕ} {r′ : ℕ} → s < 1024 → Offers g p s i k L st c L′ st′ r
-      → OfferedSide p (besideOf g i k) s L′ st′ r L″ st″ r′ → Offers g p s i (k + 1) L st c L″ st″ r′
+      → OfferedSide (besideOf g i k) s L′ st′ r L″ st″ r′ → Offers g p s i (k + 1) L st c L″ st″ r′
   offers-more {k} small O (beyond off l t e) = rw (l, t, e) (record {
     room = O .room;
     falls = O .falls;
@@ -180,9 +186,9 @@ module _ {g : Grid} {p : ℕ → Bool} {s i : ℕ} {L st : List ℕ} {c : ℕ} w
     keeps = λ L₀ near F. offered-keeps small o (near q (towards-mem g i k (rw (beside-at g i k q at-q) (List·Memᴰ·head refl)))) (O .keeps L₀ near F);
   }
     where
-      labelled′ : (j : ℕ) → List·Memᴰ j (gathered g i k) ⊎ List·Memᴰ j (q ∷ []) → So (p j) → getD L″ j 0 ≡ noGroup → ⊥
+      labelled′ : (j : ℕ) → List·Memᴰ j (gathered g i k) ⊎ List·Memᴰ j (q ∷ []) → So (p j) → getD L″ j 0 ≡ unlabelled → ⊥
       labelled′ j (inl m) = λ y. offered-stays small o j (O .labelled j m y)
-      labelled′ j (inr m) = rw (List·Memᴰ·eq-of-singleton m) (offered-labelled small o)
+      labelled′ j (inr m) = rw (List·Memᴰ·eq-of-singleton m) (λ _. offered-labelled small o)
 
 -- a cell is taken from the stack, and its neighbours are offered
 module _ {g : Grid} {p : ℕ → Bool} {s : ℕ} {L₀ : List ℕ} (fits : size g ≤ 1024) where
@@ -191,6 +197,7 @@ module _ {g : Grid} {p : ℕ → Bool} {s : ℕ} {L₀ : List ℕ} (fits : size 
     labels-long = F .labels-long;
     stack-long = F .stack-long;
     room = omega (arith, F .room);
+    only = F .only;
     kept = F .kept;
     waiting = λ t h. F .waiting t (omega arith);
     done = λ j h x gone ne. F .done j h x (λ t b y. by-eq t (c - 1) (λ e. ne (sym y ∙ ap (λ (m : ℕ). getD st m 0) e)) (λ e. gone t (omega arith) y)) (λ e. omega arith);
@@ -201,6 +208,7 @@ module _ {g : Grid} {p : ℕ → Bool} {s : ℕ} {L₀ : List ℕ} (fits : size 
     labels-long = F .labels-long;
     stack-long = F .stack-long;
     room = F .room;
+    only = F .only;
     kept = F .kept;
     waiting = F .waiting;
     done = λ j h x gone ne. by-eq j i (λ e. rw e shut) (λ a. F .done j h x gone a);
@@ -239,24 +247,26 @@ module _ {g : Grid} {p : ℕ → Bool} {s : ℕ} {L₀ : List ℕ} (fits : size 
     where
       go : Right g p s L₀ j → ⊥
       go (none e) = omega (arith, e, x)
+      go (out e never) = omega (arith, e, x)
       go (some lt le n) = omega (arith, lt, x)
 
-  pub flood-starts : (st : List ℕ) → length st ≡ 1024 → Flooding g p s L₀ 1024 L₀ st 0
+  pub flood-starts : (st : List ℕ) → length st ≡ 1025 → Flooding g p s L₀ 1024 L₀ st 0
   flood-starts st long = record {
     labels-long = S .labels-long;
     stack-long = long;
     room = omega (arith, free-le L₀, S .labels-long);
+    only = S .only;
     kept = λ j. same refl;
     waiting = λ t h. absurd (omega (arith, h));
     done = λ j h x gone ne. absurd (no-seed-yet j h x);
   }
 
   flood-ends :
-      {L : List ℕ} → length L ≡ 1024 → ((j : ℕ) → Kept g p s L₀ L j) → ((j : ℕ) → j < size g → getD L j 0 ≡ s → Shut g p L j)
-      → (So (p s) → getD L s 0 ≡ noGroup → ⊥) → Sofar g p (s + 1) L
-  flood-ends {L} long kept shut seed = record { labels-long = long; right = λ j h. right′ j (S .right j h) (kept j); full = full′; closed = closed′ }
+      {L : List ℕ} → length L ≡ 1024 → Only g p L → ((j : ℕ) → Kept g p s L₀ L j) → ((j : ℕ) → j < size g → getD L j 0 ≡ s → Shut g p L j)
+      → (So (p s) → getD L s 0 ≡ unlabelled → ⊥) → Sofar g p (s + 1) L
+  flood-ends {L} long only kept shut seed = record { labels-long = long; only = only; right = λ j h. right′ j (S .right j h) (kept j); full = full′; closed = closed′ }
     where
-      first : (j : ℕ) → getD L₀ j 0 ≡ noGroup → So (p j) → s ≤ j
+      first : (j : ℕ) → getD L₀ j 0 ≡ unlabelled → So (p j) → s ≤ j
       first j u o = by-lt (decLt j s)
         where
           by-lt : Dec (j < s) → s ≤ j
@@ -266,46 +276,92 @@ module _ {g : Grid} {p : ℕ → Bool} {s : ℕ} {L₀ : List ℕ} (fits : size 
       right′ : (j : ℕ) → Right g p s L₀ j → Kept g p s L₀ L j → Right g p (s + 1) L j
       right′ j a (new u v n) = some (omega (arith, v)) (omega (arith, v, first j u (linked-end n))) (rw v n)
       right′ j (none u) (same v) = none (v ∙ u)
+      right′ j (out u never) (same v) = out (v ∙ u) never
       right′ j (some lt le n) (same v) = some (omega (arith, v, lt)) (omega (arith, v, le)) (rw v n)
 
-      stays : (j : ℕ) → (getD L₀ j 0 ≡ noGroup → ⊥) → getD L j 0 ≡ getD L₀ j 0
+      stays : (j : ℕ) → (getD L₀ j 0 ≡ unlabelled → ⊥) → getD L j 0 ≡ getD L₀ j 0
       stays j ne = go (kept j)
         where
           go : Kept g p s L₀ L j → getD L j 0 ≡ getD L₀ j 0
           go (same v) = v
           go (new u v n) = absurd (ne u)
 
-      full′ : (j : ℕ) → j < s + 1 → So (p j) → getD L j 0 ≡ noGroup → ⊥
+      full′ : (j : ℕ) → j < s + 1 → So (p j) → getD L j 0 ≡ unlabelled → ⊥
       full′ j h o x = by-eq j s (λ q. seed (rw q at o) (rw q at x)) (λ ne. let old = S .full j (omega arith) o in old (sym (stays j old) ∙ x))
 
-      closed′ : (j k : ℕ) → Adjacent g j k → So (p j) → So (p k) → (getD L j 0 ≡ noGroup → ⊥) → getD L k 0 ≡ getD L j 0
+      closed′ : (j k : ℕ) → Adjacent g j k → So (p j) → So (p k) → (getD L j 0 ≡ unlabelled → ⊥) → getD L k 0 ≡ getD L j 0
       closed′ j k side oj ok lab = go (kept j) (kept k)
         where
           go : Kept g p s L₀ L j → Kept g p s L₀ L k → getD L k 0 ≡ getD L j 0
           go (same v) b =
-              let lab₀ : getD L₀ j 0 ≡ noGroup → ⊥ = λ x. lab (v ∙ x) in
+              let lab₀ : getD L₀ j 0 ≡ unlabelled → ⊥ = λ x. lab (v ∙ x) in
               let e₀ = S .closed j k side oj ok lab₀ in
               stays k (λ x. lab₀ (sym e₀ ∙ x)) ∙ e₀ ∙ sym v
           go (new u v n) (new u′ v′ n′) = v′ ∙ sym v
           go (new u v n) (same v′) =
-              let lab₀ : getD L₀ k 0 ≡ noGroup → ⊥ = λ x. shut j (side .0) v k side ok (v′ ∙ x) in
+              let lab₀ : getD L₀ k 0 ≡ unlabelled → ⊥ = λ x. shut j (side .0) v k side ok (v′ ∙ x) in
               absurd (lab₀ (sym (S .closed k j (adj-sym g j k side) ok oj lab₀) ∙ u))
 
-  pub flooding-ends : {L st : List ℕ} {c : ℕ} → c ≡ 0 → Flooding g p s L₀ 1024 L st c → (So (p s) → getD L s 0 ≡ noGroup → ⊥) → Sofar g p (s + 1) L
-  flooding-ends e F seed = flood-ends (F .labels-long) (F .kept) (λ j h x. F .done j h x (λ t b y. omega arith) (λ q. omega arith)) seed
+  pub flooding-ends : {L st : List ℕ} {c : ℕ} → c ≡ 0 → Flooding g p s L₀ 1024 L st c → (So (p s) → getD L s 0 ≡ unlabelled → ⊥) → Sofar g p (s + 1) L
+  flooding-ends e F seed = flood-ends (F .labels-long) (F .only) (F .kept) (λ j h x. F .done j h x (λ t b y. omega arith) (λ q. omega arith)) seed
+
+-- the cells are told one after the other
+pub marked-none : (p : ℕ → Bool) → Marked p 0 (replicate 1024 noGroup)
+marked-none p = record { long = length-replicate {A = ℕ} 1024 noGroup; below = λ j h. absurd (omega (arith, h)); behind = λ j l h. getD-replicate {A = ℕ} 1024 j noGroup 0 h }
+
+pub marked-more : {p : ℕ → Bool} {i v : ℕ} {L : List ℕ} → i < 1024 → v ≡ cond (p i) unlabelled noGroup → Marked p i L → Marked p (i + 1) (set L i v)
+marked-more {p} {i} {v} {L} h e T = record { long = length-set L i v ∙ T .long; below = λ j b. below′ j b (entry j); behind = λ j b l. behind′ j b l (entry j) }
+  where
+    entry : (j : ℕ) → Entry L i v j
+    entry j = at L i v j (omega (arith, T .long))
+
+    below′ : (j : ℕ) → j < i + 1 → Entry L i v j → getD (set L i v) j 0 ≡ cond (p j) unlabelled noGroup
+    below′ j b (hit q x) = x ∙ e ∙ ap (λ (m : ℕ). cond (p m) unlabelled noGroup) (sym q)
+    below′ j b (miss ne x) = x ∙ T .below j (omega (arith, ne))
+
+    behind′ : (j : ℕ) → i + 1 ≤ j → j < 1024 → Entry L i v j → getD (set L i v) j 0 ≡ noGroup
+    behind′ j b l (hit q x) = absurd (omega (arith, q))
+    behind′ j b l (miss ne x) = x ∙ T .behind j (omega arith) l
+
+-- an entry that tells whether its cell passes
+marked-so : (b : Bool) → cond b unlabelled noGroup ≡ unlabelled → So b
+marked-so true e = refl
+marked-so false e = absurd (omega (arith, e))
 
 -- before the first flood, and after the last
-pub sofar-none : {g : Grid} {p : ℕ → Bool} → size g ≤ 1024 → Sofar g p 0 (replicate 1024 noGroup)
-sofar-none {g} {p} fits = record {
-  labels-long = length-replicate {A = ℕ} 1024 noGroup;
-  right = λ j h. none (getD-replicate {A = ℕ} 1024 j noGroup 0 h);
-  full = λ j h. absurd (omega (arith, h));
-  closed = λ j k side oj ok lab. absurd (lab (getD-replicate {A = ℕ} 1024 j noGroup 0 (omega (arith, side .0))));
-}
+module _ (g : Grid) {p : ℕ → Bool} {L : List ℕ} (fits : size g ≤ 1024) (T : Marked p (size g) L) where
+  marked-only : Only g p L
+  marked-only j e = go (decLt j (size g)) (decLt j 1024)
+    where
+      go : Dec (j < size g) → Dec (j < 1024) → (j < size g) × So (p j)
+      go (yes l) _ = (l, marked-so (p j) (sym (T .below j l) ∙ e))
+      go (no l) (yes h) = absurd (omega (arith, e, T .behind j (omega arith) h))
+      go (no l) (no h) = absurd (omega (arith, e, List·getD-eq-default L 0 {n = j} (omega (arith, T .long))))
+
+  marked-yet : (j : ℕ) → j < size g → So (p j) → getD L j 0 ≡ unlabelled
+  marked-yet j l o = T .below j l ∙ rw o
+
+  pub sofar-none : Sofar g p 0 L
+  sofar-none = record {
+    labels-long = T .long;
+    only = marked-only;
+    right = λ j h. right′ j h (decLt j (size g));
+    full = λ j h. absurd (omega (arith, h));
+    closed = λ j k side oj ok lab. absurd (lab (marked-yet j (side .0) oj));
+  }
+    where
+      by : (j : ℕ) → j < size g → (b : Bool) → p j ≡ b → Right g p 0 L j
+      by j l true e = none (marked-yet j l e)
+      by j l false e = out (T .below j l ∙ rw e) (λ q. false≢true (sym e ∙ q .1))
+
+      right′ : (j : ℕ) → j < 1024 → Dec (j < size g) → Right g p 0 L j
+      right′ j h (yes l) = by j l (p j) refl
+      right′ j h (no l) = out (T .behind j (omega arith) h) (λ q. l (q .0))
 
 module _ {g : Grid} {p : ℕ → Bool} {L : List ℕ} (fits : size g ≤ 1024) (S : Sofar g p (size g) L) where
   own′ : (i : ℕ) → i < size g → So (p i) → Right g p (size g) L i → Joined g p (getD L i 0) i
   own′ i h o (none u) = absurd (S .full i h o u)
+  own′ i h o (out u never) = absurd (never (h, o))
   own′ i h o (some lt le n) = n
 
   alike : {i j : ℕ} → i < size g → Joined g p i j → getD L j 0 ≡ getD L i 0
@@ -314,10 +370,12 @@ module _ {g : Grid} {p : ℕ → Bool} {L : List ℕ} (fits : size g ≤ 1024) (
 
   least′ : (j : ℕ) → j < size g → So (p j) → Right g p (size g) L j → getD L j 0 ≤ j
   least′ j h o (none u) = absurd (S .full j h o u)
+  least′ j h o (out u never) = absurd (never (h, o))
   least′ j h o (some lt le n) = le
 
   none′ : (i : ℕ) → ((i < size g) × So (p i) → ⊥) → Right g p (size g) L i → getD L i 0 ≡ noGroup
-  none′ i ne (none u) = u
+  none′ i ne (none u) = absurd (ne (S .only i u))
+  none′ i ne (out u never) = u
   none′ i ne (some lt le n) = absurd (ne (linked-size g p lt n, linked-end n))
 
   pub components : Components g p L

@@ -10,13 +10,13 @@ use mathlib.Core.Bool.{Bool, true, false, So, false≢true}
 use mathlib.Core.List.{List, map}
 use lib.ListN.{length, getD, take}
 use lib.Seq.{ext-getD, getD-take}
-use Rattle.grid.specs.Link.{here, step, linked-end, linked-start, linked-map, linked-sym}
+use Rattle.grid.specs.Link.{here, linked-end, linked-start, linked-map, linked-sym}
 use Rattle.grid.specs.Lists.{upto}
-use Rattle.grid.specs.Grid.{Adjacent, Grid, size, cellsOf}
+use Rattle.grid.specs.Grid.{Grid, size, cellsOf}
 use Rattle.grid.proofs.ListLaws.{split, so-false, getD-map-range, length-map-range}
 use Rattle.grid.proofs.GridLaws.{adj-sym}
 use Rattle.grid.proofs.ArrayLaws.{array-length, array-in, array-out}
-use Rattle.board.specs.Board.{empty, square, filled}
+use Rattle.grid.specs.Cells.{empty, square, potential}
 use Rattle.groups.specs.Groups.{Joined, noGroup, labelAt, labelArray, counts}
 use Rattle.groups.proofs.GroupLaws.{label, label-linked, linked-label, label-own, label-least, linked-size}
 
@@ -119,14 +119,6 @@ module _ (g : Grid) (p : ℕ → Bool) where
   pub name-least : (i j : ℕ) → i < size g → Joined g p i j → getD (labelArray g p) i 0 ≤ j
   name-least i j h n = omega (arith, label-in i h (linked-start n), label-least g p i j h (linked-size g p h n) n)
 
-  -- and names itself
-  pub name-name : (i : ℕ) → i < size g → So (p i) → getD (labelArray g p) (getD (labelArray g p) i 0) 0 ≡ getD (labelArray g p) i 0
-  name-name i h o = sym (joined-name i (getD (labelArray g p) i 0) h (name-own i h o))
-
-  -- a neighbour that passes is of the same group
-  pub name-beside : (i j : ℕ) → Adjacent g i j → So (p i) → So (p j) → getD (labelArray g p) i 0 ≡ getD (labelArray g p) j 0
-  name-beside i j a o q = joined-name i j (a .0) (step (here o) a q)
-
 -- links and labels depend on the test at the grid's cells only
 pub joined-agree : (g : Grid) (p q : ℕ → Bool) → ((i : ℕ) → i < size g → p i ≡ q i) → (i j : ℕ) → i < size g → Joined g p i j → Joined g q i j
 joined-agree g p q agree i j h n = linked-map (λ x m. sym (agree x (linked-size g p h m)) ∙ linked-end m) n
@@ -141,7 +133,7 @@ labels-agree g p q fits agree = components-are g q fits (labelArray g p) (record
 
 -- a cell counts by its own entry
 pub counts-take : (b : Bool) (cells : List ℕ) (n i : ℕ) → i < n → counts b (take n cells) i ≡ counts b cells i
-unfolding counts filled empty square
+unfolding counts potential empty square
 counts-take b cells n i h = rw (getD-take n cells i 0 h)
 
 -- the labels of blocks, and of potential groups
@@ -149,6 +141,6 @@ pub labels-blocks : (g : Grid) (cells : List ℕ) → size g ≤ 1024 → labelA
 unfolding counts
 labels-blocks g cells fits = labels-agree g (counts false cells) (square cells) fits (λ i h. refl)
 
-pub labels-potential : (g : Grid) (cells : List ℕ) → size g ≤ 1024 → labelArray g (counts true cells) ≡ labelArray g (filled cells)
+pub labels-potential : (g : Grid) (cells : List ℕ) → size g ≤ 1024 → labelArray g (counts true cells) ≡ labelArray g (potential cells)
 unfolding counts
-labels-potential g cells fits = labels-agree g (counts true cells) (filled cells) fits (λ i h. refl)
+labels-potential g cells fits = labels-agree g (counts true cells) (potential cells) fits (λ i h. refl)

@@ -5,7 +5,7 @@ use native.Mathlib.Decide.{ℕ-discrete, decLt}
 use native.Mathlib.Numerals.{add-one}
 use native.Mathlib.Omega.{arith}
 use mathlib.Core.Path.{_≡_, refl, sym, ap, _∙_}
-use mathlib.Core.Bool.{Bool, true, false, cond, _||_}
+use mathlib.Core.Bool.{Bool, cond, _||_, or-false, or-true}
 use mathlib.Core.List.{List, [], _∷_, _++_, map, List·Memᴰ}
 use lib.Dec.{eqb}
 use lib.ListN.{length, getD, set, take, replicate, length-set, length-replicate, getD-replicate}
@@ -15,6 +15,7 @@ use Rattle.grid.specs.Lists.{upto, any, member, flatMap}
 use Rattle.grid.specs.Grid.{Grid, size, cellsOf}
 use Rattle.grid.proofs.ListLaws.{so-false, member-mem, getD-map-range, length-map-range}
 use Rattle.grid.proofs.ArrayLaws.{array-length, array-in, array-out}
+use Rattle.grid.proofs.AppendLaws.{any-append}
 use Rattle.record.specs.Problem.{arrowCells}
 use Rattle.groups.specs.Groups.{maskOf, marksOf}
 use Rattle.groups.specs.Arrows.{onArrow}
@@ -34,23 +35,6 @@ pub marks-none : replicate 1024 0 ≡ marksOf []
 unfolding member any
 marks-none = ext-getD 0 (replicate 1024 0) (marksOf []) (length-replicate {A = ℕ} 1024 0 ∙ sym (marks-length []))
     (λ i h. let k : i < 1024 = omega (arith, h, length-replicate {A = ℕ} 1024 0) in getD-replicate {A = ℕ} 1024 i 0 0 k ∙ sym (marks-at [] i k))
-
-or-false : (b : Bool) → (b || false) ≡ b
-or-false true = refl
-or-false false = refl
-
-or-true : (b : Bool) → (b || true) ≡ true
-or-true true = refl
-or-true false = refl
-
-or-assoc : (a b c : Bool) → ((a || b) || c) ≡ (a || (b || c))
-or-assoc true b c = refl
-or-assoc false b c = refl
-
-any-append : (p : ℕ → Bool) (a b : List ℕ) → any p (a ++ b) ≡ (any p a || any p b)
-unfolding any
-any-append p [] b = refl
-any-append p (x ∷ xs) b = ap (λ (t : Bool). p x || t) (any-append p xs b) ∙ sym (or-assoc (p x) (any p xs) (any p b))
 
 -- one more cell is listed
 member-snoc : (l : List ℕ) (x i : ℕ) → member i (l ++ (x ∷ [])) ≡ (member i l || eqb i x)

@@ -16,8 +16,8 @@ use Rattle.grid.proofs.ListLaws.{dec-so, only-one, single, in-single, of-single
 use Rattle.grid.specs.Link.{linked-end}
 use Rattle.grid.specs.Lists.{upto, filter, any, all, flatMap}
 use Rattle.record.specs.Record.{Puzzle}
-use Rattle.board.specs.Board.{square}
-use Rattle.board.proofs.BoardLaws.{sq-below}
+use Rattle.grid.specs.Cells.{square}
+use Rattle.grid.proofs.CellLaws.{sq-below}
 use Rattle.groups.proofs.GroupLaws.{group-distinct, label-own, group-linked, linked-group, names-own, own-names}
 use Rattle.groups.proofs.Shift.{Below, contains-map, contains-fits, fits-contains, taking, grown-size, size-grown}
 use Rattle.groups.specs.Groups.{labels, group, names}

@@ -9,7 +9,7 @@ use lib.ListN.{getD}
 use Rattle.grid.specs.Link.{Linked}
 use Rattle.grid.specs.Grid.{Adjacent, Grid, cellsOf, neighbours}
 use Rattle.grid.specs.Lists.{upto, filter, flatMap, member, arrayOf}
-use Rattle.board.specs.Board.{square, filled}
+use Rattle.grid.specs.Cells.{square, potential}
 
 -- i and j are joined by a chain of neighbours that all pass
 abbrev pub Joined : Grid → (ℕ → Bool) → ℕ → ℕ → Type 0
@@ -59,7 +59,7 @@ labelArray g p = arrayOf noGroup (map (labelAt g p) (cellsOf g))
 
 -- the cells that count: for potential groups those that aren't empty, for blocks the squares
 unfoldable pub counts : Bool → List ℕ → ℕ → Bool
-counts potential cells i = cond potential (filled cells i) (square cells i)
+counts isPotential cells i = cond isPotential (potential cells i) (square cells i)
 
 -- 1 for each cell that passes the test and 0 for each other, in an array
 unfoldable pub maskOf : Grid → (ℕ → Bool) → List ℕ

@@ -9,7 +9,7 @@ use lib.ListN.{length, getD}
 use Rattle.grid.specs.Lists.{any, all, filter, flatMap}
 use Rattle.grid.specs.Grid.{Grid, size, row, col}
 use Rattle.record.specs.Record.{Puzzle}
-use Rattle.board.specs.Board.{square}
+use Rattle.grid.specs.Cells.{square}
 use Rattle.groups.specs.Groups.{Joined, labels, group, names}
 use Rattle.groups.specs.Arrows.{onArrow, Pair, pairs}
 

@@ -2,16 +2,20 @@
 // named by its first cell in row order; cells are 0 empty, 1 square, 2 undecided. The arrays are
 // lent by the caller.
 ghost use mathlib.Core.Path.{_≡_};
-ghost use Prim.Native.Nat.{_+_, _*_, _≤_, _<_};
-ghost use lib.ListN.{length, take};
+ghost use Prim.Native.Nat.{ℕ, _+_, _*_, _≤_, _<_};
+ghost use mathlib.Core.Bool.{Bool, cond};
+ghost use lib.ListN.{length, take, replicate};
 ghost use Rattle.grid.specs.Side.{InGrid, InPlace, sized, besideOf};
-ghost use Rattle.groups.specs.Groups.{labelArray, counts, marksOf};
+ghost use Rattle.groups.specs.Groups.{labelArray, noGroup, counts, marksOf};
 ghost use Rattle.groups.specs.Arrows.{Line};
-ghost use Rattle.groups.specs.Flood.{free, Offerable, Offered, OfferedSide, Ready, Spread, Sofar};
+ghost use Rattle.groups.specs.Flood.{unlabelled, free, Marked, Offerable, Offered, OfferedSide, Ready, Spread, Sofar};
 use grid::Side;
 
 // The label of a cell that is in no group.
 pub const NO_GROUP: u16 = 1024;
+
+// Stands for the label of a cell that is in a group and has no label yet.
+const UNLABELLED: u16 = 1025;
 
 // Whether cell i is to be in a group: in a potential group if it isn't empty, in a block if it is a
 // square.
@@ -26,37 +30,54 @@ fn is_check_cell(cells: &[u8; 1024], is_potential: bool, i: usize) -> bool
     }
 }
 
-// Labels cell q and puts it on the stack if it is to be in a group and has no label yet. It is labelled
-// when it is put there, so that no cell stands on the stack twice.
-fn offer(
-    cells: &[u8; 1024],
-    is_potential: bool,
-    labels: &mut [u16; 1024],
-    stack: &mut [u16; 1024],
-    count: usize,
-    q: usize,
-    s: u16,
-) -> usize
-    requires { ⌜ Offerable q s (now labels) count ⌝ }
-    ensures { λ r. ⌜ Offered (counts «is_potential» (now (cells .entry))) q s (now (labels .entry)) (now (stack .entry)) count (now (labels .exit)) (now (stack .exit)) r ⌝ }
+// What stands in the place of the label of cell i before the first flood.
+fn first_label(cells: &[u8; 1024], is_potential: bool, i: usize) -> u16
+    requires { ⌜ i < 1024 ⌝ }
+    ensures { λ r. ⌜ r ≡ cond (counts «is_potential» (now (cells .entry)) i) unlabelled noGroup ⌝ }
 {
-    if labels[q] != NO_GROUP {
-        return count;
+    if is_check_cell(cells, is_potential, i) {
+        UNLABELLED
+    } else {
+        NO_GROUP
     }
-    if !is_check_cell(cells, is_potential, q) {
-        return count;
+}
+
+// Marks the cells below n that are to be in a group as not yet labelled, so that a flood reads one array only. Before, every cell is marked as in no group.
+fn mark_check_cells(cells: &[u8; 1024], is_potential: bool, n: usize, labels: &mut [u16; 1024])
+    requires { ⌜ (n ≤ 1024) × (now labels ≡ replicate 1024 noGroup) ⌝ }
+    ensures { λ _. ⌜ Marked (counts «is_potential» (now (cells .entry))) n (now (labels .exit)) ⌝ }
+{
+    for i in 0..n {
+        labels[i] = first_label(cells, is_potential, i);
     }
-    labels[q] = s;
+}
+
+// A count with one more, or without.
+fn count_with(count: usize, more: bool) -> usize
+    requires { ⌜ count ≤ 1024 ⌝ }
+    ensures { λ r. ⌜ r ≡ cond more (count + 1) count ⌝ }
+{
+    if more { count + 1 } else { count }
+}
+
+// Labels cell q and puts it on the stack if it is to be in a group and has no label yet. It is labelled
+// when it is put there, so that no cell stands on the stack twice. It is written behind the stack in any case,
+// and only counted if it is new.
+fn offer(labels: &mut [u16; 1024], stack: &mut [u16; 1025], count: usize, q: usize, s: u16) -> usize
+    requires { ⌜ Offerable q s (now labels) count ⌝ }
+    ensures { λ r. ⌜ Offered q s (now (labels .entry)) (now (stack .entry)) count (now (labels .exit)) (now (stack .exit)) r ⌝ }
+{
+    let label = labels[q];
+    let new = label == UNLABELLED;
     stack[count] = q as u16;
-    count + 1
+    labels[q] = grid::pick(new, s, label);
+    count_with(count, new)
 }
 
 // Offers the neighbour in direction k of the cell at row y, column x, if there is one.
 fn offer_toward(
-    cells: &[u8; 1024],
-    is_potential: bool,
     labels: &mut [u16; 1024],
-    stack: &mut [u16; 1024],
+    stack: &mut [u16; 1025],
     count: usize,
     h: usize,
     w: usize,
@@ -67,11 +88,11 @@ fn offer_toward(
 ) -> usize
     requires { ⌜ InPlace h w y x × (k < 4) ⌝ }
     requires { ⌜ (s < 1024) × (count + free (now labels) ≤ 1024) ⌝ }
-    ensures { λ r. ⌜ OfferedSide (counts «is_potential» (now (cells .entry))) (besideOf (sized h w) (y * w + x) k) s (now (labels .entry)) (now (stack .entry)) count (now (labels .exit)) (now (stack .exit)) r ⌝ }
+    ensures { λ r. ⌜ OfferedSide (besideOf (sized h w) (y * w + x) k) s (now (labels .entry)) (now (stack .entry)) count (now (labels .exit)) (now (stack .exit)) r ⌝ }
 {
     let side = grid::toward(h, w, y, x, k);
     match side {
-        Side::At(q) => offer(cells, is_potential, labels, stack, count, q, s),
+        Side::At(q) => offer(labels, stack, count, q, s),
         Side::Off => count,
     }
 }
@@ -79,60 +100,38 @@ fn offer_toward(
 // Takes a cell from the stack and offers its four neighbours in turn. Its row and column are found once
 // for all of them.
 fn spread(
-    cells: &[u8; 1024],
-    is_potential: bool,
     labels: &mut [u16; 1024],
-    stack: &mut [u16; 1024],
+    stack: &mut [u16; 1025],
     count: usize,
     h: usize,
     w: usize,
     s: u16,
 ) -> usize
     requires { ⌜ Ready h w s (now labels) (now stack) count ⌝ }
-    ensures { λ r. ⌜ Spread (sized h w) (counts «is_potential» (now (cells .entry))) s (now (labels .entry)) (now (stack .entry)) count (now (labels .exit)) (now (stack .exit)) r ⌝ }
+    ensures { λ r. ⌜ ((p : ℕ → Bool) → Spread (sized h w) p s (now (labels .entry)) (now (stack .entry)) count (now (labels .exit)) (now (stack .exit)) r) ⌝ }
 {
     let mut waiting = count - 1;
     let i = grid::wide(stack[waiting]);
     let y = i / w;
     let x = i % w;
     for k in 0..4 {
-        waiting = offer_toward(
-            cells,
-            is_potential,
-            labels,
-            stack,
-            waiting,
-            h,
-            w,
-            y,
-            x,
-            k,
-            s,
-        );
+        waiting = offer_toward(labels, stack, waiting, h, w, y, x, k, s);
     }
     waiting
 }
 
 // Labels the group of cell s with s, unless s is in no group or has a label.
-fn flood(
-    cells: &[u8; 1024],
-    is_potential: bool,
-    labels: &mut [u16; 1024],
-    stack: &mut [u16; 1024],
-    h: usize,
-    w: usize,
-    s: usize,
-)
+fn flood(labels: &mut [u16; 1024], stack: &mut [u16; 1025], h: usize, w: usize, s: usize)
     requires { ⌜ InGrid h w s ⌝ }
-    requires { ⌜ Sofar (sized h w) (counts «is_potential» (now cells)) s (now labels) ⌝ }
-    requires { ⌜ length (now stack) ≡ 1024 ⌝ }
-    ensures { λ _. ⌜ Sofar (sized h w) (counts «is_potential» (now (cells .entry))) (s + 1) (now (labels .exit)) ⌝ }
-    ensures { λ _. ⌜ length (now (stack .exit)) ≡ 1024 ⌝ }
+    requires { ⌜ ((p : ℕ → Bool) × Sofar (sized h w) p s (now labels)) ⌝ }
+    requires { ⌜ length (now stack) ≡ 1025 ⌝ }
+    ensures { λ _. ⌜ ((p : ℕ → Bool) → Sofar (sized h w) p s (now (labels .entry)) → Sofar (sized h w) p (s + 1) (now (labels .exit))) ⌝ }
+    ensures { λ _. ⌜ length (now (stack .exit)) ≡ 1025 ⌝ }
 {
     let seed = s as u16;
-    let mut count = offer(cells, is_potential, labels, stack, 0, s, seed);
+    let mut count = offer(labels, stack, 0, s, seed);
     while count > 0 {
-        count = spread(cells, is_potential, labels, stack, count, h, w, seed);
+        count = spread(labels, stack, count, h, w, seed);
     }
 }
 
@@ -149,10 +148,11 @@ pub fn compute_connected_components(
     ensures { λ _. ⌜ now (labels .exit) ≡ labelArray (sized h w) (counts «is_potential» (take (h * w) (now (cells .entry)))) ⌝ }
 {
     let n = h * w;
-    let mut stack = [0u16; 1024];
+    let mut stack = [0u16; 1025];
     *labels = [NO_GROUP; 1024];
+    mark_check_cells(cells, is_potential, n, labels);
     for s in 0..n {
-        flood(cells, is_potential, labels, &mut stack, h, w, s);
+        flood(labels, &mut stack, h, w, s);
     }
 }
 

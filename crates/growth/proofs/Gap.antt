@@ -1,4 +1,4 @@
--- The gap: the most undecided cells, no two consecutive. What mostApart counts is the most, and greed finds it.
+-- The gap: the most undecided cells, no two consecutive. What mostApart counts is the most, and counting each undecided cell unless the one before it was counted gives it.
 -- Assumes nothing.
 use Prim.Native.Nat.{ℕ, zero, suc, _+_, _≤_, _<_, zero-le, max}
 use mathlib.Core.Path.{_≡_, refl, sym, ap, _∙_}
@@ -12,7 +12,7 @@ use borrow.Author.Tests.{eq-eqb, ne-eqb}
 use mathlib.Core.Option.{some}
 use Rattle.grid.proofs.Count.{count, bump-yes, bump-no, count-front}
 use Rattle.grid.proofs.ListLaws.{dec-so, so-false}
-use Rattle.board.specs.Board.{undecided}
+use Rattle.grid.specs.Cells.{undecided}
 use Rattle.growth.specs.Growth.{mostApart}
 
 -- S is a choice of positions below w that satisfy U, no two consecutive

@@ -4,4 +4,3 @@ pub mod PairNames
 pub mod PairChecks
 pub mod PairFinds
 pub mod PairSizes
-pub mod PairSearch

@@ -11,7 +11,8 @@ use lib.Seq.{slice, getD-take}
 use borrow.Author.Tests.{lt-ltb, le-ltb}
 use Rattle.grid.specs.Lists.{filter, init, tail}
 use Rattle.grid.specs.Grid.{size}
-use Rattle.board.specs.Board.{Literal, empty, undecided}
+use Rattle.grid.proofs.AppendLaws.{filter-agree}
+use Rattle.grid.specs.Cells.{Literal, empty, undecided}
 use Rattle.groups.specs.Arrows.{Pair}
 use Rattle.kinds.specs.Kinds.{View, view, viewWith, block, reach, fence, word}
 use Rattle.kinds.specs.Inside.{Held}
@@ -19,40 +20,40 @@ use Rattle.fence.specs.Inside.{Fenced}
 use Rattle.literals.specs.Buffer.{Wrote}
 use Rattle.growth.specs.Pairs.{pairAt, viewOn, blockCellFence}
 use Rattle.growth.specs.Growth.{reason4aAt, reason4bAt, mostApart, blockName, reasonGrow, reason3At, gap, reasonShrink}
-use Rattle.literals.specs.Literals.{given, each}
+use Rattle.literals.specs.Literals.{reasonIf, each}
 use Rattle.shift.specs.Shift.{blockIn, shiftFits}
 use Rattle.literals.proofs.BufferLaws.{wrote-more}
 use Rattle.growth.proofs.PairPlaces.{slice-tail, slice-init}
-use Rattle.kinds.proofs.BlockArrays.{block-by, filter-agree}
+use Rattle.kinds.proofs.BlockArrays.{block-by}
 
 -- the pair p, and the names f and e of the blocks of its squares
 module _ (v : View) (p : Pair) (f e : ℕ) (last : f ≡ getD (v .blocks) (p .last) 0) (cur : e ≡ getD (v .blocks) (p .cur) 0) where
   -- some shift of last's block lies in cur's reach, or none
   pub shift-none : shiftFits v f e ≡ true → reason3At v p ≡ none
-  unfolding reason3At blockName given shiftFits
+  unfolding reason3At blockName reasonIf shiftFits
   shift-none t = rw (← last, ← cur, t) refl
 
   pub shift-some : shiftFits v f e ≡ false → reason3At v p ≡ some (blockCellFence v f (p .cur) e)
-  unfolding reason3At reasonGrow blockName given blockCellFence shiftFits
+  unfolding reason3At reasonGrow blockName reasonIf blockCellFence shiftFits
   shift-some t = rw (← last, ← cur, t) refl
 
   -- cur's reach is large enough, or not
   pub growth-none : length (block v f) + 1 ≤ length (reach v e) → reason4aAt v p ≡ none
-  unfolding reason4aAt blockName given
+  unfolding reason4aAt blockName reasonIf
   growth-none h = rw (← last, ← cur, le-ltb (length (reach v e)) (length (block v f) + 1) h) refl
 
   pub growth-some : length (reach v e) < length (block v f) + 1 → reason4aAt v p ≡ some (blockCellFence v f (p .cur) e)
-  unfolding reason4aAt reasonGrow blockName given blockCellFence
+  unfolding reason4aAt reasonGrow blockName reasonIf blockCellFence
   growth-some h = rw (← last, ← cur, lt-ltb (length (reach v e)) (length (block v f) + 1) h) refl
 
   -- last's reach with the gap is large enough, or not
   pub gap-none : length (block v e) ≤ length (reach v f) + 1 + mostApart (v .cells) false (gap p) → reason4bAt v p ≡ none
-  unfolding reason4bAt blockName given
+  unfolding reason4bAt blockName reasonIf
   gap-none h = rw (← last, ← cur, le-ltb (length (reach v f) + 1 + mostApart (v .cells) false (gap p)) (length (block v e)) h) refl
 
   pub gap-some : length (reach v f) + 1 + mostApart (v .cells) false (gap p) < length (block v e)
       → reason4bAt v p ≡ some (blockCellFence v e (p .last) f ++ each 0 (filter (empty (v .cells)) (gap p)))
-  unfolding reason4bAt reasonShrink blockName given blockCellFence
+  unfolding reason4bAt reasonShrink blockName reasonIf blockCellFence
   gap-some h = rw (← last, ← cur, lt-ltb (length (reach v f) + 1 + mostApart (v .cells) false (gap p)) (length (block v e)) h) refl
 
 -- ---- the gap, by places and in the array of cells

@@ -8,7 +8,7 @@ use mathlib.Core.List.{List, _++_, List·Memᴰ}
 use lib.ListN.{length, getD}
 use lib.Seq.{slice}
 use Rattle.grid.specs.Lists.{filter}
-use Rattle.board.specs.Board.{empty, square}
+use Rattle.grid.specs.Cells.{empty, square}
 use Rattle.groups.specs.Arrows.{Pair, CellArray}
 use Rattle.kinds.specs.Kinds.{View, view, viewWith, block, reach}
 use Rattle.literals.specs.Buffer.{Wrote, FoundAs}

@@ -15,7 +15,7 @@ use Rattle.grid.specs.Link.{linked-end}
 use Rattle.grid.proofs.ListLaws.{true-and, mem-any, getD-map-range}
 use Rattle.grid.proofs.GridLaws.{in-cells}
 use Rattle.record.specs.Record.{Puzzle}
-use Rattle.board.specs.Board.{empty, square}
+use Rattle.grid.specs.Cells.{empty, square}
 use Rattle.groups.specs.Groups.{labels}
 use Rattle.groups.specs.Arrows.{onArrow}
 use Rattle.groups.proofs.GroupLaws.{linked-size, label-own, label-linked}

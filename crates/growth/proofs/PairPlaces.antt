@@ -12,7 +12,8 @@ use lib.ListN.{length, getD, take, drop, take-append-drop}
 use lib.Seq.{slice, slice-cons, slice-empty, length-slice, length-take-le, take-take, drop-append-le, getD-take, getD-drop}
 use Rattle.grid.specs.Lists.{init, tail}
 use Rattle.grid.proofs.ListLaws.{mem-at}
-use Rattle.board.specs.Board.{square}
+use Rattle.grid.proofs.AppendLaws.{init-more}
+use Rattle.grid.specs.Cells.{square}
 use Rattle.groups.specs.Arrows.{pairs, pairsFrom}
 use Rattle.growth.specs.Pairs.{pairAt, NextSquare}
 use Rattle.literals.proofs.Pass.{slice-more, slice-none}
@@ -41,12 +42,6 @@ module _ (l : List ℕ) where
       go : Dec (a < t) → tail (slice a t l) ≡ slice (suc a) t l
       go (yes h) = rw (slice-cons a t l 0 h r) refl
       go (no h) = rw (slice-none l a t (omega arith), slice-none l (suc a) t (omega arith)) refl
-
-init-more : (l : List ℕ) (x : ℕ) → init (l ++ (x ∷ [])) ≡ l
-unfolding init
-init-more [] x = refl
-init-more (y ∷ []) x = refl
-init-more (y ∷ z ∷ l) x = ap (λ (r : List ℕ). y ∷ r) (init-more (z ∷ l) x)
 
 module _ (l : List ℕ) where
   pub slice-init : (a t : ℕ) → t < length l → init (slice a (t + 1) l) ≡ slice a t l

@@ -9,7 +9,7 @@ use lib.ListN.{length, length-append}
 use Rattle.grid.specs.Grid.{size, cellsOf}
 use Rattle.grid.proofs.ListLaws.{filter-length}
 use Rattle.grid.proofs.GridLaws.{cells-length}
-use Rattle.board.specs.Board.{undecided}
+use Rattle.grid.specs.Cells.{undecided}
 use Rattle.kinds.specs.Kinds.{view, viewWith, block, inReach, reach, fence}
 use Rattle.growth.specs.Pairs.{viewOn, blockCellFence}
 use Rattle.growth.specs.Growth.{mostApart}

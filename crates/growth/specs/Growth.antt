@@ -1,4 +1,4 @@
--- Reasons 3 and 4: the pairs of squares on an arrow.
+-- Reasons 3 and 4, for the pairs of squares of an arrow with none between.
 -- Assumes nothing.
 use Prim.Native.Nat.{ℕ, suc, _+_, max}
 use mathlib.Core.Bool.{Bool, true, false, cond, not}
@@ -6,11 +6,11 @@ use mathlib.Core.List.{List, [], _∷_, _++_}
 use lib.Dec.{ltb}
 use lib.ListN.{length, getD}
 use Rattle.grid.specs.Lists.{any, filter, flatMap, last, init, tail}
-use Rattle.board.specs.Board.{Literal, empty, undecided}
+use Rattle.grid.specs.Cells.{Literal, empty, undecided}
 use Rattle.groups.specs.Arrows.{Pair, pairs}
 use Rattle.groups.specs.Rules.{fits}
 use Rattle.kinds.specs.Kinds.{View, block, reach, fence}
-use Rattle.literals.specs.Literals.{Found, orElse, given, firstOf, each}
+use Rattle.literals.specs.Literals.{Found, orElse, reasonIf, firstOf, each}
 
 -- the most undecided cells, no two consecutive; taken: the cell before was counted
 unfoldable pub mostApart : List ℕ → Bool → List ℕ → ℕ
@@ -36,7 +36,7 @@ module _ (v : View) (pair : Pair) where
   unfoldable pub reason3At : Found
   reason3At =
       let r = reach v (blockName v (pair .cur)) in
-      given (not (any (fits (v .grid) (block v (blockName v (pair .last))) r (blockName v (pair .last))) r)) reasonGrow
+      reasonIf (not (any (fits (v .grid) (block v (blockName v (pair .last))) r (blockName v (pair .last))) r)) reasonGrow
 
   -- cur's block, last's arrow cell, the fence of last's block, the empty cells of the gap
   unfoldable pub reasonShrink : List Literal
@@ -48,12 +48,12 @@ module _ (v : View) (pair : Pair) where
 
   -- 4 (a). cur's reach is too small for last's block and one more
   unfoldable pub reason4aAt : Found
-  reason4aAt = given (ltb (length (reach v (blockName v (pair .cur)))) (length (block v (blockName v (pair .last))) + 1)) reasonGrow
+  reason4aAt = reasonIf (ltb (length (reach v (blockName v (pair .cur)))) (length (block v (blockName v (pair .last))) + 1)) reasonGrow
 
   -- 4 (b). cur's block is too large for last's reach, one more and the gap
   unfoldable pub reason4bAt : Found
   reason4bAt =
-      given
+      reasonIf
       (ltb (length (reach v (blockName v (pair .last))) + 1 + mostApart (v .cells) false (gap pair)) (length (block v (blockName v (pair .cur)))))
       reasonShrink
 

@@ -7,7 +7,7 @@ use mathlib.Core.List.{List, [], _∷_, _++_, List·Memᴰ}
 use lib.ListN.{length, getD, take}
 use lib.Seq.{slice}
 use Rattle.grid.specs.Side.{sized}
-use Rattle.board.specs.Board.{Literal, square}
+use Rattle.grid.specs.Cells.{Literal, square}
 use Rattle.groups.specs.Arrows.{onArrow, Pair, CellArray, linesOf}
 use Rattle.kinds.specs.Kinds.{View, view, block, fence, reachMask}
 use Rattle.literals.specs.Literals.{Found, each}

@@ -1,25 +1,29 @@
-// Reasons 3 and 4: the blocks of squares that follow each other on an arrow.
-pub mod pairs;
-
+// The parts of reasons 3 and 4: the literals and the sizes of blocks, reaches and gaps.
 ghost use mathlib.Core.Path.{_≡_};
-ghost use Prim.Native.Nat.{_+_, _<_, _≤_};
+ghost use Prim.Native.Nat.{_+_, _<_, _≤_, ℕ, _*_};
 ghost use lib.ListN.{length, getD};
 ghost use lib.Seq.{slice};
 ghost use mathlib.Core.Bool.{false, _&&_};
 ghost use lib.Dec.{eqb};
 ghost use Rattle.grid.specs.Lists.{filter};
 ghost use Rattle.grid.specs.Grid.{size};
-ghost use Rattle.board.specs.Board.{empty};
-ghost use Rattle.kinds.specs.Kinds.{View, block};
+ghost use Rattle.grid.specs.Cells.{empty};
+ghost use Rattle.kinds.specs.Kinds.{View, block, view, reach, reachMask};
 ghost use Rattle.literals.specs.Literals.{each};
 ghost use Rattle.growth.specs.Growth.{mostApart};
-ghost use Rattle.literals.specs.Buffer.{Wrote};
+ghost use Rattle.literals.specs.Buffer.{Wrote, Fit};
 ghost use Rattle.groups.specs.Arrows.{CellArray};
-ghost use Rattle.kinds.specs.Inside.{Held};
+ghost use Rattle.kinds.specs.Inside.{Held, Limits, puzzleWith};
+ghost use mathlib.Core.List.{List};
+ghost use Rattle.grid.specs.Side.{sized};
+ghost use Rattle.reach.specs.Chains.{Chains};
+ghost use Rattle.growth.specs.Pairs.{viewOn, Shown, Seen, blockCellFence};
+ghost use Rattle.reach.specs.Near.{Sizes};
+ghost use Rattle.shift.specs.Shift.{blockIn, Chained};
 
 // The most undecided cells, no two consecutive, at the places from `from` up to `to` of an arrow: an undecided cell is
 // counted wherever the one before it was not.
-fn gap_count(cells: &[u8; 1024], arrows: &[u16; 1024], from: usize, to: usize) -> usize
+pub fn gap_count(cells: &[u8; 1024], arrows: &[u16; 1024], from: usize, to: usize) -> usize
     requires { ⌜ (to ≤ 1024) × CellArray (now arrows) ⌝ }
     ensures { λ r. ⌜ r ≡ mostApart (now (cells .entry)) false (slice from to (now (arrows .entry))) ⌝ }
 {
@@ -37,7 +41,7 @@ fn gap_count(cells: &[u8; 1024], arrows: &[u16; 1024], from: usize, to: usize) -
 }
 
 // The empty cells at the places from `from` up to `to` of an arrow, in arrow order.
-fn reason_for_gap(
+pub fn reason_for_gap(
     cells: &[u8; 1024],
     arrows: &[u16; 1024],
     from: usize,
@@ -77,7 +81,8 @@ fn reason_for_arrow_block(
     buffer: &mut [u16],
 ) -> usize
     requires { ⌜ (n ≤ 1024) × (n ≤ length (now buffer)) ⌝ }
-    ensures { λ r. ⌜ ((v : View) → Held v (now (kinds .entry)) (now (owners .entry)) → n ≡ size (v .grid) → Wrote (each 1 (block v f)) (now (buffer .entry)) (now (buffer .exit)) r) ⌝ }
+    ensures { λ r. ⌜ ((v : View) → Held v (now (kinds .entry)) (now (owners .entry)) → n ≡ size (v .grid)
+        → Wrote (each 1 (block v f)) (now (buffer .entry)) (now (buffer .exit)) r) ⌝ }
 {
     let mut count = 0;
     let mut i = 0;
@@ -86,4 +91,101 @@ fn reason_for_arrow_block(
         i += 1;
     }
     count
+}
+
+// How many cells the arrow block named f has: those of kind 1 of its chain.
+pub fn count_block(kinds: &[u8; 1024], head: &[u16; 1024], next: &[u16; 1024], f: u16) -> usize
+    requires { ⌜ Chained (now head) (now next) × (f < 1024) ⌝ }
+    ensures { λ r. ⌜ ((owners : List ℕ) (n : ℕ) → Chains owners (now (head .entry)) (now (next .entry)) n → r ≡ length (blockIn (now (kinds .entry)) owners n f)) ⌝ }
+{
+    let mut count = 0;
+    let mut i = head[f as usize] as usize;
+    while i < 1024 {
+        if kinds[i] == 1 {
+            count += 1;
+        }
+        i = next[i] as usize;
+    }
+    count
+}
+
+// How many cells the reach of the arrow block named f has.
+pub fn count_reach(
+    kinds: &[u8; 1024],
+    owners: &[u16; 1024],
+    head: &[u16; 1024],
+    next: &[u16; 1024],
+    sizes: &[u16; 1024],
+    h: usize,
+    w: usize,
+    f: u16,
+    near: &mut [u8; 1024],
+    groups: &mut [u16; 1024],
+) -> usize
+    requires { ⌜ Limits h w × Chains (now owners) (now head) (now next) (h * w)
+        × (f < 1024) × (length (now groups) ≡ 1024) ⌝ }
+    ensures { λ r. ⌜ ((lines : List (List ℕ)) (cells : List ℕ)
+        → Held (view (puzzleWith (sized h w) lines) cells) (now (kinds .entry)) (now (owners .entry))
+        → Sizes (now (owners .entry)) (h * w) (now (sizes .entry)) → getD (now (kinds .entry)) f 0 ≡ 1
+        → r ≡ length (reach (view (puzzleWith (sized h w) lines) cells) f)) ⌝ }
+    ensures { λ r. ⌜ length (now (groups .exit)) ≡ 1024 ⌝ }
+{
+    let count = near::near_floats(kinds, owners, head, next, h, w, f, near, groups);
+    near::reach_size(sizes, groups, count, f)
+}
+
+// The cells of the arrow block named b, the arrow cell i and the fence of the arrow block named f, whose reach is marked.
+fn reason_for_blocks(
+    cells: &[u8; 1024],
+    kinds: &[u8; 1024],
+    owners: &[u16; 1024],
+    marks: &[u8; 1024],
+    h: usize,
+    w: usize,
+    b: u16,
+    i: usize,
+    f: u16,
+    buffer: &mut [u16],
+) -> usize
+    requires { ⌜ Fit h w (now buffer) × Seen h w (now cells) (now kinds) (now owners) (now marks) f × (i < h * w) ⌝ }
+    ensures { λ r. ⌜ ((lines : List (List ℕ)) → Held (viewOn h w lines (now (cells .entry))) (now (kinds .entry)) (now (owners .entry))
+        → now (marks .entry) ≡ reachMask (viewOn h w lines (now (cells .entry))) f
+        → Wrote (blockCellFence (viewOn h w lines (now (cells .entry))) b i f) (now (buffer .entry)) (now (buffer .exit)) r) ⌝ }
+{
+    let count = reason_for_arrow_block(kinds, owners, h * w, b, buffer);
+    let total = literals::push(buffer, count, i, 1, true);
+    let more = fence::reason_for_adjacent_floating_boundary(
+        cells,
+        kinds,
+        owners,
+        marks,
+        h,
+        w,
+        f,
+        &mut buffer[total..],
+    );
+    total + more
+}
+
+// The literals of a pair to which a reason applies: the cells of the arrow block named b, the arrow cell i and the fence of the arrow
+// block named f.
+pub fn reason_for_pair(
+    cells: &[u8; 1024],
+    kinds: &[u8; 1024],
+    owners: &[u16; 1024],
+    h: usize,
+    w: usize,
+    b: u16,
+    i: usize,
+    f: u16,
+    buffer: &mut [u16],
+) -> usize
+    requires { ⌜ Fit h w (now buffer) × Shown h w (now cells) (now kinds) (now owners) × (i < h * w) ⌝ }
+    ensures { λ r. ⌜ ((lines : List (List ℕ)) → Held (viewOn h w lines (now (cells .entry))) (now (kinds .entry)) (now (owners .entry))
+        → Wrote (blockCellFence (viewOn h w lines (now (cells .entry))) b i f) (now (buffer .entry)) (now (buffer .exit)) r) ⌝ }
+{
+    let mut near = [0u8; 1024];
+    let mut marks = [0u8; 1024];
+    reach::compute_reach(kinds, owners, h, w, f, &mut near, &mut marks);
+    reason_for_blocks(cells, kinds, owners, &marks, h, w, b, i, f, buffer)
 }

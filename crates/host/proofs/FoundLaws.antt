@@ -11,13 +11,13 @@ use lib.Seq.{take-at}
 use Rattle.grid.specs.Grid.{size}
 use Rattle.grid.specs.Side.{sized}
 use Rattle.record.specs.Record.{Outcome, ok, refused}
-use Rattle.board.specs.Board.{Literal}
+use Rattle.grid.specs.Cells.{Literal}
 use Rattle.kinds.specs.Kinds.{word}
 use Rattle.kinds.specs.Inside.{puzzleWith}
 use Rattle.literals.specs.Literals.{Found}
 use Rattle.reasons.specs.Reasons.{findReason}
 use Rattle.groups.specs.Arrows.{linesOf}
-use Rattle.reasons.specs.Arrays.{ArrowArrays}
+use Rattle.inconsistency.specs.Arrays.{ArrowArrays}
 use Rattle.literals.specs.Buffer.{FoundAs, findingBy, bufferBy}
 use Rattle.literals.specs.declared.Finding.the-variants.{Reason}
 use Rattle.reasons.proofs.ReasonLaws.{reason-length}

@@ -18,7 +18,8 @@ use Rattle.record.specs.declared.Answer.{Answer}
 use Rattle.record.specs.declared.Answer.the-variants.{Done, Refused}
 use Rattle.record.proofs.RecordLaws.{record-valid}
 use Rattle.form.proofs.ProblemForm.{size-most}
-use Rattle.board.specs.Board.{Literal, decide, after, refusal}
+use Rattle.grid.specs.Cells.{Literal}
+use Rattle.board.specs.Board.{decide, after, refusal, enough}
 use Rattle.board.specs.Form.{wellFormed}
 use Rattle.board.specs.Kept.{boardOf, opening, openOf}
 use Rattle.board.specs.Decide.{decideRefusal, decideOf, answered, refusedWith, onward, decideFrom, placed}
@@ -31,7 +32,7 @@ use Rattle.board.proofs.CallLaws.{standing-well, decide-number, decide-left}
 use Rattle.kinds.specs.Inside.{puzzleWith}
 use Rattle.reasons.specs.Reasons.{findReason, findOn}
 use Rattle.groups.specs.Arrows.{linesOf}
-use Rattle.reasons.specs.Find.{cellsOn, reasonOn, enough}
+use Rattle.reasons.specs.Find.{cellsOn, reasonOn}
 use Rattle.reasons.proofs.BoardArrays.{codes-aside}
 use Rattle.reasons.proofs.Demand3.{reason-on}
 use Rattle.host.specs.Host.{acceptOr, decideBytes, hostFinds, Opens}

@@ -8,16 +8,16 @@ use lib.ListN.{replicate}
 use Rattle.grid.specs.Lists.{range, upto, filter, any, all, last, init, tail, flatMap, member, once}
 use Rattle.grid.specs.Grid.{size, cellsOf, row, col, only, up, down, left, right, neighbours, touches}
 use Rattle.record.specs.Record.{_>>=_, unless, bit, number, field, cellCodes, there, stepFrom, stepCells, arrowAt, filler, arrowsAt, readRecord, Puzzle, Outcome, ok, refused}
-use Rattle.board.specs.Board.{valueAt, cellsAfter, empty, square, undecided, filled, decided, after, refusal, afterAll, Call, decide}
+use Rattle.grid.specs.Cells.{empty, square, undecided, potential}
+use Rattle.board.specs.Board.{valueAt, cellsAfter, decided, after, refusal, afterAll, Call, decide, enough}
 use Rattle.groups.specs.Groups.{rename, join, joinAll, edges, labels, group, names}
 use Rattle.groups.specs.Arrows.{onArrow, pairsFrom, pairs}
 use Rattle.groups.specs.Rules.{fits}
-use Rattle.kinds.specs.Kinds.{isFloating, isIn, isBeside, kindBeside, arrowBlock, blocksBeside, kindAt, kindsOf, has, viewWith, view, block, floatNear, inReach, reach, rival, fenceAt, fence}
-use Rattle.literals.specs.Literals.{orElse, given, firstOf, each, Found}
+use Rattle.kinds.specs.Kinds.{isFloating, isIn, isNeighbour, kindTouching, arrowBlock, blocksTouched, kindAt, kindsOf, has, viewWith, view, block, floatNear, inReach, reach, disturbing, fenceAt, fence}
+use Rattle.literals.specs.Literals.{orElse, reasonIf, firstOf, each, Found}
 use Rattle.units.specs.Units.{reason1At, reason1, breadthFirst, parent, path, reason2At, reason2}
 use Rattle.growth.specs.Growth.{mostApart, blockName, reasonGrow, reason3At, gap, reasonShrink, reason4At, reason4aAt, reason4bAt, reason34}
 use Rattle.reasons.specs.Reasons.{findReason, findOn}
-use Rattle.reasons.specs.Find.{enough}
 use Rattle.host.specs.Host.{acceptOr, decideBytes, hostFinds}
 
 -- open a record, decide in order, find
@@ -71,7 +71,7 @@ starred :
     ∷ refused 3
     ∷ refused 2
     ∷ [])
-unfolding findAfter S pairT grid25 some25 range upto filter any all last init tail flatMap member once size cellsOf row col only up down left right neighbours touches rename join joinAll edges labels group names _>>=_ unless bit number field cellCodes there stepFrom stepCells arrowAt filler arrowsAt readRecord valueAt cellsAfter empty square undecided filled decided after refusal afterAll isFloating isIn isBeside kindBeside onArrow arrowBlock blocksBeside kindAt kindsOf has viewWith view block floatNear inReach reach rival fenceAt fence orElse given firstOf each reason1At reason1 breadthFirst parent path reason2At reason2 pairsFrom pairs fits mostApart blockName reasonGrow reason3At gap reasonShrink reason4At reason4aAt reason4bAt reason34 findReason
+unfolding findAfter S pairT grid25 some25 range upto filter any all last init tail flatMap member once size cellsOf row col only up down left right neighbours touches rename join joinAll edges labels group names _>>=_ unless bit number field cellCodes there stepFrom stepCells arrowAt filler arrowsAt readRecord valueAt cellsAfter empty square undecided potential decided after refusal afterAll isFloating isIn isNeighbour kindTouching onArrow arrowBlock blocksTouched kindAt kindsOf has viewWith view block floatNear inReach reach disturbing fenceAt fence orElse reasonIf firstOf each reason1At reason1 breadthFirst parent path reason2At reason2 pairsFrom pairs fits mostApart blockName reasonGrow reason3At gap reasonShrink reason4At reason4aAt reason4bAt reason34 findReason
 starred = refl
 
 -- the host call on S: its answer, and its refusals in their order
@@ -85,7 +85,7 @@ hosts :
     ∷ hostFinds (S 0xE0) (0x84 ∷ 0x03 ∷ []) 20
     ∷ [])
     (ok (some ((0, 1) ∷ (2, 1) ∷ (0, 1) ∷ [])) ∷ refused 11 ∷ refused 12 ∷ refused 7 ∷ refused 9 ∷ refused 12 ∷ [])
-unfolding S range upto filter any all last init tail flatMap member once size cellsOf row col only up down left right neighbours touches rename join joinAll edges labels group names _>>=_ unless bit number field cellCodes there stepFrom stepCells arrowAt filler arrowsAt readRecord valueAt cellsAfter empty square undecided filled decided after refusal afterAll isFloating isIn isBeside kindBeside onArrow arrowBlock blocksBeside kindAt kindsOf has viewWith view block floatNear inReach reach rival fenceAt fence orElse given firstOf each reason1At reason1 breadthFirst parent path reason2At reason2 pairsFrom pairs fits mostApart blockName reasonGrow reason3At gap reasonShrink reason4At reason4aAt reason4bAt reason34 findReason findOn acceptOr decideBytes enough hostFinds
+unfolding S range upto filter any all last init tail flatMap member once size cellsOf row col only up down left right neighbours touches rename join joinAll edges labels group names _>>=_ unless bit number field cellCodes there stepFrom stepCells arrowAt filler arrowsAt readRecord valueAt cellsAfter empty square undecided potential decided after refusal afterAll isFloating isIn isNeighbour kindTouching onArrow arrowBlock blocksTouched kindAt kindsOf has viewWith view block floatNear inReach reach disturbing fenceAt fence orElse reasonIf firstOf each reason1At reason1 breadthFirst parent path reason2At reason2 pairsFrom pairs fits mostApart blockName reasonGrow reason3At gap reasonShrink reason4At reason4aAt reason4bAt reason34 findReason findOn acceptOr decideBytes enough hostFinds
 hosts = refl
 
 -- a puzzle of h rows and w columns, all plain, with one arrow
@@ -101,5 +101,5 @@ tempting :
     (some ((2, 1) ∷ (0, 1) ∷ (2, 1) ∷ [])
     ∷ some ((0, 1) ∷ (4, 1) ∷ (5, 1) ∷ (2, 1) ∷ (1, 0) ∷ (3, 0) ∷ (6, 0) ∷ [])
     ∷ [])
-unfolding plain range upto filter any all last init tail flatMap member once size cellsOf row col only up down left right neighbours touches rename join joinAll edges labels group names _>>=_ unless bit number field cellCodes there stepFrom stepCells arrowAt filler arrowsAt readRecord valueAt cellsAfter empty square undecided filled decided after refusal afterAll isFloating isIn isBeside kindBeside onArrow arrowBlock blocksBeside kindAt kindsOf has viewWith view block floatNear inReach reach rival fenceAt fence orElse given firstOf each reason1At reason1 breadthFirst parent path reason2At reason2 pairsFrom pairs fits mostApart blockName reasonGrow reason3At gap reasonShrink reason4At reason4aAt reason4bAt reason34 findReason findOn acceptOr decideBytes enough hostFinds
+unfolding plain range upto filter any all last init tail flatMap member once size cellsOf row col only up down left right neighbours touches rename join joinAll edges labels group names _>>=_ unless bit number field cellCodes there stepFrom stepCells arrowAt filler arrowsAt readRecord valueAt cellsAfter empty square undecided potential decided after refusal afterAll isFloating isIn isNeighbour kindTouching onArrow arrowBlock blocksTouched kindAt kindsOf has viewWith view block floatNear inReach reach disturbing fenceAt fence orElse reasonIf firstOf each reason1At reason1 breadthFirst parent path reason2At reason2 pairsFrom pairs fits mostApart blockName reasonGrow reason3At gap reasonShrink reason4At reason4aAt reason4bAt reason34 findReason findOn acceptOr decideBytes enough hostFinds
 tempting = refl

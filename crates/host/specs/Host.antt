@@ -9,16 +9,16 @@ use lib.Dec.{eqb, leb}
 use lib.IntN.{ℤ, pos, negℤ}
 use lib.ListN.{length, drop}
 use Rattle.grid.specs.Lists.{flatMap}
-use Rattle.grid.specs.Grid.{Grid, size}
+use Rattle.grid.specs.Grid.{Grid}
 use Rattle.record.specs.Record.{Outcome, ok, refused, _>>=_, unless, readRecord}
 use Rattle.record.specs.declared.Answer.the-variants.{Done}
-use Rattle.board.specs.Board.{Literal, decide, after, refusal}
+use Rattle.grid.specs.Cells.{Literal}
+use Rattle.board.specs.Board.{decide, after, refusal, enough}
 use Rattle.board.specs.Kept.{openOf}
 use Rattle.board.specs.declared.Board.{Board}
 use Rattle.kinds.specs.Kinds.{word}
 use Rattle.reasons.specs.Reasons.{findOn}
 use Rattle.literals.specs.Literals.{Found}
-use Rattle.reasons.specs.Find.{enough}
 
 -- 16-bit numbers as bytes, most significant first
 unfoldable pub bytesOf : List ℕ → List ℕ

@@ -13,7 +13,7 @@ ghost use Rattle.record.specs.Record.{ok};
 ghost use Rattle.kinds.specs.Inside.{puzzleWith};
 ghost use Rattle.reasons.specs.Reasons.{findReason};
 ghost use Rattle.groups.specs.Arrows.{linesOf};
-ghost use Rattle.reasons.specs.Arrays.{ArrowArrays};
+ghost use Rattle.inconsistency.specs.Arrays.{ArrowArrays};
 ghost use Rattle.host.specs.Host.{bytesOf, hostFinds, returned, outputAfter, Opens};
 
 // The number of a refusal, negated.
@@ -55,12 +55,13 @@ fn find_on<'a>(
     w: usize,
     output: &mut [u8],
 ) -> i32
-    requires { ⌜ (h ≤ 32) × (w ≤ 32) × (2 * (3 * (h * w) + 1) ≤ length (now output)) × ArrowArrays (h * w) (now arrows) (now ends) number (last 0 (take number (now ends))) ⌝ }
+    requires { ⌜ (h ≤ 32) × (w ≤ 32) × (2 * (3 * (h * w) + 1) ≤ length (now output))
+        × ArrowArrays (h * w) (now arrows) (now ends) number (last 0 (take number (now ends))) ⌝ }
     ensures { λ r. ⌜ (r ≡ returned (ok (findReason (puzzleWith (sized h w) (linesOf (now (arrows .entry)) (now (ends .entry)) number)) (take (h * w) (now (cells .entry))))))
         × (now (output .exit) ≡ outputAfter (ok (findReason (puzzleWith (sized h w) (linesOf (now (arrows .entry)) (now (ends .entry)) number)) (take (h * w) (now (cells .entry))))) (now (output .entry))) ⌝ }
 {
     let mut literals = no_literals();
-    let found = reasons::find_inconsistency(cells, arrows, ends, number, h, w, &mut literals);
+    let found = inconsistency::find_inconsistency(cells, arrows, ends, number, h, w, &mut literals);
     match found {
         Finding::Nothing => 0,
         Finding::Reason(count) => {
@@ -111,9 +112,8 @@ pub extern "C" fn evolmino_find(record: &[u8], decisions: &[u8], output: &mut [u
 {
     let opened = Board::open(record);
     let answer = opened.answer;
-    let board = opened.board;
     match answer {
-        Answer::Done => decide_and_find(board, decisions, output),
+        Answer::Done => decide_and_find(opened.board, decisions, output),
         Answer::Refused(k) => negated(k),
     }
 }

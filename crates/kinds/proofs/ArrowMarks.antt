@@ -4,7 +4,7 @@ use Prim.Native.Nat.{ℕ, _≤_, _<_}
 use native.Mathlib.Omega.{arith}
 use native.Mathlib.Decide.{decLt}
 use mathlib.Core.Path.{_≡_, refl, sym, ap, _∙_}
-use mathlib.Core.Bool.{Bool, true, false, So, cond, _&&_, false≢true}
+use mathlib.Core.Bool.{Bool, true, false, So, cond, _&&_}
 use mathlib.Core.List.{List, List·Memᴰ}
 use lib.Dec.{eqb}
 use lib.ListN.{length, getD, take}
@@ -14,12 +14,13 @@ use Rattle.grid.specs.Lists.{upto, member}
 use Rattle.grid.specs.Grid.{Grid, size, cellsOf}
 use Rattle.grid.proofs.ListLaws.{so-false, and-true, true-and, any-mem, mem-any, upto-mem, mem-upto, member-mem, mem-member, mem-at, at-mem}
 use Rattle.record.specs.Record.{Puzzle}
-use Rattle.board.specs.Board.{square}
+use Rattle.grid.specs.Cells.{square}
 use Rattle.groups.specs.Groups.{labels, labelAt, labelArray, maskOf, marksOf}
 use Rattle.groups.specs.Arrows.{onArrow, Line}
 use Rattle.groups.proofs.MarkLaws.{marks-at, mask-behind}
 use Rattle.groups.proofs.GroupLaws.{label-least}
 use Rattle.grid.specs.Link.{here}
+use Rattle.grid.proofs.AppendLaws.{same-test}
 use Rattle.kinds.specs.Kinds.{arrowBlock}
 use Rattle.kinds.specs.Inside.{Marks, nameAt, nameAmong, nameTwice}
 use Rattle.kinds.proofs.Filled.{marks-same, marks-mask, mask-at, filled-at}
@@ -28,11 +29,6 @@ use Rattle.kinds.proofs.Filled.{marks-same, marks-mask, mask-at, filled
 pub mark-on : (b : Bool) → _≡_ {A = ℕ} (cond b 1 0) 1 → b ≡ true
 mark-on true e = refl
 mark-on false e = absurd (omega (arith, e))
-
--- two tests that pass together
-both : (a b : Bool) → (So a → So b) → (So b → So a) → a ≡ b
-both true b f g = sym (f refl)
-both false b f g = sym (so-false b (λ s. false≢true (g s)))
 
 -- ---- the arrow cells of a grid in the first places of a line
 module _ (g : Grid) (arrows : List (List ℕ)) {line : List ℕ} {total : ℕ} {marks : List ℕ} (fits : Line line total) (listed : marks ≡ marksOf (take total line)) (marked : marks ≡ maskOf g (onArrow arrows)) where
@@ -94,7 +90,7 @@ module _ (p : Puzzle) (small : size (p .grid) ≤ 1024) (cells : List ℕ) where
 
     among-is : (f : ℕ) → f < 1024 → nameAmong blocks line total f ≡ arrowed f
     unfolding nameAmong arrowBlock cellsOf
-    among-is f h = both (nameAmong blocks line total f) (arrowed f) there back
+    among-is f h = same-test (nameAmong blocks line total f) (arrowed f) there back
       where
         there : So (nameAmong blocks line total f) → So (arrowed f)
         there s =

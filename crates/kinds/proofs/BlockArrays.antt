@@ -3,16 +3,17 @@
 use Prim.Native.Nat.{ℕ, _+_, _<_}
 use native.Mathlib.Omega.{arith}
 use mathlib.Core.Path.{_≡_, refl, ap, _∙_}
-use mathlib.Core.Bool.{Bool, _&&_}
-use mathlib.Core.List.{List, [], _∷_, map, List·Memᴰ, List·Memᴰ·head, List·Memᴰ·tail}
+use mathlib.Core.Bool.{_&&_}
+use mathlib.Core.List.{List, map}
 use lib.Dec.{eqb}
 use lib.ListN.{getD}
 use Rattle.grid.specs.Lists.{upto, filter, arrayOf}
 use Rattle.grid.specs.Grid.{Grid, size, cellsOf}
-use Rattle.grid.proofs.ListLaws.{getD-map-range, length-map-range, upto-mem}
+use Rattle.grid.proofs.ListLaws.{getD-map-range, length-map-range}
 use Rattle.grid.proofs.ArrayLaws.{array-in}
+use Rattle.grid.proofs.AppendLaws.{filter-upto}
 use Rattle.kinds.specs.Inside.{Held}
-use Rattle.kinds.specs.Kinds.{View, Kind, vacant, barrier, floating, inBlock, beside, isIn, has, block, kindCode, ownerBy, kindArray, ownerArray}
+use Rattle.kinds.specs.Kinds.{View, Kind, vacant, barrier, floating, inBlock, neighbour, isIn, has, block, kindCode, ownerBy, kindArray, ownerArray}
 
 -- an array with an entry for each cell
 pub array-at : {A : Type 0} (g : Grid) (d : A) (f : ℕ → A) (e : A) (i : ℕ) → i < size g → getD (arrayOf d (map f (cellsOf g))) i e ≡ f i
@@ -20,15 +21,6 @@ unfolding cellsOf upto
 array-at g d f e i h =
     let z : 0 + i ≡ i = omega arith in
     array-in d (map f (upto (size g))) e i (omega (arith, length-map-range f 0 (size g))) ∙ getD-map-range f 0 (size g) i e h ∙ ap f z
-
--- tests that agree on a list's members
-pub filter-agree : (p q : ℕ → Bool) (l : List ℕ) → ((x : ℕ) → List·Memᴰ x l → p x ≡ q x) → filter p l ≡ filter q l
-unfolding filter
-filter-agree p q [] h = refl
-filter-agree p q (x ∷ xs) h = rw (h x (List·Memᴰ·head refl), filter-agree p q xs (λ y m. h y (List·Memᴰ·tail m))) refl
-
-pub filter-upto : (p q : ℕ → Bool) (n : ℕ) → ((x : ℕ) → x < n → p x ≡ q x) → filter p (upto n) ≡ filter q (upto n)
-filter-upto p q n h = filter-agree p q (upto n) (λ x m. h x (upto-mem n m))
 
 module _ (v : View) where
   -- a cell is in the arrow block f by the numbers of its kind and its group
@@ -38,7 +30,7 @@ module _ (v : View) where
   in-by f m barrier = refl
   in-by f m floating = refl
   in-by f m (inBlock e) = refl
-  in-by f m (beside e) = refl
+  in-by f m (neighbour e) = refl
 
   -- is cell i in the arrow block f?
   pub block-test : (f i : ℕ) → i < size (v .grid) → (eqb (getD (kindArray v) i 0) 1 && eqb (getD (ownerArray v) i 0) f) ≡ has (isIn f) (v .kinds) i

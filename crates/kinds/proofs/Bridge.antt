@@ -1,4 +1,4 @@
--- The kinds that Kinds computes mean the predicates of Confine.
+-- The kinds that Kinds computes mean the predicates of Meaning.
 -- Assumes nothing.
 use Prim.Native.Nat.{ℕ, _<_}
 use mathlib.Core.Logic.{_⊎_, inl, inr}
@@ -17,12 +17,12 @@ use Rattle.grid.specs.Grid.{Grid, size, cellsOf, neighbours, Adjacent}
 use Rattle.grid.specs.Link.{linked-end, linked-start, linked-trans}
 use Rattle.record.specs.Record.{Puzzle}
 use Rattle.record.proofs.LineLaws.{ValidArrows}
-use Rattle.board.proofs.BoardLaws.{un-not-em, sq-not-un, sq-not-em, un-below, sq-below, cell-cases, ValidCells}
-use Rattle.board.specs.Board.{empty, square, undecided}
+use Rattle.grid.proofs.CellLaws.{un-not-em, sq-not-un, sq-not-em, un-below, sq-below, cell-cases, ValidCells}
+use Rattle.grid.specs.Cells.{empty, square, undecided}
 use Rattle.groups.specs.Groups.{labels}
 use Rattle.groups.specs.Arrows.{onArrow}
 use Rattle.groups.proofs.GroupLaws.{Labels, labelled}
-use Rattle.kinds.specs.Kinds.{Kind, vacant, floating, inBlock, isFloating, isIn, isBeside, kindBeside, arrowBlock, blocksBeside, kindAt, kindsOf, has}
+use Rattle.kinds.specs.Kinds.{Kind, vacant, floating, inBlock, isFloating, isIn, isNeighbour, kindTouching, arrowBlock, blocksTouched, kindAt, kindsOf, has}
 use Rattle.kinds.specs.Meaning.{PartialBoard, Block, InArrow, Touch, Neighbour, Floating, Reach}
 use Rattle.kinds.proofs.Confine.{Decide}
 use Rattle.kinds.proofs.Decide.{all-decided, reach-decided}
@@ -31,10 +31,10 @@ use Rattle.kinds.proofs.Decide.{all-decided, reach-decided}
 
 -- kindAt, with its tests as arguments
 abbrev pub kindOf : Bool → Bool → Bool → ℕ → List ℕ → Kind
-kindOf e s a m l = cond e vacant (cond s (cond a (inBlock m) floating) (kindBeside l))
+kindOf e s a m l = cond e vacant (cond s (cond a (inBlock m) floating) (kindTouching l))
 
 pub in-of : (e s a : Bool) (m : ℕ) (l : List ℕ) (f : ℕ) → So (isIn f (kindOf e s a m l)) → So s × So a × (m ≡ f)
-unfolding isIn kindBeside
+unfolding isIn kindTouching
 in-of true s a m l f h = absurd (false≢true h)
 in-of false true true m l f h = (refl, refl, eqb-true m f h)
 in-of false true false m l f h = absurd (false≢true h)
@@ -42,8 +42,8 @@ in-of false false a m [] f h = absurd (false≢true h)
 in-of false false a m (x ∷ []) f h = absurd (false≢true h)
 in-of false false a m (x ∷ y ∷ l) f h = absurd (false≢true h)
 
-pub beside-of : (e s a : Bool) (m : ℕ) (l : List ℕ) (f : ℕ) → So (isBeside f (kindOf e s a m l)) → (e ≡ false) × (s ≡ false) × (l ≡ f ∷ [])
-unfolding isBeside kindBeside
+pub beside-of : (e s a : Bool) (m : ℕ) (l : List ℕ) (f : ℕ) → So (isNeighbour f (kindOf e s a m l)) → (e ≡ false) × (s ≡ false) × (l ≡ f ∷ [])
+unfolding isNeighbour kindTouching
 beside-of true s a m l f h = absurd (false≢true h)
 beside-of false true true m l f h = absurd (false≢true h)
 beside-of false true false m l f h = absurd (false≢true h)
@@ -52,7 +52,7 @@ beside-of false false a m (x ∷ []) f h = (refl, refl, ap (λ y. y ∷ []) (eqb
 beside-of false false a m (x ∷ y ∷ l) f h = absurd (false≢true h)
 
 floating-of : (e s a : Bool) (m : ℕ) (l : List ℕ) → So (isFloating (kindOf e s a m l)) → (e ≡ false) × ((So s × (a ≡ false)) ⊎ ((s ≡ false) × (l ≡ [])))
-unfolding isFloating kindBeside
+unfolding isFloating kindTouching
 floating-of true s a m l h = absurd (false≢true h)
 floating-of false true true m l h = absurd (false≢true h)
 floating-of false true false m l h = (refl, inl (refl, refl))
@@ -61,7 +61,7 @@ floating-of false false a m (x ∷ []) h = absurd (false≢true h)
 floating-of false false a m (x ∷ y ∷ l) h = absurd (false≢true h)
 
 vacant-of : (e s a : Bool) (m : ℕ) (l : List ℕ) → kindOf e s a m l ≡ vacant → So e
-unfolding kindBeside
+unfolding kindTouching
 vacant-of true s a m l h = refl
 vacant-of false true true m l h = absurd (let z : _≡_ {A = ℕ} 0 1 = cc in omega arith)
 vacant-of false true false m l h = absurd (let z : _≡_ {A = ℕ} 0 1 = cc in omega arith)
@@ -126,7 +126,7 @@ module _ (set : Setting) where
 
   -- the arrow blocks around a cell, each once
   abbrev pub listed : ℕ → List ℕ
-  listed = blocksBeside puzzle cells (labels grid (square cells))
+  listed = blocksTouched puzzle cells (labels grid (square cells))
 
   -- the kind of a cell of the grid
   pub kind-get : (i : ℕ) → i < size grid → getD kinds i vacant ≡ kind i
@@ -220,11 +220,11 @@ module _ (set : Setting) where
       (rw (so-false (empty cells i) (sq-not-em cells i (linked-end l)), linked-end l, in-arrowed i (a, ar, l)) (eq-eqb _ _ (sym (block-labels .linked a i l))))
 
   pub listed-mem : (i f : ℕ) → List·Memᴰ f (listed i) → List·Memᴰ f (around i)
-  unfolding blocksBeside
+  unfolding blocksTouched
   listed-mem i f m = once-mem (around i) m
 
   pub mem-listed : (i f : ℕ) → List·Memᴰ f (around i) → List·Memᴰ f (listed i)
-  unfolding blocksBeside
+  unfolding blocksTouched
   mem-listed i f m = mem-once (around i) m
 
   pub undecided-so : (i : ℕ) → empty cells i ≡ false → square cells i ≡ false → So (undecided cells i)
@@ -242,10 +242,10 @@ module _ (set : Setting) where
   un-em-false i u = so-false (empty cells i) (un-not-em cells i u)
 
   -- beside the arrow block of a only
-  pub beside-nbr : (a i : ℕ) → So (square cells a) → So (has (isBeside (blockLabel a)) kinds i) → Neighbour boardOf a i
-  unfolding kindAt isBeside
+  pub beside-nbr : (a i : ℕ) → So (square cells a) → So (has (isNeighbour (blockLabel a)) kinds i) → Neighbour boardOf a i
+  unfolding kindAt isNeighbour
   beside-nbr a i sa h =
-      let r = has-so (isBeside (blockLabel a)) false≢true i h in
+      let r = has-so (isNeighbour (blockLabel a)) false≢true i h in
       let q = beside-of (empty cells i) (square cells i) (arrowed (blockLabel i)) (blockLabel i) (listed i) (blockLabel a) (r .1) in
       let w = around-so i (blockLabel a) (r .0) (listed-mem i (blockLabel a) (subst (λ z. List·Memᴰ (blockLabel a) z) (sym (q .2)) (List·Memᴰ·head refl))) in (
         undecided-so i (q .0) (q .1),
@@ -257,9 +257,9 @@ module _ (set : Setting) where
       near : (d : ℕ) → Touch boardOf d i → Block boardOf a d → Touch boardOf a i
       near d (y, e, l) k = (y, e, linked-trans k l)
 
-  pub nbr-beside : (a i : ℕ) → So (onArrow arrows a) → Neighbour boardOf a i → So (has (isBeside (blockLabel a)) kinds i)
-  unfolding kindAt isBeside blocksBeside kindBeside
-  nbr-beside a i ar (u, t, nf) = so-has (isBeside (blockLabel a)) i (un< i u)
+  pub nbr-beside : (a i : ℕ) → So (onArrow arrows a) → Neighbour boardOf a i → So (has (isNeighbour (blockLabel a)) kinds i)
+  unfolding kindAt isNeighbour blocksTouched kindTouching
+  nbr-beside a i ar (u, t, nf) = so-has (isNeighbour (blockLabel a)) i (un< i u)
       (rw (un-em-false i u, un-sq-false i u, once-one (around i) (blockLabel a) (so-around i a ar t) all-a) (eq-eqb (blockLabel a) (blockLabel a) refl))
     where
       all-a : (x : ℕ) → List·Memᴰ x (around i) → x ≡ blockLabel a
@@ -285,7 +285,7 @@ module _ (set : Setting) where
       go e (inr (s, n)) = inr (undecided-so i e s, λ (d, ad, t). List·Memᴰ·not-nil (subst (λ z. List·Memᴰ (blockLabel d) z) n (mem-listed i (blockLabel d) (so-around i d ad t))))
 
   pub so-floating : (i : ℕ) → Floating boardOf i → So (has isFloating kinds i)
-  unfolding kindAt isFloating blocksBeside kindBeside
+  unfolding kindAt isFloating blocksTouched kindTouching
   so-floating i (inl (s, n)) = so-has isFloating i (sq< i s)
       (rw (so-false (empty cells i) (sq-not-em cells i s), s, so-false (arrowed (blockLabel i)) (λ z. n (arrowed-in i s z))))
   so-floating i (inr (u, n)) = so-has isFloating i (un< i u)

@@ -14,12 +14,12 @@ use Rattle.grid.proofs.ListLaws.{filter-mem, mem-filter, mem-upto, mem-flatMap,
 use Rattle.grid.specs.Grid.{Grid, size, cellsOf, neighbours, Adjacent}
 use Rattle.grid.specs.Link.{Linked, linked-end, linked-start, linked-map}
 use Rattle.grid.proofs.Count.{count, length-filter}
-use Rattle.board.specs.Board.{Agrees, empty, square, undecided}
-use Rattle.board.proofs.BoardLaws.{sq-not-em}
+use Rattle.grid.specs.Cells.{Agrees, empty, square, undecided}
+use Rattle.grid.proofs.CellLaws.{sq-not-em}
 use Rattle.groups.specs.Groups.{labels}
 use Rattle.groups.specs.Arrows.{onArrow}
 use Rattle.kinds.proofs.Bridge.{Setting, block-labels, float-labels, decisions, boardOf, sq<, un<, blockLabel, kinds, kind, kind-get, in-blk, blk-in, beside-nbr, nbr-beside, floating-so, so-floating, in-arrowed}
-use Rattle.kinds.specs.Kinds.{Kind, vacant, inBlock, isFloating, isIn, isBeside, kindAt, has, View, view, viewWith, block, floatNear, inReach, reach, rival, fenceAt, fence}
+use Rattle.kinds.specs.Kinds.{Kind, vacant, inBlock, isFloating, isIn, isNeighbour, kindAt, has, View, view, viewWith, block, floatNear, inReach, reach, disturbing, fenceAt, fence}
 use Rattle.kinds.specs.Meaning.{PartialBoard, Block, InArrow, Touch, Floating, Reach}
 use Rattle.kinds.proofs.Confine.{Fenced}
 
@@ -57,18 +57,18 @@ module _ (set : Setting) where
   -- the test of the reach
   pub reach-so : (a i : ℕ) → So (square cells a) → So (inReach v (name a) i) → Reach B a i
   unfolding inReach view viewWith floatNear
-  reach-so a i sa h = go (or-so {a = has (isIn (name a)) ks i || has (isBeside (name a)) ks i} h)
+  reach-so a i sa h = go (or-so {a = has (isIn (name a)) ks i || has (isNeighbour (name a)) ks i} h)
     where
-      two : So (has (isIn (name a)) ks i) ⊎ So (has (isBeside (name a)) ks i) → Reach B a i
+      two : So (has (isIn (name a)) ks i) ⊎ So (has (isNeighbour (name a)) ks i) → Reach B a i
       two (inl k) = inl (in-blk set a i sa k)
       two (inr k) = inr (inl (beside-nbr set a i sa k))
 
-      go : So (has (isIn (name a)) ks i || has (isBeside (name a)) ks i) ⊎ So (has isFloating ks i && floatNear v (name a) (getD (labels grid (has isFloating ks)) i 0)) → Reach B a i
+      go : So (has (isIn (name a)) ks i || has (isNeighbour (name a)) ks i) ⊎ So (has isFloating ks i && floatNear v (name a) (getD (labels grid (has isFloating ks)) i 0)) → Reach B a i
       go (inl k) = two (or-so {a = has (isIn (name a)) ks i} k)
       go (inr k) =
           let q = and-true (has isFloating ks i) _ k in
           let r = any-mem _ (cellsOf grid) (q .1) in
-          let s = and-true (has (isBeside (name a)) ks (r .0)) _ (r .2) in
+          let s = and-true (has (isNeighbour (name a)) ks (r .0)) _ (r .2) in
           let t = any-mem _ (neighbours grid (r .0)) (s .1) in
           let u = and-true (has isFloating ks (t .0)) _ (t .2) in
           let nb = beside-nbr set a (r .0) sa (s .0) in
@@ -80,7 +80,7 @@ module _ (set : Setting) where
   so-reach a i ar (inr (inl m)) = so-orl _ (so-orr (has (isIn (name a)) ks i) (nbr-beside set a i ar m))
   so-reach a i ar (inr (inr (m, f, nb, e, l))) =
       let k = float′ f i l in
-      so-orr (has (isIn (name a)) ks i || has (isBeside (name a)) ks i) (true-and (linked-end k)
+      so-orr (has (isIn (name a)) ks i || has (isNeighbour (name a)) ks i) (true-and (linked-end k)
       (mem-any _ (cellsOf grid) (mem-upto (size grid) (un< set m (nb .0)))
       (true-and (nbr-beside set a m ar nb)
       (mem-any _ (neighbours grid m) (e .1) (true-and (linked-start k) (eq-eqb _ _ (float-labels set .linked f i k)))))))
@@ -132,7 +132,7 @@ module _ (set : Setting) where
 
   -- a board that agrees with the fence
   pub fenced : (full : List ℕ) (a : ℕ) → So (onArrow arrows a) → So (square cells a) → Agrees full (fence v (name a)) → Fenced B (λ c. So (square full c)) a
-  unfolding fence fenceAt view viewWith cellsOf rival square
+  unfolding fence fenceAt view viewWith cellsOf disturbing square
   fenced full a ar sa ag = record {
     out = λ r e rr ad z. out r e rr ad z (kind-get set e (adj-sym grid r e ad .0) ∙ kind-empty e z);
     far = λ r u d x rr ru uu dd nb t dx. far r u d x rr ru uu dd nb t dx (kind-get set x (sq< set x (linked-end dx)) ∙ kind-in x (d, dd, dx));
@@ -154,7 +154,7 @@ module _ (set : Setting) where
       far r u d x rr ru uu dd nb (y, uy, dy) dx k =
           let dn : name d ≡ name x = block-labels set .linked d x dx in
           let diff : So (not (eqb (name x) (name a))) = so-not _ (λ h. nb (block-labels set .same a d sa (linked-start dx) (sym (eqb-true _ _ h) ∙ sym dn))) in
-          let riv : So (rival v R (name x)) =
+          let riv : So (disturbing v R (name x)) =
           mem-any _ (cellsOf grid) (mem-upto (size grid) (sq< set y (linked-end dy)))
           (true-and (subst (λ q. So (has (isIn q) ks y)) dn (blk-in set d y dd dy))
           (mem-any _ (neighbours grid y) (adj-sym grid u y uy .1) (true-and uu (adjacent-touches grid R u r (adj-sym grid r u ru) (in-reach a r ar rr))))) in

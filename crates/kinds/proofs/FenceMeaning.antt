@@ -16,9 +16,9 @@ use Rattle.grid.specs.Link.{linked-start, linked-end}
 use Rattle.grid.proofs.ListLaws.{and-true, true-and, any-mem, mem-any, member-mem, flatMap-mem, mem-flatMap, upto-mem, not-so, so-not}
 use Rattle.grid.proofs.GridLaws.{adj-sym, adjacent-touches, in-cells}
 use Rattle.grid.proofs.RisingLaws.{Rising, nil, cons, cells-rising}
-use Rattle.board.specs.Board.{Literal, square, undecided}
+use Rattle.grid.specs.Cells.{Literal, square, undecided}
 use Rattle.groups.specs.Arrows.{onArrow}
-use Rattle.kinds.specs.Kinds.{Kind, vacant, barrier, floating, inBlock, beside, isIn, has, View, view, viewWith, reach, rival, fenceAt, fence}
+use Rattle.kinds.specs.Kinds.{Kind, vacant, barrier, floating, inBlock, neighbour, isIn, has, View, view, viewWith, reach, disturbing, fenceAt, fence}
 use Rattle.kinds.specs.Meaning.{PartialBoard, InArrow, Reach, Shut, Disturbing}
 use Rattle.kinds.proofs.Bridge.{Setting, boardOf, blockLabel, kinds, kind, kind-get, kind-vacant, kind-arrow, block-labels, sq<, in-blk, blk-in}
 use Rattle.kinds.proofs.Fence.{v, in-reach, reach-in, kind-empty, kind-in}
@@ -69,8 +69,8 @@ fence-rising w f = rising-flat (λ i. fenceAt w f (reach w f) i (getD (w .kinds)
     one i vacant = if-at-most (touches (w .grid) (reach w f) i) i 0
     one i barrier = inl refl
     one i floating = inl refl
-    one i (inBlock e) = if-at-most (not (eqb e f) && rival w (reach w f) e) i 1
-    one i (beside e) = inl refl
+    one i (inBlock e) = if-at-most (not (eqb e f) && disturbing w (reach w f) e) i 1
+    one i (neighbour e) = inl refl
 
 module _ (set : Setting) where
   open Setting set using (puzzle, cells)
@@ -115,13 +115,13 @@ module _ (set : Setting) where
           (r .0, (l, r .1), reach-in set a (r .0) sq (member-mem (r .0) R (r .2)))
 
       of-fence : (i w : ℕ) → List·Memᴰ (i, w) fenceOf → Meant i w
-      unfolding fence fenceAt rival view viewWith cellsOf
+      unfolding fence fenceAt disturbing view viewWith cellsOf
       of-fence i w m =
           let x = flatMap-mem (λ k. says k (getD (kinds set) k vacant)) (cellsOf grid) m in
           let l = upto-mem (size grid) (x .1) in
           at (x .0) l (kind set (x .0)) refl (subst (λ k. List·Memᴰ (i, w) (says (x .0) k)) (kind-get set (x .0) l) (x .2))
         where
-          far : (x e : ℕ) → kind set x ≡ inBlock e → So (not (eqb e (name a))) → So (rival (v set) R e) → Disturbing B a x
+          far : (x e : ℕ) → kind set x ≡ inBlock e → So (not (eqb e (name a))) → So (disturbing (v set) R e) → Disturbing B a x
           far x e k n t = go (kind-arrow set x e k)
             where
               go : InArrow B x × (name x ≡ e) → Disturbing B a x
@@ -153,10 +153,10 @@ module _ (set : Setting) where
           at x l barrier k m = absurd (List·Memᴰ·not-nil m)
           at x l floating k m = absurd (List·Memᴰ·not-nil m)
           at x l (inBlock e) k m =
-              let q = if-mem (not (eqb e (name a)) && rival (v set) R e) (x, 1) (i, w) m in
+              let q = if-mem (not (eqb e (name a)) && disturbing (v set) R e) (x, 1) (i, w) m in
               let t = and-true (not (eqb e (name a))) _ (q .0) in
               inr (ap (λ z. z .1) (q .1), subst (Disturbing B a) (sym (ap indexOf (q .1))) (far x e k (t .0) (t .1)))
-          at x l (beside e) k m = absurd (List·Memᴰ·not-nil m)
+          at x l (neighbour e) k m = absurd (List·Memᴰ·not-nil m)
 
       -- what the fence says of a cell of the grid is in it
       in-fence : (i w : ℕ) (k : Kind) → i < size grid → kind set i ≡ k → List·Memᴰ (i, w) (says i k) → List·Memᴰ (i, w) fenceOf
@@ -170,7 +170,7 @@ module _ (set : Setting) where
           (rw (adjacent-touches grid R i r ad (in-reach set a r arrow rr)) (List·Memᴰ·head refl))
 
       disturbing-in : (i : ℕ) → Disturbing B a i → List·Memᴰ (i, 1) fenceOf
-      unfolding fenceAt rival view viewWith
+      unfolding fenceAt disturbing view viewWith
       disturbing-in i (d, u, r, ad, nb, di, uu, (y, uy, dy), ur, rr) =
           in-fence i 1 (inBlock (name i)) (sq< set i (linked-end di)) (kind-in set i (d, ad, di)) (rw (true-and other beside-it) (List·Memᴰ·head refl))
         where
@@ -180,7 +180,7 @@ module _ (set : Setting) where
           other : So (not (eqb (name i) (name a)))
           other = so-not _ (λ h. nb (block-labels set .same a d sq (linked-start di) (sym (eqb-true _ _ h) ∙ sym dn)))
 
-          beside-it : So (rival (v set) R (name i))
+          beside-it : So (disturbing (v set) R (name i))
           beside-it = mem-any _ (cellsOf grid) (in-cells grid y (sq< set y (linked-end dy)))
               (true-and (subst (λ q. So (has (isIn q) (kinds set) y)) dn (blk-in set d y ad dy))
               (mem-any _ (neighbours grid y) (adj-sym grid u y uy .1) (true-and uu (adjacent-touches grid R u r ur (in-reach set a r arrow rr)))))

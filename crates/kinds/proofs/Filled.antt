@@ -1,76 +1,24 @@
 -- Arrays that are filled cell by cell, and arrays of marks that are set in any order.
 -- Assumes nothing.
-use Prim.Native.Nat.{ℕ, zero, suc, _+_, _-_, _≤_, _<_}
-use native.Mathlib.Nat.{add-zero, zero-add}
-use native.Mathlib.Numerals.{add-one}
+use Prim.Native.Nat.{ℕ, _+_, _-_, _%_, _≤_, _<_}
+use native.Mathlib.Nat.{zero-add}
 use native.Mathlib.Decide.{ℕ-discrete, decLt}
 use native.Mathlib.Omega.{arith}
-use mathlib.Core.Bool.{Bool, true, false, cond, _&&_, _||_}
+use mathlib.Core.Bool.{Bool, true, false, cond, _&&_, _||_, or-true, or-false}
 use mathlib.Core.Path.{_≡_, refl, sym, ap, _∙_, subst}
-use mathlib.Core.List.{List, [], _∷_, _++_, map}
+use mathlib.Core.List.{List, [], _∷_, _++_, map, map-append}
 use lib.Dec.{eqb, ltb}
-use lib.ListN.{length, getD, set, replicate, length-append, length-set, length-replicate, getD-replicate}
+use lib.ListN.{length, getD, set, replicate, length-set, length-replicate, getD-replicate}
 use lib.Seq.{ext-getD, getD-set-same, getD-set-other, set-getD}
 use borrow.Author.Tests.{eq-eqb, ne-eqb, lt-ltb, le-ltb}
-use Rattle.grid.specs.Lists.{range, upto, filter, any, arrayOf}
+use Rattle.grid.specs.Lists.{range, upto, any, arrayOf}
 use Rattle.grid.specs.Grid.{Grid, size, cellsOf}
 use Rattle.grid.proofs.ListLaws.{length-map-range, getD-map-range}
 use Rattle.grid.proofs.ArrayLaws.{array-length, array-in, array-out, array-more}
+use Rattle.grid.proofs.AppendLaws.{upto-more, any-more}
 use Rattle.groups.specs.Groups.{maskOf}
 use Rattle.kinds.specs.Kinds.{kindCode, ownerBy}
-use Rattle.kinds.specs.Inside.{Marks, nameAt, nameAmong, nameTwice, Met, kindIn, codesIn, ownersIn}
-
--- ---- one more
-
-range-more : (a k : ℕ) → range a (suc k) ≡ range a k ++ ((a + k) ∷ [])
-unfolding range
-range-more a zero = ap (λ (x : ℕ). x ∷ []) (sym (add-zero a))
-range-more a (suc k) = ap (λ (l : List ℕ). a ∷ l) (range-more (suc a) k ∙ ap (λ (x : ℕ). range (suc a) k ++ (x ∷ [])) (omega arith))
-
-pub upto-more : (k : ℕ) → upto (k + 1) ≡ upto k ++ (k ∷ [])
-unfolding upto
-upto-more k = ap (range 0) (add-one k) ∙ range-more 0 k ∙ ap (λ (x : ℕ). range 0 k ++ (x ∷ [])) (zero-add k)
-
-module _ {A : Type 0} where
-  pub map-append : {B : Type 0} (f : A → B) (l m : List A) → map f (l ++ m) ≡ map f l ++ map f m
-  map-append f [] m = refl
-  map-append f (x ∷ l) m = ap (λ t. f x ∷ t) (map-append f l m)
-
-  pub any-append : (p : A → Bool) (l m : List A) → any p (l ++ m) ≡ (any p l || any p m)
-  unfolding any
-  any-append p [] m = refl
-  any-append p (x ∷ l) m = go (p x) (any-append p l m)
-    where
-      go : (b : Bool) → any p (l ++ m) ≡ (any p l || any p m) → (b || any p (l ++ m)) ≡ ((b || any p l) || any p m)
-      go true h = refl
-      go false h = h
-
-  pub filter-append : (p : A → Bool) (l m : List A) → filter p (l ++ m) ≡ filter p l ++ filter p m
-  unfolding filter
-  filter-append p [] m = refl
-  filter-append p (x ∷ l) m = go (p x) (filter-append p l m)
-    where
-      go : (b : Bool) → filter p (l ++ m) ≡ filter p l ++ filter p m → cond b (x ∷ filter p (l ++ m)) (filter p (l ++ m)) ≡ cond b (x ∷ filter p l) (filter p l) ++ filter p m
-      go true h = ap (λ t. x ∷ t) h
-      go false h = h
-
-pub or-false : (b : Bool) → (b || false) ≡ b
-or-false true = refl
-or-false false = refl
-
--- one more cell is tested
-pub any-more : (p : ℕ → Bool) (k : ℕ) → any p (upto (k + 1)) ≡ (any p (upto k) || p k)
-unfolding any
-any-more p k = ap (any p) (upto-more k) ∙ any-append p (upto k) (k ∷ []) ∙ ap (λ (b : Bool). any p (upto k) || b) (or-false (p k))
-
--- one more cell is counted
-pub count-hit : (p : ℕ → Bool) (k : ℕ) → p k ≡ true → length (filter p (upto (k + 1))) ≡ length (filter p (upto k)) + 1
-unfolding filter
-count-hit p k h = ap (λ (l : List ℕ). length (filter p l)) (upto-more k) ∙ ap length (filter-append p (upto k) (k ∷ [])) ∙ length-append (filter p (upto k)) (filter p (k ∷ [])) ∙ rw h refl
-
-pub count-miss : (p : ℕ → Bool) (k : ℕ) → p k ≡ false → length (filter p (upto (k + 1))) ≡ length (filter p (upto k))
-unfolding filter
-count-miss p k h = ap (λ (l : List ℕ). length (filter p l)) (upto-more k) ∙ ap length (filter-append p (upto k) (k ∷ [])) ∙ length-append (filter p (upto k)) (filter p (k ∷ [])) ∙ rw h (add-zero (length (filter p (upto k))))
+use Rattle.kinds.specs.Inside.{Marks, nameAt, nameAmong, nameTwice, Met, kindIn, codesIn, unnamed, ownersIn}
 
 -- ---- filled cell by cell: the values F of the first k cells, and d behind them
 
@@ -187,6 +135,14 @@ met-some f met h e t k = record {
   before = e ∙ ap (λ (x : ℕ). eqb x 1) (k .at f h) ∙ mark-test (t f) ∙ rw (lt-ltb f 1024 h) refl;
 }
 
+-- both at once, as they are written without a branch: a name that is none goes by the place of its remainder, which stays as it is
+pub met-either : {M : List ℕ} (f : ℕ) (t : ℕ → Bool) → Marks M t → Met f t (set M (f % 1024) (cond (ltb f 1024) 1 (getD M (f % 1024) 0))) (ltb f 1024 && eqb (getD M (f % 1024) 0) 1)
+met-either {M} f t k = go (decLt f 1024)
+  where
+    go : Dec (f < 1024) → Met f t (set M (f % 1024) (cond (ltb f 1024) 1 (getD M (f % 1024) 0))) (ltb f 1024 && eqb (getD M (f % 1024) 0) 1)
+    go (yes h) = let e : f % 1024 ≡ f = omega arith in rw (e, lt-ltb f 1024 h) (met-some f (eqb (getD M f 0) 1) h refl t k)
+    go (no h) = rw (le-ltb f 1024 (omega arith), set-getD M (f % 1024) 0) (met-none f (omega arith) t k)
+
 module _ (names line : List ℕ) where
   pub among-none : {M : List ℕ} → Marks M (λ m. false) → Marks M (nameAmong names line 0)
   unfolding nameAmong upto range any
@@ -206,16 +162,8 @@ module _ (names line : List ℕ) where
   unfolding nameTwice
   twice-more k = any-more (λ j. ltb (nameAt names line j) 1024 && nameAmong names line j (nameAt names line j)) k
 
-  -- the cell was met before, or was not
-  pub twice-met : (k : ℕ) {met : Bool} → met ≡ (ltb (nameAt names line k) 1024 && nameAmong names line k (nameAt names line k)) → met ≡ true → true ≡ nameTwice names line (k + 1)
-  twice-met k e y = sym (rw (twice-more k, ← e, y) (or-true (nameTwice names line k)))
-    where
-      or-true : (b : Bool) → (b || true) ≡ true
-      or-true true = refl
-      or-true false = refl
-
-  pub twice-new : (k : ℕ) {met twice : Bool} → met ≡ (ltb (nameAt names line k) 1024 && nameAmong names line k (nameAt names line k)) → met ≡ false → twice ≡ nameTwice names line k → twice ≡ nameTwice names line (k + 1)
-  twice-new k e n q = q ∙ sym (rw (twice-more k, ← e, n) (or-false (nameTwice names line k)))
+  pub twice-next : (k : ℕ) {met twice : Bool} → met ≡ (ltb (nameAt names line k) 1024 && nameAmong names line k (nameAt names line k)) → twice ≡ nameTwice names line k → (twice || met) ≡ nameTwice names line (k + 1)
+  twice-next k e q = sym (twice-more k ∙ rw (← e, ← q))
 
 -- ---- the kinds of the cells passed
 
@@ -230,12 +178,12 @@ module _ (blocks arrowed : List ℕ) (g : Grid) (cells : List ℕ) where
 
   pub owners-none : replicate 1024 1024 ≡ ownersIn blocks arrowed g cells 0
   unfolding ownersIn
-  owners-none = filled-none 1024 (λ i. ownerBy 1024 (kindIn blocks arrowed g cells i))
+  owners-none = filled-none 1024 (λ i. ownerBy unnamed (kindIn blocks arrowed g cells i))
 
-  pub owners-more : (L : List ℕ) (i : ℕ) → i < 1024 → L ≡ ownersIn blocks arrowed g cells i → set L i (ownerBy 1024 (kindIn blocks arrowed g cells i)) ≡ ownersIn blocks arrowed g cells (i + 1)
+  pub owners-more : (L : List ℕ) (i : ℕ) → i < 1024 → L ≡ ownersIn blocks arrowed g cells i → set L i (ownerBy unnamed (kindIn blocks arrowed g cells i)) ≡ ownersIn blocks arrowed g cells (i + 1)
   unfolding ownersIn
-  owners-more L i h e = rw e (filled-more 1024 (λ i. ownerBy 1024 (kindIn blocks arrowed g cells i)) i (ownerBy 1024 (kindIn blocks arrowed g cells i)) h refl)
+  owners-more L i h e = rw e (filled-more 1024 (λ i. ownerBy unnamed (kindIn blocks arrowed g cells i)) i (ownerBy unnamed (kindIn blocks arrowed g cells i)) h refl)
 
   pub owners-length : (k : ℕ) → k ≤ 1024 → length (ownersIn blocks arrowed g cells k) ≡ 1024
   unfolding ownersIn
-  owners-length k h = filled-length 1024 (λ i. ownerBy 1024 (kindIn blocks arrowed g cells i)) k h
+  owners-length k h = filled-length 1024 (λ i. ownerBy unnamed (kindIn blocks arrowed g cells i)) k h

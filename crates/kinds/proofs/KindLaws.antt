@@ -10,8 +10,8 @@ use Rattle.grid.specs.Lists.{Distinct, member, once}
 use Rattle.grid.specs.Grid.{Grid, size}
 use Rattle.grid.specs.Link.{linked-start}
 use Rattle.grid.proofs.ListLaws.{dec-so, so-false, mem-member, once-mem}
-use Rattle.board.specs.Board.{empty, square}
-use Rattle.kinds.specs.Kinds.{vacant, barrier, floating, inBlock, kindBeside, blocksBeside, kindAt}
+use Rattle.grid.specs.Cells.{empty, square}
+use Rattle.kinds.specs.Kinds.{vacant, barrier, floating, inBlock, kindTouching, blocksTouched, kindAt}
 use Rattle.kinds.specs.Meaning.{Barrier}
 use Rattle.kinds.proofs.Bridge.{Setting, boardOf, blockLabel, kind, arrowed, listed, around, around-so, so-around, listed-mem, mem-listed, undecided-so, un-sq-false, un-em-false, block-labels}
 
@@ -26,9 +26,9 @@ once-distinct (x ∷ xs) = go (dec-so (member x xs)) (once-distinct xs)
     go (no h) d = rw (so-false (member x xs) h) (λ m. h (mem-member x xs (once-mem xs m)), d)
 
 -- a barrier's tests: neither empty nor square, and two arrow blocks or more around it
-barrier-of : (e s a : Bool) (m : ℕ) (l : List ℕ) → cond e vacant (cond s (cond a (inBlock m) floating) (kindBeside l)) ≡ barrier
+barrier-of : (e s a : Bool) (m : ℕ) (l : List ℕ) → cond e vacant (cond s (cond a (inBlock m) floating) (kindTouching l)) ≡ barrier
     → (e ≡ false) × (s ≡ false) × ((x y : ℕ) × (r : List ℕ) × (l ≡ x ∷ y ∷ r))
-unfolding kindBeside
+unfolding kindTouching
 barrier-of true s a m l h = absurd (let z : _≡_ {A = ℕ} 0 1 = cc in omega arith)
 barrier-of false true true m l h = absurd (let z : _≡_ {A = ℕ} 0 1 = cc in omega arith)
 barrier-of false true false m l h = absurd (let z : _≡_ {A = ℕ} 0 1 = cc in omega arith)
@@ -37,8 +37,8 @@ barrier-of false false a m (x ∷ []) h = absurd (let z : _≡_ {A = ℕ} 0 1 = 
 barrier-of false false a m (x ∷ y ∷ r) h = (refl, refl, (x, y, r, refl))
 
 -- two members that differ make a barrier
-two-barrier : (l : List ℕ) (x y : ℕ) → List·Memᴰ x l → List·Memᴰ y l → ¬ (x ≡ y) → kindBeside l ≡ barrier
-unfolding kindBeside
+two-barrier : (l : List ℕ) (x y : ℕ) → List·Memᴰ x l → List·Memᴰ y l → ¬ (x ≡ y) → kindTouching l ≡ barrier
+unfolding kindTouching
 two-barrier [] x y m n d = absurd (List·Memᴰ·not-nil m)
 two-barrier (f ∷ []) x y m n d = absurd (d (List·Memᴰ·eq-of-singleton m ∙ sym (List·Memᴰ·eq-of-singleton n)))
 two-barrier (f ∷ e ∷ es) x y m n d = refl
@@ -51,7 +51,7 @@ module _ (set : Setting) where
 
   -- the kind of a cell of the grid is barrier
   barrier-so : (i : ℕ) → i < size grid → kind set i ≡ barrier → Barrier (boardOf set) i
-  unfolding kindAt blocksBeside
+  unfolding kindAt blocksTouched
   barrier-so i l h = go (q .2 .0) (q .2 .1) (q .2 .2) (q .2 .3)
     where
       q : (empty cells i ≡ false) × (square cells i ≡ false) × ((x y : ℕ) × (r : List ℕ) × (listed set i ≡ x ∷ y ∷ r))

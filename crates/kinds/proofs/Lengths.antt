@@ -9,8 +9,8 @@ use lib.ListN.{length, getD}
 use Rattle.grid.proofs.ListLaws.{filter-length, flatMap-length}
 use Rattle.grid.proofs.GridLaws.{cells-length}
 use Rattle.grid.specs.Grid.{size, cellsOf, touches}
-use Rattle.board.specs.Board.{Literal}
-use Rattle.kinds.specs.Kinds.{View, Kind, block, reach, fence, fenceAt, vacant, barrier, floating, inBlock, beside, rival, has, isIn}
+use Rattle.grid.specs.Cells.{Literal}
+use Rattle.kinds.specs.Kinds.{View, Kind, block, reach, fence, fenceAt, vacant, barrier, floating, inBlock, neighbour, disturbing, has, isIn}
 
 module _ (v : View) where
   pub block-length : (f : ℕ) → length (block v f) ≤ size (v .grid)
@@ -29,5 +29,5 @@ module _ (v : View) where
       one i vacant = pick (touches (v .grid) (reach v f) i) (i, 0)
       one i barrier = omega arith
       one i floating = omega arith
-      one i (inBlock e) = pick (not (eqb e f) && rival v (reach v f) e) (i, 1)
-      one i (beside e) = omega arith
+      one i (inBlock e) = pick (not (eqb e f) && disturbing v (reach v f) e) (i, 1)
+      one i (neighbour e) = omega arith

@@ -5,18 +5,18 @@ use native.Mathlib.Decide.{ℕ-discrete}
 use mathlib.Core.Logic.{_⊎_, inl, inr}
 use mathlib.Core.Path.{_≡_, refl, sym, ap, _∙_, subst}
 use mathlib.Core.Bool.{true, false}
-use mathlib.Core.List.{List, [], _∷_, _++_, map, List·Memᴰ, List·Memᴰ·head, List·Memᴰ·not-nil, List·Memᴰ·append-cases, List·Memᴰ·eq-of-singleton, Memᴰ·append-left, Memᴰ·append-right, append-nil}
+use mathlib.Core.List.{List, [], _∷_, _++_, map, List·Memᴰ, List·Memᴰ·head, List·Memᴰ·not-nil, List·Memᴰ·append-cases, List·Memᴰ·eq-of-singleton, Memᴰ·append-left, Memᴰ·append-right, append-nil, map-append}
 use lib.Dec.{eqb, ltb}
 use lib.ListN.{getD}
 use borrow.Author.Tests.{eq-eqb, ne-eqb, lt-ltb, le-ltb}
 use Rattle.grid.specs.Lists.{filter, once}
 use Rattle.grid.specs.Grid.{Grid, neighbours}
 use Rattle.grid.proofs.ListLaws.{once-nil, once-one, mem-once}
-use Rattle.kinds.specs.Kinds.{Kind, vacant, barrier, floating, inBlock, beside, kindBeside}
+use Rattle.grid.proofs.AppendLaws.{filter-append}
+use Rattle.kinds.specs.Kinds.{Kind, vacant, barrier, floating, inBlock, neighbour, kindTouching}
 use Rattle.kinds.specs.Inside.{meetOf, Owned, nobody, one, many, arrowAt, arrowsAt, kindIn}
 use Rattle.kinds.specs.declared.Owner.{Owner}
 use Rattle.kinds.specs.declared.Owner.the-variants.{Nobody, One, Many}
-use Rattle.kinds.proofs.Filled.{filter-append, map-append}
 
 -- one more name
 owned-more : {l : List ℕ} {o : Owner} (x : ℕ) → Owned l o → Owned (l ++ (x ∷ [])) (meetOf o x)
@@ -63,19 +63,19 @@ module _ (blocks arrowed : List ℕ) where
 
 -- ---- the kind that they make of an undecided cell
 
-pub kind-nobody : {l : List ℕ} → Owned l Nobody → kindBeside (once l) ≡ floating
-unfolding kindBeside
+pub kind-nobody : {l : List ℕ} → Owned l Nobody → kindTouching (once l) ≡ floating
+unfolding kindTouching
 kind-nobody {l} (nobody h) = rw (once-nil l h)
 
-pub kind-one : {l : List ℕ} {f : ℕ} → Owned l (One f) → kindBeside (once l) ≡ beside f
-unfolding kindBeside
+pub kind-one : {l : List ℕ} {f : ℕ} → Owned l (One f) → kindTouching (once l) ≡ neighbour f
+unfolding kindTouching
 kind-one {l} (one {f} m h) = rw (once-one l f m h)
 
-pub kind-many : {l : List ℕ} → Owned l Many → kindBeside (once l) ≡ barrier
-unfolding kindBeside
+pub kind-many : {l : List ℕ} → Owned l Many → kindTouching (once l) ≡ barrier
+unfolding kindTouching
 kind-many {l} (many {e} {f} m k ne) = go (once l) (mem-once l m) (mem-once l k)
   where
-    go : (t : List ℕ) → List·Memᴰ e t → List·Memᴰ f t → kindBeside t ≡ barrier
+    go : (t : List ℕ) → List·Memᴰ e t → List·Memᴰ f t → kindTouching t ≡ barrier
     go [] a b = absurd (List·Memᴰ·not-nil a)
     go (x ∷ []) a b = absurd (ne (List·Memᴰ·eq-of-singleton a ∙ sym (List·Memᴰ·eq-of-singleton b)))
     go (x ∷ y ∷ t) a b = refl
@@ -95,6 +95,6 @@ module _ (blocks arrowed : List ℕ) (g : Grid) (cells : List ℕ) (i : ℕ) whe
   unfolding kindIn
   kind-alone x e q h = rw (e, ← q, le-ltb x 1024 h)
 
-  pub kind-open : (k : Kind) → (getD cells i 0 ≡ 0 → ⊥) → (getD cells i 0 ≡ 1 → ⊥) → kindBeside (once (arrowsAt blocks arrowed (neighbours g i))) ≡ k → k ≡ kindIn blocks arrowed g cells i
+  pub kind-open : (k : Kind) → (getD cells i 0 ≡ 0 → ⊥) → (getD cells i 0 ≡ 1 → ⊥) → kindTouching (once (arrowsAt blocks arrowed (neighbours g i))) ≡ k → k ≡ kindIn blocks arrowed g cells i
   unfolding kindIn
   kind-open k a b e = rw (ne-eqb (getD cells i 0) 0 a, ne-eqb (getD cells i 0) 1 b) (sym e)

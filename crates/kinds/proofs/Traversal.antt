@@ -1,7 +1,7 @@
 -- The walks over floating groups name each by its first cell: no code is named here.
 -- Assumes nothing.
 use Prim.Native.Nat.{ℕ, zero, suc, _+_, _≤_, _<_}
-use native.Mathlib.Decide.{ℕ-discrete, decLt}
+use native.Mathlib.Decide.{decLt}
 use native.Mathlib.Omega.{arith}
 use mathlib.Core.Bool.{Bool, true, false, So, false≢true}
 use mathlib.Core.Path.{_≡_, refl, sym, _∙_}
@@ -13,17 +13,11 @@ use borrow.Author.Tests.{eq-eqb, ne-eqb}
 use Rattle.grid.specs.Grid.{Grid, size, neighbours, Adjacent}
 use Rattle.grid.specs.Link.{here, step, linked-end, linked-start, linked-trans, linked-sym, linked-map}
 use Rattle.grid.proofs.GridLaws.{adj-sym}
+use Rattle.grid.proofs.ListLaws.{split}
+use Rattle.grid.proofs.AppendLaws.{by-eq}
 use Rattle.groups.specs.Groups.{Joined, labels}
 use Rattle.groups.proofs.GroupLaws.{label-own, label-least}
-use Rattle.kinds.specs.Inside.{free, Kept, same, named, Grown, Walked, Right, none, some, Sofar}
-
--- by cases on whether j is q
-pub by-eq : {P : Type 0} (j q : ℕ) → (j ≡ q → P) → ((j ≡ q → ⊥) → P) → P
-by-eq {P} j q f g = go (ℕ-discrete j q)
-  where
-    go : Dec (j ≡ q) → P
-    go (yes e) = f e
-    go (no ne) = g ne
+use Rattle.kinds.specs.Inside.{unnamed, OnlyUnnamed, free, Kept, same, named, Grown, Walked, Right, none, some, Sofar}
 
 -- the entry at j after a store at q
 data At (L : List ℕ) (q v j : ℕ) : Type 0 where
@@ -34,29 +28,44 @@ at : (L : List ℕ) (q v j : ℕ) → q < length L → At L q v j
 at L q v j h = by-eq j q (λ e. hit e (rw e (getD-set-same L q v 0 h))) (λ ne. miss ne (getD-set-other L q j v 0 ne))
 
 -- a name is given: one entry fewer is free
-pub free-set : (L : List ℕ) (q s : ℕ) → getD L q 0 ≡ 1024 → (s ≡ 1024 → ⊥) → free (set L q s) + 1 ≡ free L
+pub free-set : (L : List ℕ) (q s : ℕ) → getD L q 0 ≡ unnamed → (s ≡ unnamed → ⊥) → free (set L q s) + 1 ≡ free L
 unfolding free
 free-set [] q s e ne = absurd (omega (arith, e))
-free-set (x ∷ xs) zero s e ne = rw (ne-eqb s 1024 ne, eq-eqb x 1024 e) (omega arith)
+free-set (x ∷ xs) zero s e ne = rw (ne-eqb s unnamed ne, eq-eqb x unnamed e) (omega arith)
 free-set (x ∷ xs) (suc q) s e ne = omega (arith, free-set xs q s e ne)
 
-below-long : (L : List ℕ) (q : ℕ) → getD L q 0 ≡ 1024 → q < length L
+below-long : (L : List ℕ) (q : ℕ) → getD L q 0 ≡ unnamed → q < length L
 below-long [] q e = absurd (omega (arith, e))
 below-long (x ∷ xs) zero e = omega arith
 below-long (x ∷ xs) (suc q) e = omega (arith, below-long xs q e)
 
+-- only cells that pass have no name, also after one has got a name
+pub only-set : {p : ℕ → Bool} (L : List ℕ) (i s : ℕ) → s < 1024 → getD L i 0 ≡ unnamed → OnlyUnnamed p L → OnlyUnnamed p (set L i s)
+only-set {p} L i s small u only j e = go (at L i s j (below-long L i u))
+  where
+    go : At L i s j → So (p j)
+    go (hit q v) = absurd (omega (arith, e, v))
+    go (miss ne v) = only j (sym v ∙ e)
+
 -- amid the walk from i: ks are the neighbours walked from
 pub record Turn (g : Grid) (p : ℕ → Bool) (i s : ℕ) (L₀ L ks : List ℕ) : Type 0 where
   pub grown : Grown g p i s L₀ L
-  pub past : (k : ℕ) → List·Memᴰ k ks → So (p k) → getD L k 0 ≡ 1024 → ⊥
+  pub past : (k : ℕ) → List·Memᴰ k ks → So (p k) → getD L k 0 ≡ unnamed → ⊥
 
 module _ {g : Grid} {p : ℕ → Bool} {s : ℕ} (small : s < 1024) where
-  pub grown-stays : {i : ℕ} {L L′ : List ℕ} → Grown g p i s L L′ → (k : ℕ) → (getD L k 0 ≡ 1024 → ⊥) → getD L′ k 0 ≡ 1024 → ⊥
+  pub grown-stays : {i : ℕ} {L L′ : List ℕ} → Grown g p i s L L′ → (k : ℕ) → (getD L k 0 ≡ unnamed → ⊥) → getD L′ k 0 ≡ unnamed → ⊥
   grown-stays {i} {L} {L′} G k h x = go (G .kept k)
     where
       go : Kept g p i s L L′ k → ⊥
       go (same v) = h (sym v ∙ x)
       go (named u v q) = omega (arith, v, x)
+
+  pub grown-only : {i : ℕ} {L L′ : List ℕ} → Grown g p i s L L′ → OnlyUnnamed p L → OnlyUnnamed p L′
+  grown-only {i} {L} {L′} G only j e = go (G .kept j)
+    where
+      go : Kept g p i s L L′ j → So (p j)
+      go (same v) = only j (sym v ∙ e)
+      go (named u v q) = absurd (omega (arith, v, e))
 
   pub grown-none : {i : ℕ} {L : List ℕ} → Grown g p i s L L
   grown-none = record { long = refl; fewer = omega arith; kept = λ j. same refl; done = λ j u v. omega (arith, u, v) }
@@ -70,7 +79,7 @@ module _ {g : Grid} {p : ℕ → Bool} {s : ℕ} (small : s < 1024) where
       both j (named u v q) (same v′) = named u (v′ ∙ v) q
       both j (named u v q) (named u′ v′ q′) = named u v′ q
 
-      by : (j : ℕ) → getD L j 0 ≡ 1024 → getD L₂ j 0 ≡ s → Kept g p i s L L₁ j → (k : ℕ) → Adjacent g j k → So (p k) → getD L₂ k 0 ≡ 1024 → ⊥
+      by : (j : ℕ) → getD L j 0 ≡ unnamed → getD L₂ j 0 ≡ s → Kept g p i s L L₁ j → (k : ℕ) → Adjacent g j k → So (p k) → getD L₂ k 0 ≡ unnamed → ⊥
       by j u x (same v) k e o = H .done j (v ∙ u) x k e o
       by j u x (named u′ v q) k e o = grown-stays H k (G .done j u v k e o)
 
@@ -83,7 +92,7 @@ module _ {g : Grid} {p : ℕ → Bool} {s : ℕ} (small : s < 1024) where
       go j (named u v q) = named u v (linked-trans (step (here o) e (linked-start q)) q)
 
   -- nothing is done where i does not pass, or has a name
-  pub walked-not : {i : ℕ} {L : List ℕ} → (So (p i) → getD L i 0 ≡ 1024 → ⊥) → Walked g p i s L L
+  pub walked-not : {i : ℕ} {L : List ℕ} → (So (p i) → getD L i 0 ≡ unnamed → ⊥) → Walked g p i s L L
   walked-not h = record { grown = grown-none; seed = h }
 
   -- the neighbours in turn
@@ -96,12 +105,12 @@ module _ {g : Grid} {p : ℕ → Bool} {s : ℕ} (small : s < 1024) where
       G : Grown g p i s L L′
       G = grown-near o e (W .grown)
 
-      by : (j : ℕ) → So (p j) → List·Memᴰ j ks ⊎ List·Memᴰ j (k ∷ []) → getD L′ j 0 ≡ 1024 → ⊥
+      by : (j : ℕ) → So (p j) → List·Memᴰ j ks ⊎ List·Memᴰ j (k ∷ []) → getD L′ j 0 ≡ unnamed → ⊥
       by j oj (inl m) = grown-stays G j (Q .past j m oj)
       by j oj (inr m) = let q : j ≡ k = List·Memᴰ·eq-of-singleton m in rw q (W .seed (rw q at oj))
 
   -- the cell i itself, and then its neighbours
-  pub turn-all : {i : ℕ} {L L′ : List ℕ} → So (p i) → getD L i 0 ≡ 1024 → Turn g p i s (set L i s) L′ (neighbours g i) → Walked g p i s L L′
+  pub turn-all : {i : ℕ} {L L′ : List ℕ} → So (p i) → getD L i 0 ≡ unnamed → Turn g p i s (set L i s) L′ (neighbours g i) → Walked g p i s L L′
   turn-all {i} {L} {L′} o u Q = record {
     grown = record {
       long = G .long ∙ length-set L i s;
@@ -127,7 +136,7 @@ module _ {g : Grid} {p : ℕ → Bool} {s : ℕ} (small : s < 1024) where
 abbrev pub OnGrid : Grid → (ℕ → Bool) → Type 0
 OnGrid g p = (j : ℕ) → So (p j) → j < size g
 
-pub sofar-none : {g : Grid} {p : ℕ → Bool} {L : List ℕ} → ((j : ℕ) → So (p j) → getD L j 0 ≡ 1024) → Sofar g p L 0 L
+pub sofar-none : {g : Grid} {p : ℕ → Bool} {L : List ℕ} → ((j : ℕ) → So (p j) → getD L j 0 ≡ unnamed) → Sofar g p L 0 L
 sofar-none u = record {
   long = refl;
   right = λ j o. none (u j o);
@@ -136,12 +145,19 @@ sofar-none u = record {
   others = λ j f. refl;
 }
 
+pub sofar-only : {g : Grid} {p : ℕ → Bool} {s : ℕ} {L₀ L : List ℕ} → OnlyUnnamed p L₀ → Sofar g p L₀ s L → OnlyUnnamed p L
+sofar-only {p = p} {L = L} only S j e = go (split (p j))
+  where
+    go : (p j ≡ true) ⊎ (p j ≡ false) → So (p j)
+    go (inl o) = o
+    go (inr f) = only j (sym (S .others j f) ∙ e)
+
 module _ {g : Grid} {p : ℕ → Bool} {s : ℕ} {L₀ L L′ : List ℕ} (small : s < 1024) (S : Sofar g p L₀ s L) (W : Walked g p s s L L′) where
   G : Grown g p s s L L′
   G = W .grown
 
   -- a cell that has no name yet does not come before s
-  first : (j : ℕ) → getD L j 0 ≡ 1024 → So (p j) → s ≤ j
+  first : (j : ℕ) → getD L j 0 ≡ unnamed → So (p j) → s ≤ j
   first j u o = by-lt (decLt j s)
     where
       by-lt : Dec (j < s) → s ≤ j
@@ -153,27 +169,27 @@ module _ {g : Grid} {p : ℕ → Bool} {s : ℕ} {L₀ L L′ : List ℕ} (small
   right′ j o (none u) (same v) = none (v ∙ u)
   right′ j o (some lt le q) (same v) = some (omega (arith, v, lt)) (omega (arith, v, le)) (rw v q)
 
-  stays : (j : ℕ) → (getD L j 0 ≡ 1024 → ⊥) → getD L′ j 0 ≡ getD L j 0
+  stays : (j : ℕ) → (getD L j 0 ≡ unnamed → ⊥) → getD L′ j 0 ≡ getD L j 0
   stays j ne = go (G .kept j)
     where
       go : Kept g p s s L L′ j → getD L′ j 0 ≡ getD L j 0
       go (same v) = v
       go (named u v q) = absurd (ne u)
 
-  full′ : (j : ℕ) → j < s + 1 → So (p j) → getD L′ j 0 ≡ 1024 → ⊥
+  full′ : (j : ℕ) → j < s + 1 → So (p j) → getD L′ j 0 ≡ unnamed → ⊥
   full′ j h o x = by-eq j s (λ q. W .seed (rw q at o) (rw q at x)) (λ ne. let old = S .full j (omega arith) o in old (sym (stays j old) ∙ x))
 
-  closed′ : (j k : ℕ) → So (p j) → (getD L′ j 0 ≡ 1024 → ⊥) → Adjacent g j k → So (p k) → getD L′ k 0 ≡ getD L′ j 0
+  closed′ : (j k : ℕ) → So (p j) → (getD L′ j 0 ≡ unnamed → ⊥) → Adjacent g j k → So (p k) → getD L′ k 0 ≡ getD L′ j 0
   closed′ j k oj lab e ok = go (G .kept j) (G .kept k)
     where
       go : Kept g p s s L L′ j → Kept g p s s L L′ k → getD L′ k 0 ≡ getD L′ j 0
       go (same v) b =
-          let lab₀ : getD L j 0 ≡ 1024 → ⊥ = λ x. lab (v ∙ x) in
+          let lab₀ : getD L j 0 ≡ unnamed → ⊥ = λ x. lab (v ∙ x) in
           let e₀ = S .closed j k oj lab₀ e ok in
           stays k (λ x. lab₀ (sym e₀ ∙ x)) ∙ e₀ ∙ sym v
       go (named u v q) (named u′ v′ q′) = v′ ∙ sym v
       go (named u v q) (same v′) =
-          let lab₀ : getD L k 0 ≡ 1024 → ⊥ = λ x. G .done j u v k e ok (v′ ∙ x) in
+          let lab₀ : getD L k 0 ≡ unnamed → ⊥ = λ x. G .done j u v k e ok (v′ ∙ x) in
           absurd (lab₀ (sym (S .closed k j ok lab₀ (adj-sym g j k e) oj) ∙ u))
 
   others′ : (j : ℕ) → p j ≡ false → Kept g p s s L L′ j → getD L′ j 0 ≡ getD L₀ j 0
@@ -191,7 +207,7 @@ module _ {g : Grid} {p : ℕ → Bool} {s : ℕ} {L₀ L L′ : List ℕ} (small
 
 -- after the last walk each group has the name that the definition gives
 module _ {g : Grid} {p : ℕ → Bool} {L₀ L : List ℕ} (on : OnGrid g p) (S : Sofar g p L₀ (size g) L) where
-  has-name : (i : ℕ) → So (p i) → getD L i 0 ≡ 1024 → ⊥
+  has-name : (i : ℕ) → So (p i) → getD L i 0 ≡ unnamed → ⊥
   has-name i o = S .full i (on i o) o
 
   alike : {i j : ℕ} → Joined g p i j → getD L j 0 ≡ getD L i 0

@@ -11,27 +11,21 @@ use mathlib.Core.List.{List, [], _∷_, map, List·Memᴰ, List·Memᴰ·head, L
 use lib.Dec.{eqb, ltb}
 use lib.ListN.{length, getD, take, List·getD-eq-default}
 use lib.Seq.{getD-take}
-use borrow.Author.Tests.{lt-ltb}
-use Rattle.grid.specs.Lists.{upto, any, filter, once}
+use borrow.Author.Tests.{lt-ltb, ltb-true}
+use Rattle.grid.specs.Lists.{upto, filter, once}
 use Rattle.grid.specs.Grid.{Grid, size, cellsOf, neighbours}
 use Rattle.grid.specs.Side.{sized}
 use Rattle.grid.specs.Link.{here}
-use Rattle.grid.proofs.ListLaws.{split, and-true, length-map-range, getD-map-range}
+use Rattle.grid.proofs.ListLaws.{split, and-true, filter-mem, once-mem, length-map-range, getD-map-range}
 use Rattle.grid.proofs.GridLaws.{beside as side, on-grid}
 use Rattle.record.specs.Record.{Puzzle}
-use Rattle.board.specs.Board.{empty, square}
+use Rattle.grid.specs.Cells.{empty, square}
 use Rattle.groups.specs.Groups.{labels, labelAt, labelArray}
 use Rattle.groups.proofs.GroupLaws.{label-least}
-use Rattle.kinds.specs.Kinds.{Kind, vacant, barrier, floating, inBlock, beside, isFloating, kindBeside, arrowBlock, blocksBeside, kindAt, kindsOf, has, view, viewWith, kindCode, ownerBy, kindArray, ownerArray}
-use Rattle.kinds.specs.Inside.{puzzleWith, arrowAt, arrowsAt, kindIn, codesIn, ownersIn, floats, Given, Held, Unnamed, Sofar}
+use Rattle.kinds.specs.Kinds.{Kind, vacant, barrier, floating, inBlock, neighbour, isFloating, kindTouching, arrowBlock, blocksTouched, kindAt, kindsOf, has, view, viewWith, kindCode, ownerBy, kindArray, ownerArray}
+use Rattle.kinds.specs.Inside.{puzzleWith, arrowAt, arrowsAt, kindIn, codesIn, ownersIn, floats, Given, Held, unnamed, Unnamed, Sofar}
 use Rattle.kinds.proofs.Filled.{mask-at, mark-test, filled-at, filled-past, filled-is, filled-length, filled-same, owners-length}
 use Rattle.kinds.proofs.Traversal.{sofar-labels}
-
--- two tests that agree on a list's members
-pub any-same : (t u : ℕ → Bool) (l : List ℕ) → ((x : ℕ) → List·Memᴰ x l → t x ≡ u x) → any t l ≡ any u l
-unfolding any
-any-same t u [] h = refl
-any-same t u (x ∷ l) h = rw (h x (List·Memᴰ·head refl), any-same t u l (λ y m. h y (List·Memᴰ·tail m)))
 
 module _ (p : Puzzle) (small : size (p .grid) ≤ 1024) (cells blocks A : List ℕ) (given : Given p cells blocks A) where
   abbrev g : Grid
@@ -100,7 +94,7 @@ code-floating vacant = refl
 code-floating barrier = refl
 code-floating floating = refl
 code-floating (inBlock f) = refl
-code-floating (beside f) = refl
+code-floating (neighbour f) = refl
 
 -- only a floating cell's owner goes by its floating group
 owner-floating : (k : Kind) (m : ℕ) → So (isFloating k) → m ≡ ownerBy m k
@@ -109,23 +103,34 @@ owner-floating vacant m h = absurd (false≢true h)
 owner-floating barrier m h = absurd (false≢true h)
 owner-floating floating m h = refl
 owner-floating (inBlock f) m h = absurd (false≢true h)
-owner-floating (beside f) m h = absurd (false≢true h)
+owner-floating (neighbour f) m h = absurd (false≢true h)
 
-owner-other : (k : Kind) (m : ℕ) → isFloating k ≡ false → ownerBy 1024 k ≡ ownerBy m k
+owner-other : (k : Kind) (m : ℕ) → isFloating k ≡ false → ownerBy unnamed k ≡ ownerBy m k
 unfolding isFloating ownerBy
 owner-other vacant m h = refl
 owner-other barrier m h = refl
 owner-other floating m h = absurd (false≢true (sym h))
 owner-other (inBlock f) m h = refl
-owner-other (beside f) m h = refl
+owner-other (neighbour f) m h = refl
 
-owner-unnamed : (k : Kind) → So (isFloating k) → ownerBy 1024 k ≡ 1024
+owner-unnamed : (k : Kind) → So (isFloating k) → ownerBy unnamed k ≡ unnamed
 unfolding isFloating ownerBy
 owner-unnamed vacant h = absurd (false≢true h)
 owner-unnamed barrier h = absurd (false≢true h)
 owner-unnamed floating h = refl
 owner-unnamed (inBlock f) h = absurd (false≢true h)
-owner-unnamed (beside f) h = absurd (false≢true h)
+owner-unnamed (neighbour f) h = absurd (false≢true h)
+
+-- a cell without a name is floating, since the names of arrow blocks are small
+only-floating : (e s a : Bool) (x : ℕ) (l : List ℕ) → (So a → x < 1024) → ((f : ℕ) → List·Memᴰ f l → f < 1024)
+    → ownerBy unnamed (cond e vacant (cond s (cond a (inBlock x) floating) (kindTouching l))) ≡ unnamed → So (isFloating (cond e vacant (cond s (cond a (inBlock x) floating) (kindTouching l))))
+unfolding isFloating ownerBy kindTouching
+only-floating true s a x l low lows h = absurd (omega (arith, h))
+only-floating false true true x l low lows h = absurd (omega (arith, h, low refl))
+only-floating false true false x l low lows h = refl
+only-floating false false a x [] low lows h = refl
+only-floating false false a x (f ∷ []) low lows h = absurd (omega (arith, h, lows f (List·Memᴰ·head refl)))
+only-floating false false a x (f ∷ e ∷ es) low lows h = absurd (omega (arith, h))
 
 -- ---- the arrays before the walks
 module _ (blocks A : List ℕ) (g : Grid) (values : List ℕ) (n : ℕ) (small : n ≤ 1024) where
@@ -137,20 +142,38 @@ module _ (blocks A : List ℕ) (g : Grid) (values : List ℕ) (n : ℕ) (small :
       by (yes h) = filled-past 0 (λ j. kindCode (kindIn blocks A g values j)) n i l h
       by (no h) = List·getD-eq-default (codesIn blocks A g values n) 0 {n = i} (omega (arith, filled-length 0 (λ j. kindCode (kindIn blocks A g values j)) n small))
 
-  unnamed : (i : ℕ) → So (floats (codesIn blocks A g values n) i) → getD (ownersIn blocks A g values n) i 0 ≡ 1024
+  floats-unnamed : (i : ℕ) → So (floats (codesIn blocks A g values n) i) → getD (ownersIn blocks A g values n) i 0 ≡ unnamed
   unfolding floats codesIn ownersIn
-  unnamed i h = by (decLt i n)
+  floats-unnamed i h = by (decLt i n)
     where
-      by : Dec (i < n) → getD (ownersIn blocks A g values n) i 0 ≡ 1024
+      by : Dec (i < n) → getD (ownersIn blocks A g values n) i 0 ≡ unnamed
       by (yes l) =
           let e : getD (codesIn blocks A g values n) i 0 ≡ kindCode (kindIn blocks A g values i) = filled-at 0 (λ j. kindCode (kindIn blocks A g values j)) n i l in
-          filled-at 1024 (λ j. ownerBy 1024 (kindIn blocks A g values j)) n i l
+          filled-at 1024 (λ j. ownerBy unnamed (kindIn blocks A g values j)) n i l
           ∙ owner-unnamed (kindIn blocks A g values i) (sym (ap (λ (x : ℕ). eqb x 4) e ∙ code-floating (kindIn blocks A g values i)) ∙ h)
       by (no l) = absurd (false≢true (sym (ap (λ (x : ℕ). eqb x 4) (code-past i (omega arith))) ∙ h))
 
-  -- no floating cell has a group
-  pub none-named : (K L : List ℕ) → K ≡ codesIn blocks A g values n → L ≡ ownersIn blocks A g values n → Unnamed K L
-  none-named K L e q = rw (e, q) unnamed
+  kind-floating : (i : ℕ) → ownerBy unnamed (kindIn blocks A g values i) ≡ unnamed → So (isFloating (kindIn blocks A g values i))
+  unfolding kindIn arrowsAt
+  kind-floating i h = only-floating (eqb (getD values i 0) 0) (eqb (getD values i 0) 1) (ltb (arrowAt blocks A i) 1024) (arrowAt blocks A i) (once (arrowsAt blocks A (neighbours g i)))
+      (ltb-true (arrowAt blocks A i) 1024)
+      (λ f m. ltb-true f 1024 (filter-mem (λ (x : ℕ). ltb x 1024) (map (arrowAt blocks A) (neighbours g i)) (once-mem (arrowsAt blocks A (neighbours g i)) m) .1))
+      h
+
+  unnamed-floats : (i : ℕ) → getD (ownersIn blocks A g values n) i 0 ≡ unnamed → So (floats (codesIn blocks A g values n) i)
+  unfolding floats codesIn ownersIn
+  unnamed-floats i h = by (decLt i n) (decLt i 1024)
+    where
+      by : Dec (i < n) → Dec (i < 1024) → So (floats (codesIn blocks A g values n) i)
+      by (yes l) _ =
+          ap (λ (x : ℕ). eqb x 4) (filled-at 0 (λ j. kindCode (kindIn blocks A g values j)) n i l) ∙ code-floating (kindIn blocks A g values i)
+          ∙ kind-floating i (sym (filled-at 1024 (λ j. ownerBy unnamed (kindIn blocks A g values j)) n i l) ∙ h)
+      by (no l) (yes m) = absurd (omega (arith, h, filled-past 1024 (λ j. ownerBy unnamed (kindIn blocks A g values j)) n i (omega arith) m))
+      by (no l) (no m) = absurd (omega (arith, h, List·getD-eq-default (ownersIn blocks A g values n) 0 {n = i} (omega (arith, owners-length blocks A g values n small))))
+
+  -- the floating cells, and no others, have no name
+  pub none-named : (K L : List ℕ) → K ≡ codesIn blocks A g values n → L ≡ ownersIn blocks A g values n → Unnamed (floats K) L
+  none-named K L e q = rw (e, q) (record { only = unnamed-floats; all = floats-unnamed })
 
 -- ---- the view, from the arrays of the kinds and owners of its cells. values is the array of the cells
 module _ (p : Puzzle) (small : size (p .grid) ≤ 1024) (values blocks A : List ℕ) (given : Given p (take (size (p .grid)) values) blocks A) where
@@ -189,10 +212,10 @@ module _ (p : Puzzle) (small : size (p .grid) ≤ 1024) (values blocks A : List 
   kind-pick false false a b c d f q = q
 
   kind-is : (i : ℕ) → i < size grid → kindIn blocks A grid values i ≡ kind i
-  unfolding kindIn kindAt blocksBeside empty square
+  unfolding kindIn kindAt blocksTouched empty square
   kind-is i l =
       rw (← (getD-take (size grid) values i 0 l)) (kind-pick (empty cells i) (square cells i) _ _ _ _ (kind-square i l)
-      (ap (λ (t : List ℕ). kindBeside (once t)) (arrows-at p small cells blocks A given (neighbours grid i) (λ x m. on-grid grid l (side grid i m)))))
+      (ap (λ (t : List ℕ). kindTouching (once t)) (arrows-at p small cells blocks A given (neighbours grid i) (λ x m. on-grid grid l (side grid i m)))))
 
   -- the list of kinds
   kind-get : (i : ℕ) → i < size grid → getD kinds i vacant ≡ kind i
@@ -210,13 +233,13 @@ module _ (p : Puzzle) (small : size (p .grid) ≤ 1024) (values blocks A : List 
   unfolding codesIn
   code-at i l = filled-at 0 (λ j. kindCode (kindIn blocks A grid values j)) (size grid) i l ∙ ap kindCode (kind-is i l)
 
-  owner-at : (i : ℕ) → i < size grid → getD (ownersIn blocks A grid values (size grid)) i 0 ≡ ownerBy 1024 (kind i)
+  owner-at : (i : ℕ) → i < size grid → getD (ownersIn blocks A grid values (size grid)) i 0 ≡ ownerBy unnamed (kind i)
   unfolding ownersIn
-  owner-at i l = filled-at 1024 (λ j. ownerBy 1024 (kindIn blocks A grid values j)) (size grid) i l ∙ ap (ownerBy 1024) (kind-is i l)
+  owner-at i l = filled-at 1024 (λ j. ownerBy unnamed (kindIn blocks A grid values j)) (size grid) i l ∙ ap (ownerBy unnamed) (kind-is i l)
 
   owner-past : (i : ℕ) → size grid ≤ i → i < 1024 → getD (ownersIn blocks A grid values (size grid)) i 0 ≡ 1024
   unfolding ownersIn
-  owner-past i l h = filled-past 1024 (λ j. ownerBy 1024 (kindIn blocks A grid values j)) (size grid) i l h
+  owner-past i l h = filled-past 1024 (λ j. ownerBy unnamed (kindIn blocks A grid values j)) (size grid) i l h
 
   -- the floating cells
   float-in : (i : ℕ) → i < size grid → floats K i ≡ isFloating (kind i)

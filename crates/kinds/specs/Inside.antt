@@ -1,6 +1,6 @@
--- What the inner functions promise each other.
+-- What the inner functions of kinds promise each other, and the grid, marks and views that the crates above speak of.
 -- Assumes nothing.
-use Prim.Native.Nat.{ℕ, _+_, _-_, _≤_, _<_}
+use Prim.Native.Nat.{ℕ, _+_, _≤_, _<_}
 use mathlib.Core.Path.{_≡_}
 use mathlib.Core.Bool.{Bool, true, false, So, cond, _&&_, _||_}
 use mathlib.Core.List.{List, [], _∷_, map, List·Memᴰ}
@@ -10,9 +10,9 @@ use Rattle.grid.specs.Lists.{upto, any, filter, once, arrayOf}
 use Rattle.grid.specs.Grid.{Grid, neighbours, Adjacent}
 use Rattle.grid.specs.Side.{InGrid}
 use Rattle.record.specs.Record.{Puzzle}
-use Rattle.board.specs.Board.{square}
+use Rattle.grid.specs.Cells.{square}
 use Rattle.groups.specs.Groups.{Joined, labels, noGroup, labelArray, maskOf}
-use Rattle.kinds.specs.Kinds.{Kind, vacant, barrier, floating, inBlock, beside, kindBeside, arrowBlock, View, kindCode, ownerBy, kindArray, ownerArray}
+use Rattle.kinds.specs.Kinds.{Kind, vacant, barrier, floating, inBlock, neighbour, kindTouching, arrowBlock, View, kindCode, ownerBy, kindArray, ownerArray}
 use Rattle.kinds.specs.declared.Owner.{Owner}
 use Rattle.kinds.specs.declared.Owner.the-variants.{Nobody, One, Many}
 use Rattle.kinds.specs.declared.DetailedCellKind.{DetailedCellKind}
@@ -68,7 +68,7 @@ pub record Met (f : ℕ) (t : ℕ → Bool) (marks : List ℕ) (met : Bool) : Ty
 unfoldable pub kindFrom : DetailedCellKind → Kind
 kindFrom Empty = vacant
 kindFrom (ArrowBlock f) = inBlock f
-kindFrom (ArrowBlockNeighbor f) = beside f
+kindFrom (ArrowBlockNeighbor f) = neighbour f
 kindFrom Barrier = barrier
 kindFrom Floating = floating
 
@@ -98,15 +98,19 @@ module _ (blocks arrowed : List ℕ) where
   kindIn g cells i =
       cond (eqb (getD cells i 0) 0) vacant
       (cond (eqb (getD cells i 0) 1) (cond (ltb (arrowAt i) 1024) (inBlock (arrowAt i)) floating)
-      (kindBeside (once (arrowsAt (neighbours g i)))))
+      (kindTouching (once (arrowsAt (neighbours g i)))))
 
 -- the kinds of the first k cells by their numbers, in an array
 unfoldable pub codesIn : List ℕ → List ℕ → Grid → List ℕ → ℕ → List ℕ
 codesIn blocks arrowed g cells k = arrayOf 0 (map (λ i. kindCode (kindIn blocks arrowed g cells i)) (upto k))
 
+-- stands for the name of a floating group that has none yet
+abbrev pub unnamed : ℕ
+unnamed = 1025
+
 -- their arrow blocks; floating groups have no name yet
 unfoldable pub ownersIn : List ℕ → List ℕ → Grid → List ℕ → ℕ → List ℕ
-ownersIn blocks arrowed g cells k = arrayOf noGroup (map (λ i. ownerBy noGroup (kindIn blocks arrowed g cells i)) (upto k))
+ownersIn blocks arrowed g cells k = arrayOf noGroup (map (λ i. ownerBy unnamed (kindIn blocks arrowed g cells i)) (upto k))
 
 -- ---- the walk over a floating group. L are the groups before, L′ after; name is the group's name
 
@@ -114,46 +118,51 @@ ownersIn blocks arrowed g cells k = arrayOf noGroup (map (λ i. ownerBy noGroup 
 unfoldable pub floats : List ℕ → ℕ → Bool
 floats kinds j = eqb (getD kinds j 0) 4
 
--- how many cells have no group
+-- how many cells have no name
 unfoldable pub free : List ℕ → ℕ
 free [] = 0
-free (x ∷ xs) = cond (eqb x 1024) 1 0 + free xs
+free (x ∷ xs) = cond (eqb x unnamed) 1 0 + free xs
 
 module _ (g : Grid) (p : ℕ → Bool) (i name : ℕ) (L L′ : List ℕ) where
   -- the group of j is as it was, or is new, and j is joined to i
   pub data Kept (j : ℕ) : Type 0 where
     same : getD L′ j 0 ≡ getD L j 0 → Kept j
-    named : getD L j 0 ≡ 1024 → getD L′ j 0 ≡ name → Joined g p i j → Kept j
+    named : getD L j 0 ≡ unnamed → getD L′ j 0 ≡ name → Joined g p i j → Kept j
 
   -- cells joined to i were named, and every neighbour of each that passes has a group
   pub record Grown : Type 0 where
     pub long : length L′ ≡ length L
     pub fewer : free L′ ≤ free L
     pub kept : (j : ℕ) → Kept j
-    pub done : (j : ℕ) → getD L j 0 ≡ 1024 → getD L′ j 0 ≡ name → (k : ℕ) → Adjacent g j k → So (p k) → getD L′ k 0 ≡ 1024 → ⊥
+    pub done : (j : ℕ) → getD L j 0 ≡ unnamed → getD L′ j 0 ≡ name → (k : ℕ) → Adjacent g j k → So (p k) → getD L′ k 0 ≡ unnamed → ⊥
 
   -- what a walk from i does
   pub record Walked : Type 0 where
     pub grown : Grown
-    pub seed : So (p i) → getD L′ i 0 ≡ 1024 → ⊥
+    pub seed : So (p i) → getD L′ i 0 ≡ unnamed → ⊥
 
 -- what a walk asks
 pub record Walkable (h w i name : ℕ) : Type 0 where
   pub cell : InGrid h w i
   pub small : name < 1024
 
--- no floating cell has a group yet
-abbrev pub Unnamed : List ℕ → List ℕ → Type 0
-Unnamed kinds owners = (j : ℕ) → So (floats kinds j) → getD owners j 0 ≡ 1024
+-- only cells that pass have no name yet
+abbrev pub OnlyUnnamed : (ℕ → Bool) → List ℕ → Type 0
+OnlyUnnamed p L = (j : ℕ) → getD L j 0 ≡ unnamed → So (p j)
+
+-- the cells that pass, and no others, have no name yet
+pub record Unnamed (p : ℕ → Bool) (L : List ℕ) : Type 0 where
+  pub only : OnlyUnnamed p L
+  pub all : (j : ℕ) → So (p j) → getD L j 0 ≡ unnamed
 
 -- the groups with a cell below s are named; L₀ are the groups before the first walk
 pub data Right (g : Grid) (p : ℕ → Bool) (s : ℕ) (L : List ℕ) (j : ℕ) : Type 0 where
-  none : getD L j 0 ≡ 1024 → Right g p s L j
+  none : getD L j 0 ≡ unnamed → Right g p s L j
   some : getD L j 0 < s → getD L j 0 ≤ j → Joined g p (getD L j 0) j → Right g p s L j
 
 pub record Sofar (g : Grid) (p : ℕ → Bool) (L₀ : List ℕ) (s : ℕ) (L : List ℕ) : Type 0 where
   pub long : length L ≡ length L₀
   pub right : (j : ℕ) → So (p j) → Right g p s L j
-  pub full : (j : ℕ) → j < s → So (p j) → getD L j 0 ≡ 1024 → ⊥
-  pub closed : (j k : ℕ) → So (p j) → (getD L j 0 ≡ 1024 → ⊥) → Adjacent g j k → So (p k) → getD L k 0 ≡ getD L j 0
+  pub full : (j : ℕ) → j < s → So (p j) → getD L j 0 ≡ unnamed → ⊥
+  pub closed : (j k : ℕ) → So (p j) → (getD L j 0 ≡ unnamed → ⊥) → Adjacent g j k → So (p k) → getD L k 0 ≡ getD L j 0
   pub others : (j : ℕ) → p j ≡ false → getD L j 0 ≡ getD L₀ j 0

@@ -8,14 +8,14 @@ use lib.ListN.{getD}
 use Rattle.grid.specs.Lists.{any, filter, once, flatMap, arrayOf}
 use Rattle.grid.specs.Grid.{Grid, cellsOf, neighbours, touches}
 use Rattle.record.specs.Record.{Puzzle}
-use Rattle.board.specs.Board.{Literal, empty, square, undecided}
+use Rattle.grid.specs.Cells.{Literal, empty, square, undecided}
 use Rattle.groups.specs.Groups.{labels, noGroup, maskOf}
 use Rattle.groups.specs.Arrows.{onArrow}
 
--- empty; undecided beside two arrow blocks or more; floating; in the arrow block f; undecided beside the arrow block f only
+-- empty; barrier: undecided, touches two arrow blocks or more; floating; in the arrow block f; neighbour: undecided, touches the arrow block f only
 pub data Kind : Type 0 where
   vacant barrier floating : Kind
-  inBlock beside : ℕ → Kind
+  inBlock neighbour : ℕ → Kind
 
 -- the kind is floating
 unfoldable pub isFloating : Kind → Bool
@@ -23,7 +23,7 @@ isFloating vacant = false
 isFloating barrier = false
 isFloating floating = true
 isFloating (inBlock f) = false
-isFloating (beside f) = false
+isFloating (neighbour f) = false
 
 -- the kind is in the arrow block f
 unfoldable pub isIn : ℕ → Kind → Bool
@@ -31,21 +31,21 @@ isIn f vacant = false
 isIn f barrier = false
 isIn f floating = false
 isIn f (inBlock e) = eqb e f
-isIn f (beside e) = false
+isIn f (neighbour e) = false
 
--- the kind is beside the arrow block f
-unfoldable pub isBeside : ℕ → Kind → Bool
-isBeside f vacant = false
-isBeside f barrier = false
-isBeside f floating = false
-isBeside f (inBlock e) = false
-isBeside f (beside e) = eqb e f
+-- the kind is neighbour of the arrow block f
+unfoldable pub isNeighbour : ℕ → Kind → Bool
+isNeighbour f vacant = false
+isNeighbour f barrier = false
+isNeighbour f floating = false
+isNeighbour f (inBlock e) = false
+isNeighbour f (neighbour e) = eqb e f
 
 -- an undecided cell, by the arrow blocks that it touches
-unfoldable pub kindBeside : List ℕ → Kind
-kindBeside [] = floating
-kindBeside (f ∷ []) = beside f
-kindBeside (f ∷ e ∷ es) = barrier
+unfoldable pub kindTouching : List ℕ → Kind
+kindTouching [] = floating
+kindTouching (f ∷ []) = neighbour f
+kindTouching (f ∷ e ∷ es) = barrier
 
 -- blocks: the name of each square's block
 module _ (p : Puzzle) (cells blocks : List ℕ) where
@@ -54,15 +54,15 @@ module _ (p : Puzzle) (cells blocks : List ℕ) where
   arrowBlock f = any (λ i. square cells i && eqb (getD blocks i 0) f && onArrow (p .arrows) i) (cellsOf (p .grid))
 
   -- the arrow blocks that cell i touches, each once
-  unfoldable pub blocksBeside : ℕ → List ℕ
-  blocksBeside i = once (map (λ j. getD blocks j 0) (filter (λ j. square cells j && arrowBlock (getD blocks j 0)) (neighbours (p .grid) i)))
+  unfoldable pub blocksTouched : ℕ → List ℕ
+  blocksTouched i = once (map (λ j. getD blocks j 0) (filter (λ j. square cells j && arrowBlock (getD blocks j 0)) (neighbours (p .grid) i)))
 
   -- the kind of cell i
   unfoldable pub kindAt : ℕ → Kind
   kindAt i =
       cond (empty cells i) vacant
       (cond (square cells i) (cond (arrowBlock (getD blocks i 0)) (inBlock (getD blocks i 0)) floating)
-      (kindBeside (blocksBeside i)))
+      (kindTouching (blocksTouched i)))
 
   -- the kinds of all cells
   unfoldable pub kindsOf : List Kind
@@ -100,7 +100,7 @@ module _ (v : View) where
   -- the floating group m touches a neighbour of f
   unfoldable pub floatNear : ℕ → ℕ → Bool
   floatNear f m =
-      any (λ i. has (isBeside f) (v .kinds) i
+      any (λ i. has (isNeighbour f) (v .kinds) i
       && any (λ j. has isFloating (v .kinds) j && eqb (getD (v .floats) j 0) m) (neighbours (v .grid) i))
       (cellsOf (v .grid))
 
@@ -108,7 +108,7 @@ module _ (v : View) where
   unfoldable pub inReach : ℕ → ℕ → Bool
   inReach f i =
       has (isIn f) (v .kinds) i
-      || has (isBeside f) (v .kinds) i
+      || has (isNeighbour f) (v .kinds) i
       || (has isFloating (v .kinds) i && floatNear f (getD (v .floats) i 0))
 
   -- the reach of the arrow block f
@@ -116,8 +116,8 @@ module _ (v : View) where
   reach f = filter (inReach f) (cellsOf (v .grid))
 
   -- some cell of the arrow block e is beside an undecided cell that touches the reach r
-  unfoldable pub rival : List ℕ → ℕ → Bool
-  rival r e =
+  unfoldable pub disturbing : List ℕ → ℕ → Bool
+  disturbing r e =
       any (λ j. has (isIn e) (v .kinds) j
       && any (λ u. undecided (v .cells) u && touches (v .grid) r u) (neighbours (v .grid) j))
       (cellsOf (v .grid))
@@ -127,8 +127,8 @@ module _ (v : View) where
   fenceAt f r i vacant = cond (touches (v .grid) r i) ((i, 0) ∷ []) []
   fenceAt f r i barrier = []
   fenceAt f r i floating = []
-  fenceAt f r i (inBlock e) = cond (not (eqb e f) && rival r e) ((i, 1) ∷ []) []
-  fenceAt f r i (beside e) = []
+  fenceAt f r i (inBlock e) = cond (not (eqb e f) && disturbing r e) ((i, 1) ∷ []) []
+  fenceAt f r i (neighbour e) = []
 
   -- the fence of the arrow block f, rising
   unfoldable pub fence : ℕ → List Literal
@@ -144,7 +144,7 @@ word l = l .1 * 32768 + l .0
 unfoldable pub kindCode : Kind → ℕ
 kindCode vacant = 0
 kindCode (inBlock f) = 1
-kindCode (beside f) = 2
+kindCode (neighbour f) = 2
 kindCode barrier = 3
 kindCode floating = 4
 
@@ -152,7 +152,7 @@ kindCode floating = 4
 unfoldable pub ownerBy : ℕ → Kind → ℕ
 ownerBy m vacant = noGroup
 ownerBy m (inBlock f) = f
-ownerBy m (beside f) = f
+ownerBy m (neighbour f) = f
 ownerBy m barrier = noGroup
 ownerBy m floating = m
 

@@ -1,7 +1,7 @@
 // The kinds of a board's cells.
 ghost use mathlib.Core.Path.{_≡_};
 ghost use Prim.Native.Nat.{ℕ, _+_, _*_, _<_};
-ghost use mathlib.Core.Bool.{Bool, _&&_, _||_};
+ghost use mathlib.Core.Bool.{Bool, cond, _&&_, _||_};
 ghost use mathlib.Core.List.{List, [], _∷_, _++_};
 ghost use lib.Dec.{eqb};
 ghost use lib.ListN.{getD, set, take, replicate};
@@ -9,7 +9,7 @@ ghost use Rattle.grid.specs.Grid.{neighbours};
 ghost use Rattle.grid.specs.Side.{sized, InGrid};
 ghost use Rattle.groups.specs.Arrows.{Line};
 ghost use Rattle.kinds.specs.Kinds.{view, kindCode, ownerBy};
-ghost use Rattle.kinds.specs.Inside.{Limits, puzzleWith, Given, Held, Marks, nameAmong, nameTwice, Met, kindFrom, meetOf, Owned, arrowAt, arrowsAt, kindIn, codesIn, ownersIn, floats, Walked, Walkable, Unnamed, Sofar};
+ghost use Rattle.kinds.specs.Inside.{Limits, puzzleWith, Given, Held, Marks, nameAmong, nameTwice, Met, kindFrom, meetOf, Owned, arrowAt, arrowsAt, kindIn, codesIn, ownersIn, unnamed, OnlyUnnamed, Walked, Walkable, Unnamed, Sofar};
 use grid::Side;
 
 // No mark is set.
@@ -19,17 +19,11 @@ pub fn clear(marks: &mut [u8; 1024])
     *marks = [0u8; 1024];
 }
 
-// Each place has 1024, which stands for none.
-pub fn unname(owners: &mut [u16; 1024])
-    ensures { λ _. ⌜ now (owners .exit) ≡ replicate 1024 1024 ⌝ }
-{
-    *owners = [1024u16; 1024];
-}
-
 // Marks the name at place j if that place has the tag.
 pub fn mark_name(tags: &[u8; 1024], tag: u8, names: &[u16; 1024], j: usize, marks: &mut [u8; 1024])
     requires { ⌜ j < 1024 ⌝ }
-    ensures { λ _. ⌜ ((t : ℕ → Bool) → Marks (now (marks .entry)) t → Marks (now (marks .exit)) (λ m. t m || (eqb (getD (now (tags .entry)) j 0) tag && eqb (getD (now (names .entry)) j 0) m))) ⌝ }
+    ensures { λ _. ⌜ ((t : ℕ → Bool) → Marks (now (marks .entry)) t
+        → Marks (now (marks .exit)) (λ m. t m || (eqb (getD (now (tags .entry)) j 0) tag && eqb (getD (now (names .entry)) j 0) m))) ⌝ }
 {
     if tags[j] != tag {
         return;
@@ -41,18 +35,24 @@ pub fn mark_name(tags: &[u8; 1024], tag: u8, names: &[u16; 1024], j: usize, mark
     marks[f as usize] = 1;
 }
 
+// One of two marks. A function of its own, so that it can be compiled without a branch: the choice is hard to predict where it is used.
+fn pick_mark(first: bool, a: u8, b: u8) -> u8
+    ensures { λ r. ⌜ r ≡ cond first a b ⌝ }
+{
+    if first { a } else { b }
+}
+
 // Marks the name of the group of cell i, if it is in one; whether it was marked before.
 fn mark_group(names: &[u16; 1024], i: usize, marks: &mut [u8; 1024]) -> bool
     requires { ⌜ i < 1024 ⌝ }
     ensures { λ r. ⌜ ((t : ℕ → Bool) → Marks (now (marks .entry)) t → Met (getD (now (names .entry)) i 0) t (now (marks .exit)) r) ⌝ }
 {
     let f = names[i];
-    if 1024 <= f {
-        return false;
-    }
-    let met = marks[f as usize] == 1;
-    marks[f as usize] = 1;
-    met
+    let known = f < 1024;
+    let slot = (f % 1024) as usize;
+    let mark = marks[slot];
+    marks[slot] = pick_mark(known, 1, mark);
+    known & (mark == 1)
 }
 
 // Marks the name of each block that has an arrow cell; whether a block has been met twice. Arrows holds the arrow cells in its first
@@ -64,18 +64,20 @@ pub fn mark_arrow_blocks(
     marks: &mut [u8; 1024],
 ) -> bool
     requires { ⌜ Line (now arrows) total ⌝ }
-    ensures { λ r. ⌜ Marks (now (marks .exit)) (nameAmong (now (names .entry)) (now (arrows .entry)) total) × (r ≡ nameTwice (now (names .entry)) (now (arrows .entry)) total) ⌝ }
+    ensures { λ r. ⌜ Marks (now (marks .exit)) (nameAmong (now (names .entry)) (now (arrows .entry)) total)
+        × (r ≡ nameTwice (now (names .entry)) (now (arrows .entry)) total) ⌝ }
 {
     clear(marks);
     let mut twice = false;
     for k in 0..total {
         let met = mark_group(names, arrows[k] as usize, marks);
-        if met {
-            twice = true;
-        }
+        twice = twice | met;
     }
     twice
 }
+
+// Stands for the name of a floating group that has none yet.
+const UNNAMED: u16 = 1025;
 
 // The arrow blocks that a cell touches.
 enum Owner {
@@ -111,16 +113,16 @@ fn kind_code(kind: DetailedCellKind) -> u8
     }
 }
 
-// The arrow block of a kind, 1024 where it has none; a floating group has no name yet.
+// The arrow block of a kind, 1024 where it has none, and UNNAMED for a floating group.
 fn kind_owner(kind: DetailedCellKind) -> u16
-    ensures { λ r. ⌜ r ≡ ownerBy 1024 (kindFrom kind) ⌝ }
+    ensures { λ r. ⌜ r ≡ ownerBy unnamed (kindFrom kind) ⌝ }
 {
     match kind {
         DetailedCellKind::Empty => 1024,
         DetailedCellKind::ArrowBlock(f) => f,
         DetailedCellKind::ArrowBlockNeighbor(f) => f,
         DetailedCellKind::Barrier => 1024,
-        DetailedCellKind::Floating => 1024,
+        DetailedCellKind::Floating => UNNAMED,
     }
 }
 
@@ -150,7 +152,8 @@ fn arrow_block_at(blocks: &[u16; 1024], arrowed: &[u8; 1024], j: usize) -> u16
 // One more neighbour j: its arrow block is met, if it is in one.
 fn meet_at(blocks: &[u16; 1024], arrowed: &[u8; 1024], j: usize, owner: Owner) -> Owner
     requires { ⌜ j < 1024 ⌝ }
-    ensures { λ r. ⌜ ((js : List ℕ) → Owned (arrowsAt (now (blocks .entry)) (now (arrowed .entry)) js) owner → Owned (arrowsAt (now (blocks .entry)) (now (arrowed .entry)) (js ++ (j ∷ []))) r) ⌝ }
+    ensures { λ r. ⌜ ((js : List ℕ) → Owned (arrowsAt (now (blocks .entry)) (now (arrowed .entry)) js) owner
+        → Owned (arrowsAt (now (blocks .entry)) (now (arrowed .entry)) (js ++ (j ∷ []))) r) ⌝ }
 {
     let f = arrow_block_at(blocks, arrowed, j);
     if 1024 <= f {
@@ -222,14 +225,15 @@ fn set_kind(
     owners: &mut [u16; 1024],
 )
     requires { ⌜ InGrid h w i ⌝ }
-    ensures { λ _. ⌜ (now (kinds .exit) ≡ set (now (kinds .entry)) i (kindCode (kindIn (now (blocks .entry)) (now (arrowed .entry)) (sized h w) (now (cells .entry)) i))) × (now (owners .exit) ≡ set (now (owners .entry)) i (ownerBy 1024 (kindIn (now (blocks .entry)) (now (arrowed .entry)) (sized h w) (now (cells .entry)) i))) ⌝ }
+    ensures { λ _. ⌜ (now (kinds .exit) ≡ set (now (kinds .entry)) i (kindCode (kindIn (now (blocks .entry)) (now (arrowed .entry)) (sized h w) (now (cells .entry)) i)))
+        × (now (owners .exit) ≡ set (now (owners .entry)) i (ownerBy unnamed (kindIn (now (blocks .entry)) (now (arrowed .entry)) (sized h w) (now (cells .entry)) i))) ⌝ }
 {
     let kind = kind_at(cells, blocks, arrowed, h, w, i);
     kinds[i] = kind_code(kind);
     owners[i] = kind_owner(kind);
 }
 
-// The kind of each cell and its arrow block; floating groups have no name yet.
+// The kind of each cell and its arrow block; floating groups have no name yet. The arrays come without kinds and owners.
 fn compute_cell_kinds(
     cells: &[u8; 1024],
     blocks: &[u16; 1024],
@@ -239,11 +243,10 @@ fn compute_cell_kinds(
     kinds: &mut [u8; 1024],
     owners: &mut [u16; 1024],
 )
-    requires { ⌜ Limits h w ⌝ }
-    ensures { λ _. ⌜ (now (kinds .exit) ≡ codesIn (now (blocks .entry)) (now (arrowed .entry)) (sized h w) (now (cells .entry)) (h * w)) × (now (owners .exit) ≡ ownersIn (now (blocks .entry)) (now (arrowed .entry)) (sized h w) (now (cells .entry)) (h * w)) ⌝ }
+    requires { ⌜ Limits h w × (now kinds ≡ replicate 1024 0) × (now owners ≡ replicate 1024 1024) ⌝ }
+    ensures { λ _. ⌜ (now (kinds .exit) ≡ codesIn (now (blocks .entry)) (now (arrowed .entry)) (sized h w) (now (cells .entry)) (h * w))
+        × (now (owners .exit) ≡ ownersIn (now (blocks .entry)) (now (arrowed .entry)) (sized h w) (now (cells .entry)) (h * w)) ⌝ }
 {
-    clear(kinds);
-    unname(owners);
     let n = h * w;
     for i in 0..n {
         set_kind(cells, blocks, arrowed, h, w, i, kinds, owners);
@@ -251,21 +254,11 @@ fn compute_cell_kinds(
 }
 
 // Names the floating group of cell i, unless that is none or has a name, and goes on to the neighbours in turn.
-fn traverse_grid(
-    kinds: &[u8; 1024],
-    owners: &mut [u16; 1024],
-    h: usize,
-    w: usize,
-    i: usize,
-    name: u16,
-)
+fn traverse_grid(owners: &mut [u16; 1024], h: usize, w: usize, i: usize, name: u16)
     requires { ⌜ Walkable h w i name ⌝ }
-    ensures { λ _. ⌜ Walked (sized h w) (floats (now (kinds .entry))) i name (now (owners .entry)) (now (owners .exit)) ⌝ }
+    ensures { λ _. ⌜ ((p : ℕ → Bool) → OnlyUnnamed p (now (owners .entry)) → Walked (sized h w) p i name (now (owners .entry)) (now (owners .exit))) ⌝ }
 {
-    if kinds[i] != 4 {
-        return;
-    }
-    if owners[i] != 1024 {
+    if owners[i] != UNNAMED {
         return;
     }
     owners[i] = name;
@@ -274,24 +267,26 @@ fn traverse_grid(
     for k in 0..4 {
         let side = grid::toward(h, w, y, x, k);
         match side {
-            Side::At(j) => traverse_grid(kinds, owners, h, w, j, name),
+            Side::At(j) => traverse_grid(owners, h, w, j, name),
             Side::Off => {}
         }
     }
 }
 
-// Names each floating group by its first cell.
-fn name_floating_groups(kinds: &[u8; 1024], owners: &mut [u16; 1024], h: usize, w: usize)
-    requires { ⌜ Limits h w × Unnamed (now kinds) (now owners) ⌝ }
-    ensures { λ _. ⌜ Sofar (sized h w) (floats (now (kinds .entry))) (now (owners .entry)) (h * w) (now (owners .exit)) ⌝ }
+// Names each floating group by its first cell. Most cells have a name, or are none of a floating group, when their turn comes: no walk is begun for them.
+fn name_floating_groups(owners: &mut [u16; 1024], h: usize, w: usize)
+    requires { ⌜ Limits h w ⌝ }
+    ensures { λ _. ⌜ ((p : ℕ → Bool) → Unnamed p (now (owners .entry)) → Sofar (sized h w) p (now (owners .entry)) (h * w) (now (owners .exit))) ⌝ }
 {
     let n = h * w;
     for i in 0..n {
-        traverse_grid(kinds, owners, h, w, i, i as u16);
+        if owners[i] == UNNAMED {
+            traverse_grid(owners, h, w, i, i as u16);
+        }
     }
 }
 
-// The kind of each cell and the group that it belongs to; arrowed marks the names of the arrow blocks.
+// The kind of each cell and the group that it belongs to; arrowed marks the names of the arrow blocks. The arrays come without kinds and owners.
 pub fn compute_board_info_detailed(
     cells: &[u8; 1024],
     blocks: &[u16; 1024],
@@ -301,9 +296,11 @@ pub fn compute_board_info_detailed(
     kinds: &mut [u8; 1024],
     owners: &mut [u16; 1024],
 )
-    requires { ⌜ Limits h w ⌝ }
-    ensures { λ _. ⌜ ((arrows : List (List ℕ)) → Given (puzzleWith (sized h w) arrows) (take (h * w) (now (cells .entry))) (now (blocks .entry)) (now (arrowed .entry)) → Held (view (puzzleWith (sized h w) arrows) (take (h * w) (now (cells .entry)))) (now (kinds .exit)) (now (owners .exit))) ⌝ }
+    requires { ⌜ Limits h w × (now kinds ≡ replicate 1024 0) × (now owners ≡ replicate 1024 1024) ⌝ }
+    ensures { λ _. ⌜ ((arrows : List (List ℕ))
+        → Given (puzzleWith (sized h w) arrows) (take (h * w) (now (cells .entry))) (now (blocks .entry)) (now (arrowed .entry))
+        → Held (view (puzzleWith (sized h w) arrows) (take (h * w) (now (cells .entry)))) (now (kinds .exit)) (now (owners .exit))) ⌝ }
 {
     compute_cell_kinds(cells, blocks, arrowed, h, w, kinds, owners);
-    name_floating_groups(kinds, owners, h, w);
+    name_floating_groups(owners, h, w);
 }

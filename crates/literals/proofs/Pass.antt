@@ -1,41 +1,22 @@
 -- One pass over the cells that writes those that pass a test.
 -- Assumes nothing.
-use Prim.Native.Nat.{ℕ, zero, suc, _+_, _-_, _≤_, _<_, max}
+use Prim.Native.Nat.{ℕ, _+_, _-_, _≤_, _<_, max}
 use native.Mathlib.Omega.{arith}
 use native.Mathlib.Numerals.{add-one}
 use native.Mathlib.Decide.{decLe}
-use mathlib.Core.Path.{_≡_, refl, sym, ap, _∙_}
+use mathlib.Core.Path.{_≡_, refl, sym, _∙_}
 use mathlib.Core.Bool.{Bool, true, false, cond}
 use mathlib.Core.List.{List, [], _∷_, _++_, map-append, append-nil}
 use lib.ListN.{length, getD, set, take, length-map, length-take, length-drop, drop-of-length-le}
 use lib.Seq.{slice, take-suc, drop-append-le, length-take-le}
 use Rattle.grid.specs.Lists.{range, upto, filter}
-use Rattle.grid.proofs.ListLaws.{filter-length, length-range}
-use Rattle.board.specs.Board.{Literal}
+use Rattle.grid.proofs.ListLaws.{filter-length}
+use Rattle.grid.proofs.AppendLaws.{upto-more, filter-more, upto-length}
+use Rattle.grid.specs.Cells.{Literal}
 use Rattle.kinds.specs.Kinds.{word}
 use Rattle.literals.specs.Literals.{each}
 use Rattle.literals.specs.Buffer.{Wrote}
 use Rattle.literals.proofs.BufferLaws.{wrote-none, wrote-more}
-
--- a range ends with its last number
-range-more : (a k : ℕ) → range a (suc k) ≡ range a k ++ ((a + k) ∷ [])
-unfolding range
-range-more a zero = let e : a ≡ a + 0 = omega arith in ap (λ (x : ℕ). x ∷ []) e
-range-more a (suc k) = let e : suc a + k ≡ a + suc k = omega arith in rw (range-more (suc a) k, e) refl
-
-pub upto-more : (n : ℕ) → upto (n + 1) ≡ upto n ++ (n ∷ [])
-unfolding upto
-upto-more n = let e : 0 + n ≡ n = omega arith in rw (add-one n) (range-more 0 n ∙ rw e refl)
-
--- a filtered list, one member later
-pub filter-more : (p : ℕ → Bool) (l : List ℕ) (x : ℕ) → filter p (l ++ (x ∷ [])) ≡ filter p l ++ cond (p x) (x ∷ []) []
-unfolding filter
-filter-more p [] x = refl
-filter-more p (y ∷ ys) x = go (p y) (filter-more p ys x)
-  where
-    go : (b : Bool) → filter p (ys ++ (x ∷ [])) ≡ filter p ys ++ cond (p x) (x ∷ []) [] → cond b (y ∷ filter p (ys ++ (x ∷ []))) (filter p (ys ++ (x ∷ []))) ≡ cond b (y ∷ filter p ys) (filter p ys) ++ cond (p x) (x ∷ []) []
-    go true h = ap (λ (r : List ℕ). y ∷ r) h
-    go false h = h
 
 -- literals of one value
 each-append : (v : ℕ) (l m : List ℕ) → each v (l ++ m) ≡ each v l ++ each v m
@@ -72,10 +53,6 @@ module _ (p : ℕ → Bool) (v : ℕ) (l : List ℕ) (x : ℕ) {b a : List ℕ} 
   pub pass-more : k < length b → {yes : Bool} → yes ≡ p x → {r : ℕ} {c : List ℕ} → r ≡ cond yes (k + 1) k → c ≡ cond yes (set a k (word (x, v))) a
       → Wrote (each v (filter p (l ++ (x ∷ [])))) b c r
   pass-more h e f g = rw (f, g, e, filter-more p l x, each-append v (filter p l) (cond (p x) (x ∷ []) []), each-if v x (p x)) (wrote-if w (x, v) (p x) h)
-
-upto-length : (n : ℕ) → length (upto n) ≡ n
-unfolding upto
-upto-length n = length-range 0 n
 
 -- the same for the cells in row order
 pub cells-none : (p : ℕ → Bool) (v : ℕ) (b : List ℕ) → Wrote (each v (filter p (upto 0))) b b 0

@@ -4,7 +4,7 @@ use Prim.Native.Nat.{ℕ}
 use mathlib.Core.Bool.{Bool, true, false}
 use mathlib.Core.List.{List, [], _∷_, map}
 use mathlib.Core.Option.{Option, none, some}
-use Rattle.board.specs.Board.{Literal}
+use Rattle.grid.specs.Cells.{Literal}
 
 -- a reason, or none
 abbrev pub Found : Type 0
@@ -16,9 +16,9 @@ orElse none b = b
 orElse (some r) b = some r
 
 -- the reason r, where the test passes
-unfoldable pub given : Bool → List Literal → Found
-given true r = some r
-given false r = none
+unfoldable pub reasonIf : Bool → List Literal → Found
+reasonIf true r = some r
+reasonIf false r = none
 
 -- the first reason among those of a list
 unfoldable pub firstOf : {A : Type 0} → (A → Found) → List A → Found

@@ -1,20 +1,20 @@
 -- Chains are linked cell by cell from the last, and walked from the first: no code is named here.
 -- Assumes nothing.
-use Prim.Native.Nat.{ℕ, zero, suc, _+_, _-_, _≤_, _<_}
-use native.Mathlib.Decide.{ℕ-discrete}
+use Prim.Native.Nat.{ℕ, zero, suc, _+_, _-_, _%_, _≤_, _<_}
+use native.Mathlib.Decide.{ℕ-discrete, decLt}
 use native.Mathlib.Numerals.{add-one}
 use native.Mathlib.Omega.{arith}
 use mathlib.Core.Path.{_≡_, refl, sym, ap, _∙_}
 use mathlib.Core.Bool.{Bool, true, false, cond, _&&_}
 use mathlib.Core.List.{List, [], _∷_, _++_, append-nil, List·Memᴰ, List·Memᴰ·head}
-use lib.Dec.{eqb}
+use lib.Dec.{eqb, ltb}
 use lib.ListN.{getD, set, replicate, length-set, length-replicate, getD-replicate}
-use lib.Seq.{getD-set-same, getD-set-other}
-use borrow.Author.Tests.{eq-eqb, ne-eqb, eqb-true}
+use lib.Seq.{getD-set-same, getD-set-other, set-getD}
+use borrow.Author.Tests.{eq-eqb, ne-eqb, eqb-true, lt-ltb, le-ltb}
 use Rattle.grid.specs.Lists.{range, upto, filter}
 use Rattle.grid.proofs.ListLaws.{filter-mem, range-mem}
+use Rattle.grid.proofs.AppendLaws.{filter-append, upto-more}
 use Rattle.reach.specs.Chains.{ownedBy, cellsFrom, firstOf, firstFrom, ChainsFrom, Chains}
-use Rattle.kinds.proofs.Filled.{filter-append, upto-more}
 
 -- ---- the cells from k on that pass a test
 
@@ -96,14 +96,6 @@ module _ (owners : List ℕ) (n f : ℕ) where
   pub first-owned : (k i : ℕ) → i ≡ firstFrom owners n f k → i < 1024 → getD owners i 0 ≡ f
   unfolding ownedBy
   first-owned k i e h = eqb-true (getD owners i 0) f (first k i e h .passes)
-
-  -- the cells from k on are it and those behind it
-  pub from-first : (k i : ℕ) → i ≡ firstFrom owners n f k → i < 1024 → cellsFrom owners n f k ≡ i ∷ cellsFrom owners n f (i + 1)
-  unfolding cellsFrom
-  from-first k i e h =
-      let F = first k i e h in
-      let r : k + (n - k) - (i + 1) ≡ n - (i + 1) = omega (arith, F .low, F .high) in
-      rw r at (F .rest)
 
   -- there is no next cell
   pub from-none : (k i : ℕ) → n ≤ 1024 → i ≡ firstFrom owners n f k → 1024 ≤ i → cellsFrom owners n f k ≡ []
@@ -219,3 +211,13 @@ module _ (owners : List ℕ) (n : ℕ) where
         follow : (j : ℕ) → i ≤ j → j < n → getD owners j 0 < 1024 → Dec (j ≡ i) → getD next j 0 ≡ firstFrom owners n (getD owners j 0) (j + 1)
         follow j low h o (yes q) = absurd (omega (arith, o, l, ap (λ (x : ℕ). getD owners x 0) q))
         follow j low h o (no ne) = C .follows j (omega (arith, ne)) h o
+
+    -- both at once, as they are written without a branch: no owner goes by the place of its remainder, which stays as it is
+    pub chains-either : ChainsFrom owners (set head (getD owners i 0 % 1024) (cond (ltb (getD owners i 0) 1024) i (getD head (getD owners i 0 % 1024) 0)))
+        (set next i (cond (ltb (getD owners i 0) 1024) (getD head (getD owners i 0 % 1024) 0) (getD next i 0))) n i
+    chains-either = go (decLt (getD owners i 0) 1024)
+      where
+        go : Dec (getD owners i 0 < 1024) → ChainsFrom owners (set head (getD owners i 0 % 1024) (cond (ltb (getD owners i 0) 1024) i (getD head (getD owners i 0 % 1024) 0)))
+            (set next i (cond (ltb (getD owners i 0) 1024) (getD head (getD owners i 0 % 1024) 0) (getD next i 0))) n i
+        go (yes l) = let e : getD owners i 0 % 1024 ≡ getD owners i 0 = omega arith in rw (e, lt-ltb (getD owners i 0) 1024 l) (chains-more l)
+        go (no h) = rw (le-ltb (getD owners i 0) 1024 (omega arith), set-getD head (getD owners i 0 % 1024) 0, set-getD next i 0) (chains-same (omega arith))

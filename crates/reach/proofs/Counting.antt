@@ -2,7 +2,7 @@
 -- Assumes nothing.
 use Prim.Native.Nat.{ℕ, _+_, _-_, _≤_, _<_}
 use native.Mathlib.Omega.{arith}
-use mathlib.Core.Bool.{Bool, true, false, cond, _&&_, _||_}
+use mathlib.Core.Bool.{Bool, false, cond, _&&_, _||_, or-false, or-assoc}
 use mathlib.Core.Path.{_≡_, refl, sym, ap, _∙_}
 use mathlib.Core.List.{List, [], _∷_, _++_}
 use lib.Dec.{eqb}
@@ -11,9 +11,10 @@ use borrow.Author.Tests.{eq-eqb}
 use Rattle.grid.specs.Lists.{range, upto, filter, any}
 use Rattle.grid.specs.Grid.{Grid, neighbours}
 use Rattle.grid.proofs.ListLaws.{length-range, filter-length}
+use Rattle.grid.proofs.AppendLaws.{any-append, any-more, count-hit, count-miss}
 use Rattle.kinds.specs.Inside.{Marks}
 use Rattle.reach.specs.Inside.{nearAt, nearAmong, reaches, reachesAt, Counted, miss, hit, Reached}
-use Rattle.kinds.proofs.Filled.{any-append, or-false, any-more, count-hit, count-miss, filled-none, filled-more, filled-skip, marks-same}
+use Rattle.kinds.proofs.Filled.{filled-none, filled-more, filled-skip, marks-same}
 
 -- ---- the marks of floating groups near a block
 
@@ -34,10 +35,6 @@ module _ (kinds owners : List ℕ) (f : ℕ) where
   near-more t js j k = marks-same _ (λ m. t m || any (λ j. eqb (getD kinds j 0) 4 && eqb (getD owners j 0) m) (js ++ (j ∷ [])))
       (λ m l. or-assoc (t m) (any (λ j. eqb (getD kinds j 0) 4 && eqb (getD owners j 0) m) js) (eqb (getD kinds j 0) 4 && eqb (getD owners j 0) m)
       ∙ ap (λ (b : Bool). t m || b) (ap (λ (b : Bool). any (λ j. eqb (getD kinds j 0) 4 && eqb (getD owners j 0) m) js || b) (sym (or-false _)) ∙ sym (any-append (λ j. eqb (getD kinds j 0) 4 && eqb (getD owners j 0) m) js (j ∷ [])))) k
-    where
-      or-assoc : (a b c : Bool) → ((a || b) || c) ≡ (a || (b || c))
-      or-assoc true b c = refl
-      or-assoc false b c = refl
 
   pub near-all : {M : List ℕ} (t : ℕ → Bool) (i : ℕ) (js : List ℕ) → getD kinds i 0 ≡ 2 → getD owners i 0 ≡ f → Marks M (λ m. t m || any (λ j. eqb (getD kinds j 0) 4 && eqb (getD owners j 0) m) js) → Marks M (λ m. t m || nearAt kinds owners f i js m)
   unfolding nearAt

@@ -1,17 +1,17 @@
 -- Cells are counted for their owners, and names are marked and listed once each: no code is named here.
 -- Assumes nothing.
-use Prim.Native.Nat.{ℕ, _+_, _-_, _≤_, _<_}
+use Prim.Native.Nat.{ℕ, _+_, _-_, _%_, _≤_, _<_}
 use native.Mathlib.Decide.{ℕ-discrete, decLt}
 use native.Mathlib.Numerals.{add-one}
 use native.Mathlib.Omega.{arith}
 use mathlib.Core.Logic.{_⊎_, inl, inr, ⊎-elim}
 use mathlib.Core.Path.{_≡_, refl, sym, ap, _∙_, subst}
-use mathlib.Core.Bool.{Bool, true, false, cond, _&&_, _||_, not, false≢true}
+use mathlib.Core.Bool.{Bool, true, false, cond, _&&_, _||_, not, false≢true, or-false, or-assoc, or-true}
 use mathlib.Core.List.{List, [], _∷_, _++_, List·Memᴰ, List·Memᴰ·head, List·Memᴰ·tail, List·Memᴰ·append-cases, List·Memᴰ·eq-of-singleton, List·Memᴰ·not-nil}
-use lib.Dec.{eqb}
+use lib.Dec.{eqb, ltb}
 use lib.ListN.{length, getD, set, take, replicate, length-append, length-set, length-replicate, getD-replicate}
-use lib.Seq.{length-take-le, getD-set-same, getD-set-other, getD-take, take-suc, take-suc-set}
-use borrow.Author.Tests.{eq-eqb, ne-eqb, eqb-true}
+use lib.Seq.{length-take-le, getD-set-same, getD-set-other, set-getD, getD-take, take-suc, take-suc-set}
+use borrow.Author.Tests.{eq-eqb, ne-eqb, eqb-true, lt-ltb, le-ltb}
 use Rattle.grid.specs.Lists.{range, upto, any, filter, member, Distinct}
 use Rattle.grid.specs.Grid.{Grid, neighbours}
 use Rattle.grid.specs.Side.{towards, besideOf}
@@ -19,11 +19,11 @@ use Rattle.grid.specs.declared.Side.the-variants.{At, Off}
 use Rattle.grid.proofs.ListLaws.{mem-filter, mem-upto, length-range, filter-length, filter-split, distinct-snoc, at-mem, so-false, member-mem}
 use Rattle.grid.proofs.SideLaws.{beside-at, beside-off}
 use Rattle.grid.proofs.AroundLaws.{gathered, gathered-all}
+use Rattle.grid.proofs.AppendLaws.{count-hit, count-miss, any-append, any-agree}
 use Rattle.reach.specs.Inside.{nearAt, nearAmong}
 use Rattle.reach.specs.Chains.{ownedBy, cellsFrom, firstFrom}
 use Rattle.reach.specs.Near.{Sizes, Listed, Listing, floatAmong, Names}
-use Rattle.kinds.proofs.Filled.{count-hit, count-miss, any-append, marks-none, marks-same, marks-set, mark-test}
-use Rattle.kinds.proofs.Views.{any-same}
+use Rattle.kinds.proofs.Filled.{marks-none, marks-same, marks-set, mark-test}
 use Rattle.reach.proofs.ChainLaws.{cellsUpTo, first-low, first-in, first-owned, passed-none, passed-first, passed-all}
 
 -- ---- the cells of each owner are counted
@@ -69,6 +69,14 @@ module _ {owners sizes : List ℕ} {i : ℕ} (S : Sizes owners i sizes) where
       go f h (yes q) = rw q (getD-set-same sizes o (getD sizes o 0 + 1) 0 (omega (arith, S .long)) ∙ ap (λ (x : ℕ). x + 1) (S .at o l) ∙ sym (size-next o refl))
       go f h (no ne) = getD-set-other sizes o f (getD sizes o 0 + 1) 0 ne ∙ S .at f h ∙ size-same f (λ q. ne (sym q))
 
+  -- both at once, as they are written without a branch: no owner goes by the place of its remainder, which stays as it is
+  pub sizes-either : Sizes owners (i + 1) (set sizes (getD owners i 0 % 1024) (cond (ltb (getD owners i 0) 1024) (getD sizes (getD owners i 0 % 1024) 0 + 1) (getD sizes (getD owners i 0 % 1024) 0)))
+  sizes-either = go (decLt (getD owners i 0) 1024)
+    where
+      go : Dec (getD owners i 0 < 1024) → Sizes owners (i + 1) (set sizes (getD owners i 0 % 1024) (cond (ltb (getD owners i 0) 1024) (getD sizes (getD owners i 0 % 1024) 0 + 1) (getD sizes (getD owners i 0 % 1024) 0)))
+      go (yes l) = let e : getD owners i 0 % 1024 ≡ getD owners i 0 = omega arith in rw (e, lt-ltb (getD owners i 0) 1024 l) (sizes-more l)
+      go (no h) = rw (le-ltb (getD owners i 0) 1024 (omega arith), set-getD sizes (getD owners i 0 % 1024) 0) (sizes-same (omega arith))
+
   pub size-few : (f : ℕ) → f < 1024 → getD sizes f 0 ≤ i
   size-few f h = omega (arith, S .at f h, cells-few owners i f)
 
@@ -94,14 +102,6 @@ unfolding upto
 distinct-few l n d s = omega (arith, distinct-fits l (upto n) d (λ x q. mem-upto n (s x q)), length-range 0 n)
 
 -- ---- names are listed
-
-or-false : (b : Bool) → (b || false) ≡ b
-or-false true = refl
-or-false false = refl
-
-or-assoc : (a b d : Bool) → ((a || b) || d) ≡ (a || (b || d))
-or-assoc true b d = refl
-or-assoc false b d = refl
 
 -- none is listed
 pub listed-none : {groups : List ℕ} → length groups ≡ 1024 → Listed (λ m. false) (replicate 1024 0) groups 0
@@ -168,10 +168,6 @@ module _ {t : ℕ → Bool} {near groups : List ℕ} {c : ℕ} (L : Listed t nea
       listed = λ x. (λ q. into x (List·Memᴰ·append-cases (take c groups) (subst (List·Memᴰ x) front q)), λ q. subst (List·Memᴰ x) (sym front) (from x (t x) refl q));
     }
       where
-        or-true : (b : Bool) → (b || true) ≡ true
-        or-true true = refl
-        or-true false = refl
-
         into : (x : ℕ) → List·Memᴰ x (take c groups) ⊎ List·Memᴰ x (m ∷ []) → (x < 1024) × ((t x || eqb m x) ≡ true)
         into x (inl q) = let r = L .listed x .0 q in (r .0, rw (r .1) refl)
         into x (inr q) =
@@ -319,7 +315,7 @@ module _ (kinds owners : List ℕ) (g : Grid) (n f : ℕ) where
     walk-end small h = listed-same (W .so-far) _ (λ m _.
         ap (λ (l : List ℕ). nearIn kinds owners g l m) (passed-all owners n f (W .from) i small (W .low) (W .next) h ∙ cells-are owners n f)
         ∙ any-filter (λ i. eqb (getD kinds i 0) 2 && floatAmong kinds owners (neighbours g i) m) (ownedBy owners f) (upto n)
-        ∙ any-same _ _ (upto n) (λ i _. swap (eqb (getD owners i 0) f) (eqb (getD kinds i 0) 2) _))
+        ∙ any-agree _ _ (upto n) (λ i _. swap (eqb (getD owners i 0) f) (eqb (getD kinds i 0) 2) _))
       where
         swap : (a b d : Bool) → (a && (b && d)) ≡ ((b && a) && d)
         swap true true d = refl
@@ -397,7 +393,7 @@ module _ (owners : List ℕ) (n : ℕ) where
   unfolding any member ownedBy
   any-owners p [] l = none-owned p l
   any-owners p (m ∷ ms) l =
-      any-same _ _ l (λ i _. share (eqb (getD owners i 0) m) (member (getD owners i 0) ms) (p i)) ∙ any-or (λ i. ownedBy owners m i && p i) (λ i. ownedIn owners ms i && p i) l
+      any-agree _ _ l (λ i _. share (eqb (getD owners i 0) m) (member (getD owners i 0) ms) (p i)) ∙ any-or (λ i. ownedBy owners m i && p i) (λ i. ownedIn owners ms i && p i) l
       ∙ ap (λ (b : Bool). b || any (λ i. ownedIn owners ms i && p i) l) (sym (any-filter p (ownedBy owners m) l)) ∙ ap (λ (b : Bool). any p (filter (ownedBy owners m) l) || b) (any-owners p ms l)
     where
       share : (a b d : Bool) → ((a || b) && d) ≡ ((a && d) || (b && d))
@@ -408,7 +404,7 @@ module _ (owners : List ℕ) (n : ℕ) where
 
   -- a test on the cells of several owners
   pub any-owned : (p : ℕ → Bool) (ms : List ℕ) → any p (filter (ownedIn owners ms) (upto n)) ≡ any (λ m. any p (cellsFrom owners n m 0)) ms
-  any-owned p ms = any-filter p (ownedIn owners ms) (upto n) ∙ any-owners p ms (upto n) ∙ any-same _ _ ms (λ m _. ap (any p) (sym (cells-are owners n m)))
+  any-owned p ms = any-filter p (ownedIn owners ms) (upto n) ∙ any-owners p ms (upto n) ∙ any-agree _ _ ms (λ m _. ap (any p) (sym (cells-are owners n m)))
 
   none-counted : (l : List ℕ) → length (filter (ownedIn owners []) l) ≡ 0
   unfolding filter any member

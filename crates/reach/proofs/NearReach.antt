@@ -5,7 +5,7 @@ use native.Mathlib.Nat.{zero-add}
 use native.Mathlib.Decide.{decLt}
 use native.Mathlib.Omega.{arith}
 use mathlib.Core.Path.{_≡_, refl, sym, ap, _∙_, subst}
-use mathlib.Core.Bool.{Bool, true, false, So, cond, _&&_, _||_, false≢true}
+use mathlib.Core.Bool.{Bool, true, false, So, cond, _&&_, _||_, false≢true, or-false}
 use mathlib.Core.List.{List, _∷_, List·Memᴰ, List·Memᴰ·head, Memᴰ·of-map}
 use lib.Dec.{eqb}
 use lib.ListN.{length, getD, take, List·getD-eq-default}
@@ -17,28 +17,20 @@ use Rattle.grid.specs.Link.{linked-end}
 use Rattle.grid.proofs.ListLaws.{so-false, and-true, any-mem, upto-mem, filter-mem, once-mem, getD-map-range, member-mem, mem-member}
 use Rattle.grid.proofs.GridLaws.{beside as side, on-grid}
 use Rattle.grid.proofs.SideLaws.{area}
+use Rattle.grid.proofs.AppendLaws.{same-test, filter-agree}
 use Rattle.record.specs.Record.{Puzzle}
-use Rattle.board.specs.Board.{empty, square}
+use Rattle.grid.specs.Cells.{empty, square}
 use Rattle.groups.specs.Groups.{labels, maskOf}
 use Rattle.groups.proofs.GroupLaws.{label-own, label-linked, linked-size}
-use Rattle.kinds.specs.Kinds.{Kind, vacant, barrier, floating, inBlock, beside, isFloating, isIn, isBeside, has, arrowBlock, blocksBeside, kindAt, kindsOf, View, view, viewWith, floatNear, inReach, reach, kindCode, ownerBy, kindArray}
+use Rattle.kinds.specs.Kinds.{Kind, vacant, barrier, floating, inBlock, neighbour, isFloating, isIn, isNeighbour, has, arrowBlock, blocksTouched, kindAt, kindsOf, View, view, viewWith, floatNear, inReach, reach, kindCode, ownerBy, kindArray}
 use Rattle.kinds.specs.Inside.{Limits, puzzleWith, Held, Marks}
 use Rattle.reach.specs.Inside.{nearAmong, reachesAt}
 use Rattle.reach.specs.Chains.{cellsFrom}
 use Rattle.reach.specs.Near.{Sizes, Listed, NearFloats}
 use Rattle.kinds.proofs.Bridge.{in-of, beside-of}
 use Rattle.kinds.proofs.Filled.{marks-same, mask-at, filled-past, filled-length}
-use Rattle.reach.proofs.Reaches.{filter-same, code-get, owner-get, near-is, near-out, groups-are, reaches-is}
+use Rattle.reach.proofs.Reaches.{code-get, owner-get, near-is, near-out, groups-are, reaches-is}
 use Rattle.reach.proofs.NearLaws.{listed-same, total, total-same, ownedIn, any-owned, length-owned}
-
-bool-iff : (a b : Bool) → (a ≡ true → b ≡ true) → (b ≡ true → a ≡ true) → a ≡ b
-bool-iff true b f g = sym (f refl)
-bool-iff false true f g = g refl
-bool-iff false false f g = refl
-
-or-false : (b : Bool) → (b || false) ≡ b
-or-false true = refl
-or-false false = refl
 
 -- the mask of a grid's cells as marks
 mask-marks : (g : Grid) (t : ℕ → Bool) → size g ≤ 1024 → ((m : ℕ) → size g ≤ m → t m ≡ false) → Marks (maskOf g t) t
@@ -56,7 +48,7 @@ block-kind vacant e = refl
 block-kind barrier e = refl
 block-kind floating e = absurd (omega (arith, e))
 block-kind (inBlock f) e = refl
-block-kind (beside f) e = refl
+block-kind (neighbour f) e = refl
 
 module _ (p : Puzzle) (small : size (p .grid) ≤ 1024) (cells K O : List ℕ) (H : Held (view p cells) K O) where
   abbrev g : Grid
@@ -80,7 +72,7 @@ module _ (p : Puzzle) (small : size (p .grid) ≤ 1024) (cells K O : List ℕ) (
   arrowed = arrowBlock p cells (labels g (square cells))
 
   abbrev listed : ℕ → List ℕ
-  listed = blocksBeside p cells (labels g (square cells))
+  listed = blocksTouched p cells (labels g (square cells))
 
   kind-get : (i : ℕ) → i < size g → kind i ≡ kindAt p cells (labels g (square cells)) i
   unfolding view viewWith kindsOf cellsOf upto
@@ -105,10 +97,10 @@ module _ (p : Puzzle) (small : size (p .grid) ≤ 1024) (cells K O : List ℕ) (
       let q = in-of (empty cells i) (square cells i) (arrowed (label i)) (label i) (listed i) e (subst (λ k. So (isIn e k)) (kind-get i l) h) in
       subst (λ x. isFloating (kind x) ≡ false) (q .2) (arrow-name i l (q .0) (q .1))
 
-  beside-name : (i e : ℕ) → i < size g → So (isBeside e (kind i)) → isFloating (kind e) ≡ false
-  unfolding kindAt blocksBeside
+  beside-name : (i e : ℕ) → i < size g → So (isNeighbour e (kind i)) → isFloating (kind e) ≡ false
+  unfolding kindAt blocksTouched
   beside-name i e l h =
-      let q = beside-of (empty cells i) (square cells i) (arrowed (label i)) (label i) (listed i) e (subst (λ k. So (isBeside e k)) (kind-get i l) h) in
+      let q = beside-of (empty cells i) (square cells i) (arrowed (label i)) (label i) (listed i) e (subst (λ k. So (isNeighbour e k)) (kind-get i l) h) in
       let m : List·Memᴰ e (listed i) = subst (List·Memᴰ e) (sym (q .2)) (List·Memᴰ·head refl) in
       let r = Memᴰ·of-map label _ (once-mem _ m) in
       let t = filter-mem (λ j. square cells j && arrowed (label j)) (neighbours g i) (r .1) in
@@ -124,7 +116,7 @@ module _ (p : Puzzle) (small : size (p .grid) ≤ 1024) (cells K O : List ℕ) (
   unfolding floatNear has cellsOf view viewWith
   float-name f m s =
       let r = any-mem _ (upto (size g)) s in
-      let a = and-true (isBeside f (kind (r .0))) _ (r .2) in
+      let a = and-true (isNeighbour f (kind (r .0))) _ (r .2) in
       let t = any-mem _ (neighbours g (r .0)) (a .1) in
       let b = and-true (isFloating (kind (t .0))) _ (t .2) in
       let l = on-grid g (upto-mem (size g) (r .1)) (side g (r .0) (t .1)) in
@@ -144,7 +136,7 @@ module _ (p : Puzzle) (small : size (p .grid) ≤ 1024) (cells K O : List ℕ) (
 
     -- the listed groups are those near
     member-near : (m : ℕ) → m < 1024 → member m gs ≡ floatNear v f m
-    member-near m h = bool-iff (member m gs) (floatNear v f m) (λ s. N .listed m .0 (member-mem m gs s) .1) (λ s. mem-member m gs (N .listed m .1 (h, s)))
+    member-near m h = same-test (member m gs) (floatNear v f m) (λ s. N .listed m .0 (member-mem m gs s) .1) (λ s. mem-member m gs (N .listed m .1 (h, s)))
 
     member-not : (m : ℕ) → (m < 1024 → floatNear v f m ≡ true → ⊥) → member m gs ≡ false
     member-not m no-one = so-false (member m gs) (λ s. let r = N .listed m .0 (member-mem m gs s) in no-one (r .0) (r .1))
@@ -170,13 +162,13 @@ module _ (p : Puzzle) (small : size (p .grid) ≤ 1024) (cells K O : List ℕ) (
 
       -- a cell is in the reach if its owner is f or a listed group
       owner-in : (i : ℕ) → i < size g → inReach v f i ≡ ownedIn O (f ∷ gs) i
-      unfolding inReach has any member isIn isBeside isFloating ownerBy
+      unfolding inReach has any member isIn isNeighbour isFloating ownerBy
       owner-in i l = by (kind i) refl ∙ ap (λ (o : ℕ). eqb o f || member o gs) (sym (owner-get p small cells K O H i l))
         where
           outside : false ≡ (eqb 1024 f || member 1024 gs)
           outside = rw (ne-eqb 1024 f (λ e. omega (arith, e, f-in, small)), member-not 1024 (λ h _. omega (arith, h))) refl
 
-          by : (k : Kind) → kind i ≡ k → (isIn f k || isBeside f k || (isFloating k && floatNear v f (float i))) ≡ (eqb (ownerBy (float i) k) f || member (ownerBy (float i) k) gs)
+          by : (k : Kind) → kind i ≡ k → (isIn f k || isNeighbour f k || (isFloating k && floatNear v f (float i))) ≡ (eqb (ownerBy (float i) k) f || member (ownerBy (float i) k) gs)
           by vacant e = outside
           by barrier e = outside
           by floating e =
@@ -191,11 +183,11 @@ module _ (p : Puzzle) (small : size (p .grid) ≤ 1024) (cells K O : List ℕ) (
                   go (yes h) = member-near m h
                   go (no h) = member-not m (λ k _. omega (arith, k)) ∙ sym (near-out p small cells K O H f m (omega arith))
           by (inBlock e) q = or-false (eqb e f || false) ∙ ap (λ (b : Bool). eqb e f || b) (sym (not-near e (in-name i e l (subst (λ k. So (isIn e k)) (sym q) (eq-eqb e e refl)))))
-          by (beside e) q = ap (λ (b : Bool). eqb e f || b) (sym (not-near e (beside-name i e l (subst (λ k. So (isBeside e k)) (sym q) (eq-eqb e e refl)))))
+          by (neighbour e) q = ap (λ (b : Bool). eqb e f || b) (sym (not-near e (beside-name i e l (subst (λ k. So (isNeighbour e k)) (sym q) (eq-eqb e e refl)))))
 
       reach-owned : reach v f ≡ filter (ownedIn O (f ∷ gs)) (upto (size g))
       unfolding reach cellsOf view viewWith
-      reach-owned = filter-same (inReach v f) (ownedIn O (f ∷ gs)) (upto (size g)) (λ i m. owner-in i (upto-mem (size g) m))
+      reach-owned = filter-agree (inReach v f) (ownedIn O (f ∷ gs)) (upto (size g)) (λ i m. owner-in i (upto-mem (size g) m))
 
       f-apart : ¬ List·Memᴰ f gs
       f-apart q = false≢true (sym f-kind ∙ float-name f f (N .listed f .0 q .1))

@@ -2,31 +2,26 @@
 -- Assumes nothing.
 use Prim.Native.Nat.{ℕ, _*_, _≤_, _<_}
 use native.Mathlib.Omega.{arith}
-use mathlib.Core.Path.{_≡_, refl, ap, _∙_}
-use mathlib.Core.Bool.{Bool, true, false, So, cond, _&&_, _||_}
-use mathlib.Core.List.{List, [], _∷_, List·Memᴰ, List·Memᴰ·head, List·Memᴰ·tail}
+use mathlib.Core.Path.{_≡_, refl, sym, ap, _∙_}
+use mathlib.Core.Bool.{Bool, false, So, cond, _&&_, _||_, or-false}
+use mathlib.Core.List.{List}
 use lib.Dec.{eqb}
 use lib.ListN.{length, getD}
 use borrow.Author.Tests.{eqb-true, lt-ltb}
-use Rattle.grid.specs.Lists.{upto, any, filter}
+use Rattle.grid.specs.Lists.{upto, any}
 use Rattle.grid.specs.Grid.{Grid, size, cellsOf, neighbours}
 use Rattle.grid.specs.Side.{sized}
 use Rattle.grid.specs.Link.{here}
 use Rattle.grid.proofs.ListLaws.{so-false, and-true, any-mem, upto-mem}
 use Rattle.grid.proofs.GridLaws.{beside as side, on-grid}
+use Rattle.grid.proofs.AppendLaws.{filter-agree, any-agree}
 use Rattle.record.specs.Record.{Puzzle}
 use Rattle.groups.specs.Groups.{maskOf}
 use Rattle.groups.proofs.GroupLaws.{label-least}
-use Rattle.kinds.specs.Kinds.{Kind, vacant, barrier, floating, inBlock, beside, isFloating, isIn, isBeside, has, View, view, viewWith, floatNear, inReach, reach, kindCode, ownerBy, kindArray, ownerArray, reachMask}
+use Rattle.kinds.specs.Kinds.{Kind, vacant, barrier, floating, inBlock, neighbour, isFloating, isIn, isNeighbour, has, View, view, viewWith, floatNear, inReach, reach, kindCode, ownerBy, kindArray, ownerArray, reachMask}
 use Rattle.kinds.specs.Inside.{puzzleWith, Held, Marks}
 use Rattle.reach.specs.Inside.{nearAt, nearAmong, reaches, reachesAt, Reached, Reach}
 use Rattle.kinds.proofs.Filled.{marks-same, marks-mask, mark-test, filled-at, filled-same}
-use Rattle.kinds.proofs.Views.{any-same}
-
-pub filter-same : (p q : ℕ → Bool) (l : List ℕ) → ((x : ℕ) → List·Memᴰ x l → p x ≡ q x) → filter p l ≡ filter q l
-unfolding filter
-filter-same p q [] h = refl
-filter-same p q (x ∷ l) h = rw (h x (List·Memᴰ·head refl), filter-same p q l (λ y m. h y (List·Memᴰ·tail m)))
 
 -- ---- a kind by its number and owner
 
@@ -36,15 +31,15 @@ in-by vacant m f = refl
 in-by barrier m f = refl
 in-by floating m f = refl
 in-by (inBlock e) m f = refl
-in-by (beside e) m f = refl
+in-by (neighbour e) m f = refl
 
-beside-by : (k : Kind) (m f : ℕ) → (eqb (kindCode k) 2 && eqb (ownerBy m k) f) ≡ isBeside f k
-unfolding kindCode ownerBy isBeside
+beside-by : (k : Kind) (m f : ℕ) → (eqb (kindCode k) 2 && eqb (ownerBy m k) f) ≡ isNeighbour f k
+unfolding kindCode ownerBy isNeighbour
 beside-by vacant m f = refl
 beside-by barrier m f = refl
 beside-by floating m f = refl
 beside-by (inBlock e) m f = refl
-beside-by (beside e) m f = refl
+beside-by (neighbour e) m f = refl
 
 floating-by : (k : Kind) (m x : ℕ) → (eqb (kindCode k) 4 && eqb (ownerBy m k) x) ≡ (isFloating k && eqb m x)
 unfolding kindCode ownerBy isFloating
@@ -52,20 +47,16 @@ floating-by vacant m x = refl
 floating-by barrier m x = refl
 floating-by floating m x = refl
 floating-by (inBlock e) m x = refl
-floating-by (beside e) m x = refl
-
-or-false : (b : Bool) → b ≡ (b || false)
-or-false true = refl
-or-false false = refl
+floating-by (neighbour e) m x = refl
 
 reaches-by : (k : Kind) (m f : ℕ) (near : List ℕ) (b : Bool) → (So (isFloating k) → m < 1024) → (m < 1024 → eqb (getD near m 0) 1 ≡ b)
-    → reaches near f (kindCode k) (ownerBy m k) ≡ (isIn f k || isBeside f k || (isFloating k && b))
-unfolding kindCode ownerBy isIn isBeside isFloating reaches
+    → reaches near f (kindCode k) (ownerBy m k) ≡ (isIn f k || isNeighbour f k || (isFloating k && b))
+unfolding kindCode ownerBy isIn isNeighbour isFloating reaches
 reaches-by vacant m f near b l e = refl
 reaches-by barrier m f near b l e = refl
 reaches-by floating m f near b l e = rw (lt-ltb m 1024 (l refl)) (e (l refl))
-reaches-by (inBlock x) m f near b l e = or-false (eqb x f) ∙ or-false (eqb x f || false)
-reaches-by (beside x) m f near b l e = or-false (eqb x f)
+reaches-by (inBlock x) m f near b l e = sym (or-false (eqb x f)) ∙ sym (or-false (eqb x f || false))
+reaches-by (neighbour x) m f near b l e = sym (or-false (eqb x f))
 
 -- ---- what the arrays of a view hold
 
@@ -99,21 +90,21 @@ module _ (p : Puzzle) (small : size (p .grid) ≤ 1024) (cells K O : List ℕ) (
   module _ (f : ℕ) where
     pub near-is : (m : ℕ) → nearAmong K O g f (size g) m ≡ floatNear v f m
     unfolding nearAmong nearAt floatNear has cellsOf view viewWith
-    near-is m = any-same _ _ (upto (size g)) (λ i x. at i (upto-mem (size g) x))
+    near-is m = any-agree _ _ (upto (size g)) (λ i x. at i (upto-mem (size g) x))
       where
         inner : (i : ℕ) → i < size g → any (λ j. eqb (getD K j 0) 4 && eqb (getD O j 0) m) (neighbours g i) ≡ any (λ j. isFloating (kind j) && eqb (float j) m) (neighbours g i)
-        inner i l = any-same _ _ (neighbours g i) (λ j x.
+        inner i l = any-agree _ _ (neighbours g i) (λ j x.
             let q = on-grid g l (side g i x) in
             rw (code-get j q, owner-get j q) (floating-by (kind j) (float j) m))
 
-        at : (i : ℕ) → i < size g → (eqb (getD K i 0) 2 && eqb (getD O i 0) f && any (λ j. eqb (getD K j 0) 4 && eqb (getD O j 0) m) (neighbours g i)) ≡ (isBeside f (kind i) && any (λ j. isFloating (kind j) && eqb (float j) m) (neighbours g i))
+        at : (i : ℕ) → i < size g → (eqb (getD K i 0) 2 && eqb (getD O i 0) f && any (λ j. eqb (getD K j 0) 4 && eqb (getD O j 0) m) (neighbours g i)) ≡ (isNeighbour f (kind i) && any (λ j. isFloating (kind j) && eqb (float j) m) (neighbours g i))
         at i l = rw (inner i l, code-get i l, owner-get i l, beside-by (kind i) (float i) f)
 
     pub near-out : (m : ℕ) → size g ≤ m → floatNear v f m ≡ false
     unfolding floatNear has cellsOf view viewWith
     near-out m h = so-false (floatNear v f m) (λ s.
         let r = any-mem _ (upto (size g)) s in
-        let a = and-true (isBeside f (kind (r .0))) _ (r .2) in
+        let a = and-true (isNeighbour f (kind (r .0))) _ (r .2) in
         let t = any-mem _ (neighbours g (r .0)) (a .1) in
         let b = and-true (isFloating (kind (t .0))) _ (t .2) in
         let l = on-grid g (upto-mem (size g) (r .1)) (side g (r .0) (t .1)) in
@@ -135,7 +126,7 @@ module _ (p : Puzzle) (small : size (p .grid) ≤ 1024) (cells K O : List ℕ) (
       reach-is marks r R = record {
         groups = groups-are;
         marked = R .marked ∙ filled-same 0 (λ i. cond (reachesAt K O near f i) 1 0) (λ i. cond (inReach v f i) 1 0) (size g) small (λ i l. rw (reaches-is i l));
-        number = R .number ∙ ap length (filter-same (reachesAt K O near f) (inReach v f) (upto (size g)) (λ i m. reaches-is i (upto-mem (size g) m)));
+        number = R .number ∙ ap length (filter-agree (reachesAt K O near f) (inReach v f) (upto (size g)) (λ i m. reaches-is i (upto-mem (size g) m)));
       }
 
 -- what the two passes leave

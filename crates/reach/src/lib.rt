@@ -1,11 +1,9 @@
-// The reach of an arrow block.
-pub mod near;
-
+// The reach of an arrow block as marks, and the cells of each owner in chains.
 ghost use mathlib.Core.Path.{_≡_};
 ghost use Prim.Native.Nat.{ℕ, _+_, _*_, _≤_, _<_};
 ghost use mathlib.Core.Bool.{Bool, _||_};
 ghost use mathlib.Core.List.{List};
-ghost use lib.ListN.{getD};
+ghost use lib.ListN.{getD, replicate};
 ghost use Rattle.grid.specs.Grid.{neighbours};
 ghost use Rattle.grid.specs.Side.{sized, InGrid};
 ghost use Rattle.kinds.specs.Kinds.{view};
@@ -14,27 +12,27 @@ ghost use Rattle.kinds.specs.Inside.{Limits, puzzleWith, Held, Marks};
 ghost use Rattle.reach.specs.Inside.{nearAt, nearAmong, reaches, Counted, Reached, Reach};
 use grid::Side;
 
-// Puts cell i in front of the chain of its owner, if it has one.
+// Puts cell i in front of the chain of its owner, if it has one. Without one the places are written with what they hold.
 fn chain_cell(owners: &[u16; 1024], i: usize, head: &mut [u16; 1024], next: &mut [u16; 1024])
     requires { ⌜ i < 1024 ⌝ }
-    ensures { λ _. ⌜ ((n : ℕ) → i < n → ChainsFrom (now (owners .entry)) (now (head .entry)) (now (next .entry)) n (i + 1) → ChainsFrom (now (owners .entry)) (now (head .exit)) (now (next .exit)) n i) ⌝ }
+    ensures { λ _. ⌜ ((n : ℕ) → i < n → ChainsFrom (now (owners .entry)) (now (head .entry)) (now (next .entry)) n (i + 1)
+        → ChainsFrom (now (owners .entry)) (now (head .exit)) (now (next .exit)) n i) ⌝ }
 {
     let f = owners[i];
-    if 1024 <= f {
-        return;
-    }
-    next[i] = head[f as usize];
-    head[f as usize] = i as u16;
+    let owned = f < 1024;
+    let slot = (f % 1024) as usize;
+    let first = head[slot];
+    let behind = next[i];
+    next[i] = grid::pick(owned, first, behind);
+    head[slot] = grid::pick(owned, i as u16, first);
 }
 
 // Links the cells of each owner by rising index: head has the first cell of each owner and next the one behind each cell;
-// 1024 stands for none. A walk over one group then takes as many steps as the group has cells.
+// 1024 stands for none, and both come with nothing else. A walk over one group then takes as many steps as the group has cells.
 pub fn chain_cells(owners: &[u16; 1024], n: usize, head: &mut [u16; 1024], next: &mut [u16; 1024])
-    requires { ⌜ n ≤ 1024 ⌝ }
+    requires { ⌜ (n ≤ 1024) × (now head ≡ replicate 1024 1024) × (now next ≡ replicate 1024 1024) ⌝ }
     ensures { λ _. ⌜ Chains (now (owners .entry)) (now (head .exit)) (now (next .exit)) n ⌝ }
 {
-    kinds::unname(head);
-    kinds::unname(next);
     let mut i = n;
     while 0 < i {
         i -= 1;
@@ -43,7 +41,7 @@ pub fn chain_cells(owners: &[u16; 1024], n: usize, head: &mut [u16; 1024], next:
 }
 
 // Whether a cell of this kind and owner is in the reach of the block f.
-fn in_reach(near: &[u8; 1024], f: u16, kind: u8, owner: u16) -> bool
+pub fn in_reach(near: &[u8; 1024], f: u16, kind: u8, owner: u16) -> bool
     ensures { λ r. ⌜ r ≡ reaches (now (near .entry)) f kind owner ⌝ }
 {
     if kind == 1 {
@@ -112,7 +110,8 @@ fn mark_floats_beside(
     near: &mut [u8; 1024],
 )
     requires { ⌜ InGrid h w i ⌝ }
-    ensures { λ _. ⌜ ((t : ℕ → Bool) → Marks (now (near .entry)) t → Marks (now (near .exit)) (λ m. t m || nearAt (now (kinds .entry)) (now (owners .entry)) f i (neighbours (sized h w) i) m)) ⌝ }
+    ensures { λ _. ⌜ ((t : ℕ → Bool) → Marks (now (near .entry)) t
+        → Marks (now (near .exit)) (λ m. t m || nearAt (now (kinds .entry)) (now (owners .entry)) f i (neighbours (sized h w) i) m)) ⌝ }
 {
     if kinds[i] != 2 {
         return;
@@ -161,7 +160,9 @@ pub fn compute_reach(
     marks: &mut [u8; 1024],
 ) -> usize
     requires { ⌜ Limits h w ⌝ }
-    ensures { λ r. ⌜ ((arrows : List (List ℕ)) (cells : List ℕ) → Held (view (puzzleWith (sized h w) arrows) cells) (now (kinds .entry)) (now (owners .entry)) → Reach (view (puzzleWith (sized h w) arrows) cells) f (now (near .exit)) (now (marks .exit)) r) ⌝ }
+    ensures { λ r. ⌜ ((arrows : List (List ℕ)) (cells : List ℕ)
+        → Held (view (puzzleWith (sized h w) arrows) cells) (now (kinds .entry)) (now (owners .entry))
+        → Reach (view (puzzleWith (sized h w) arrows) cells) f (now (near .exit)) (now (marks .exit)) r) ⌝ }
 {
     mark_near_floats(kinds, owners, h, w, f, near);
     mark_reach(kinds, owners, near, h * w, f, marks)

@@ -6,14 +6,14 @@ use native.Mathlib.Decide.{decLt}
 use native.Mathlib.Numerals.{add-one}
 use mathlib.Core.Path.{_≡_, refl, ap, _∙_, subst}
 use mathlib.Core.Bool.{true, false, _&&_}
-use mathlib.Core.List.{List, [], _∷_, _++_, List·Memᴰ}
+use mathlib.Core.List.{List, [], _∷_}
 use lib.Dec.{leb, ltb}
-use lib.ListN.{length, getD, take, length-append, List·getD-eq-default}
+use lib.ListN.{length, getD, take, List·getD-eq-default}
 use borrow.Author.Tests.{ltb-true, leb-true, lt-ltb, le-ltb}
-use Rattle.grid.specs.Lists.{last, flatMap, arrayOf}
+use Rattle.grid.specs.Lists.{last, arrayOf}
 use Rattle.grid.specs.Grid.{size}
 use Rattle.grid.specs.Side.{sized}
-use Rattle.grid.proofs.ListLaws.{and-true, at-mem, flatMap-mem}
+use Rattle.grid.proofs.ListLaws.{and-true, at-mem}
 use Rattle.grid.proofs.ArrayLaws.{array-length, array-take, array-in, array-out}
 use Rattle.record.specs.Record.{Puzzle}
 use Rattle.record.specs.Valid.{Valid}
@@ -25,8 +25,8 @@ use Rattle.form.specs.Form.{rises, ended, behind}
 use Rattle.board.specs.Form.{wellFormed}
 use Rattle.board.specs.declared.Board.{Board}
 use Rattle.board.proofs.BoardForm.{whole-is}
-use Rattle.form.proofs.ProblemForm.{valid-formed, formed-valid, formed-again, size-most, rises-last}
-use Rattle.kinds.specs.Kinds.{arrowBlock, blocksBeside, kindAt, kindsOf, view, viewWith}
+use Rattle.form.proofs.ProblemForm.{valid-formed, formed-valid, formed-again, size-most, rises-last, ends-taken, last-end, line-below}
+use Rattle.kinds.specs.Kinds.{arrowBlock, blocksTouched, kindAt, kindsOf, view, viewWith}
 use Rattle.kinds.specs.Inside.{puzzleWith}
 use Rattle.literals.specs.declared.Finding.{Finding}
 use Rattle.literals.specs.declared.Finding.the-variants.{Refused}
@@ -34,9 +34,10 @@ use Rattle.literals.specs.Literals.{Found}
 use Rattle.units.specs.Units.{reason1At, reason1, reason2}
 use Rattle.reasons.specs.Reasons.{findReason}
 use Rattle.groups.specs.Arrows.{linesOf}
-use Rattle.reasons.specs.Arrays.{ArrowArrays}
+use Rattle.inconsistency.specs.Arrays.{ArrowArrays}
 use Rattle.literals.specs.Buffer.{FoundAs, findingBy, bufferBy}
-use Rattle.reasons.specs.Find.{cellsOn, reasonOn, enough, findRefusal, findOf, bufferAfter}
+use Rattle.reasons.specs.Find.{cellsOn, reasonOn, findRefusal, findOf, bufferAfter}
+use Rattle.board.specs.Board.{enough}
 
 -- numbers that rise
 rises-step : (at : ℕ) (es : List ℕ) → rises at es ≡ true → (a : ℕ) → suc a < length es → getD es a 0 ≤ getD es (suc a) 0
@@ -55,17 +56,7 @@ rises-low at [] h a k = absurd (omega arith)
 rises-low at (e ∷ es) h zero k = rises-last e es (and-true (ltb at e) (rises e es) h .1)
 rises-low at (e ∷ es) h (suc a) k = rises-low e es (and-true (ltb at e) (rises e es) h .1) a (omega arith)
 
--- the last arrow ends where the cells end
-ends-last : (at : ℕ) (lines : List (List ℕ)) → last at (endsFrom at lines) ≡ at + length (arrowCells lines)
-unfolding last endsFrom arrowCells flatMap
-ends-last at [] = omega arith
-ends-last at (a ∷ lines) = ends-last (at + length a) lines ∙ omega (arith, length-append a (flatMap (λ x. x) lines))
-
 module _ (p : Puzzle) (v : Valid p) where
-  cells-low : (i : ℕ) → List·Memᴰ i (arrowCells (p .arrows)) → i < size (p .grid)
-  unfolding arrowCells
-  cells-low i m = let r = flatMap-mem (λ (a : List ℕ). a) (p .arrows) m in arrows-size (v .arrows) (r .0) (r .1) i (r .2)
-
   most : size (p .grid) ≤ 1024
   most = size-most (p .grid) (v .high .0) (v .high .1)
 
@@ -73,15 +64,9 @@ module _ (p : Puzzle) (v : Valid p) where
   unfolding arrowCells
   few-cells = arrows-length p v
 
-  ends-are : take (length (p .arrows)) (arrayOf 0 (endsFrom 0 (p .arrows))) ≡ endsFrom 0 (p .arrows)
-  ends-are = rw (← length-ends 0 (p .arrows)) (array-take 0 (endsFrom 0 (p .arrows)))
-
   lines-are : linesOf (arrayOf 0 (arrowCells (p .arrows))) (arrayOf 0 (endsFrom 0 (p .arrows))) (length (p .arrows)) ≡ p .arrows
   unfolding puzzleOf problemOf
   lines-are = ap (λ (q : Puzzle). q .arrows) (problem-puzzle p v)
-
-  total-is : last 0 (endsFrom 0 (p .arrows)) ≡ length (arrowCells (p .arrows))
-  total-is = ends-last 0 (p .arrows) ∙ omega arith
 
   -- every place of the array holds a cell, or 0 behind them
   place-low : (k : ℕ) → getD (arrayOf 0 (arrowCells (p .arrows))) k 0 < 1024
@@ -91,7 +76,7 @@ module _ (p : Puzzle) (v : Valid p) where
       l = arrowCells (p .arrows)
 
       go : Dec (k < length (arrowCells (p .arrows))) → Dec (k < 1024) → getD (arrayOf 0 (arrowCells (p .arrows))) k 0 < 1024
-      go (yes h) _ = rw (array-in 0 (arrowCells (p .arrows)) 0 k h) (omega (arith, cells-low (getD (arrowCells (p .arrows)) k 0) (at-mem (arrowCells (p .arrows)) k h), most))
+      go (yes h) _ = rw (array-in 0 (arrowCells (p .arrows)) 0 k h) (omega (arith, line-below p v (getD (arrowCells (p .arrows)) k 0) (at-mem (arrowCells (p .arrows)) k h), most))
       go (no n) (yes h) = rw (array-out 0 (arrowCells (p .arrows)) 0 k (omega arith) h) (omega arith)
       go (no n) (no m) =
           rw (List·getD-eq-default (arrayOf 0 (arrowCells (p .arrows))) 0 {n = k} (omega (arith, array-length 0 (arrowCells (p .arrows)) (omega (arith, few-cells, most))))) (omega arith)
@@ -99,7 +84,7 @@ module _ (p : Puzzle) (v : Valid p) where
   -- the ends rise, and are no more than the arrays hold
   ends-formed : (leb (length (p .arrows)) 1024 && rises 0 (endsFrom 0 (p .arrows))) ≡ true
   unfolding ended problemOf
-  ends-formed = rw ends-are at (and-true (leb (length (p .arrows)) 1024 && rises 0 (take (length (p .arrows)) (arrayOf 0 (endsFrom 0 (p .arrows))))) (behind 0 (length (p .arrows)) (arrayOf 0 (endsFrom 0 (p .arrows)))) (valid-formed p v .ends) .0)
+  ends-formed = rw (ends-taken p v) at (and-true (leb (length (p .arrows)) 1024 && rises 0 (take (length (p .arrows)) (arrayOf 0 (endsFrom 0 (p .arrows))))) (behind 0 (length (p .arrows)) (arrayOf 0 (endsFrom 0 (p .arrows)))) (valid-formed p v .ends) .0)
 
   -- the arrays of a valid puzzle hold its arrows
   pub arrow-arrays : ArrowArrays (size (p .grid)) (problemOf p .arrows) (problemOf p .ends) (problemOf p .count) (last 0 (take (problemOf p .count) (problemOf p .ends)))
@@ -112,11 +97,11 @@ module _ (p : Puzzle) (v : Valid p) where
       record {
         places = record { long = array-length 0 (arrowCells (p .arrows)) (omega (arith, few-cells, most)); cells = place-low };
         many = leb-true (length (p .arrows)) 1024 (f .0);
-        within = rw (ends-are, total-is) (omega (arith, few-cells, most));
+        within = rw (ends-taken p v, last-end p v) (omega (arith, few-cells, most));
         ends-long = array-length 0 (endsFrom 0 (p .arrows)) (omega (arith, leb-true (length (p .arrows)) 1024 (f .0)));
-        ends-low = λ a h. rw (end a h) (omega (arith, rises-low 0 (endsFrom 0 (p .arrows)) (f .1) a (omega arith), total-is, few-cells, most));
+        ends-low = λ a h. rw (end a h) (omega (arith, rises-low 0 (endsFrom 0 (p .arrows)) (f .1) a (omega arith), last-end p v, few-cells, most));
         ends-rise = λ a h. rw (end a (omega arith), end (a + 1) h, add-one a) (rises-step 0 (endsFrom 0 (p .arrows)) (f .1) a (omega arith));
-        cells-are = rw (lines-are, ends-are, total-is) (array-take 0 (arrowCells (p .arrows)));
+        cells-are = rw (lines-are, ends-taken p v, last-end p v) (array-take 0 (arrowCells (p .arrows)));
         inside = rw lines-are (λ a m i k. arrows-size (v .arrows) a m i k);
         few = rw lines-are (λ a m. omega (arith, one-length (p .arrows) a m, arrows-length p v));
       }
@@ -150,7 +135,7 @@ find-short b buffer h l =
 
 -- a reason goes by the grid and the arrows alone
 pub codes-aside : (p : Puzzle) (cells : List ℕ) → findReason (puzzleWith (p .grid) (p .arrows)) cells ≡ findReason p cells
-unfolding findReason reason1 reason1At reason2 view viewWith kindsOf kindAt blocksBeside arrowBlock
+unfolding findReason reason1 reason1At reason2 view viewWith kindsOf kindAt blocksTouched arrowBlock
 codes-aside p cells = refl
 
 pub find-found : (b : Board) (buffer : List ℕ) {after : List ℕ} {r : Finding} → wellFormed b ≡ true → 3 * (b .problem .height * b .problem .width) + 1 ≤ length buffer

@@ -16,7 +16,7 @@ use Rattle.grid.specs.Grid.{Grid, size, neighbours, Adjacent}
 use Rattle.grid.specs.Link.{Linked, linked-start}
 use Rattle.grid.proofs.ListLaws.{dec-so, so-false, and-true, true-and, not-so, so-not}
 use Rattle.grid.proofs.GridLaws.{apart}
-use Rattle.board.specs.Board.{Literal, square}
+use Rattle.grid.specs.Cells.{Literal, square}
 use Rattle.kinds.specs.Meaning.{Block}
 use Rattle.kinds.proofs.Bridge.{Setting, boardOf, sq<}
 use Rattle.units.specs.Units.{Entry, breadthFirst, parent, path, reason2}

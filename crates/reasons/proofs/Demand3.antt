@@ -6,7 +6,7 @@ use native.Mathlib.Decide.{decLe}
 use mathlib.Core.Logic.{_↔_}
 use mathlib.Core.Path.{_≡_, refl, sym, ap, _∙_}
 use mathlib.Core.Bool.{true}
-use mathlib.Core.List.{List, [], _∷_, _++_, map, List·Memᴰ, List·Memᴰ·head, List·Memᴰ·tail}
+use mathlib.Core.List.{List, [], _∷_, map, List·Memᴰ, List·Memᴰ·head, List·Memᴰ·tail}
 use mathlib.Core.Option.{none, some}
 use lib.ListN.{length, drop, length-map}
 use lib.Seq.{take-at}
@@ -17,7 +17,8 @@ use Rattle.record.specs.Problem.{gridOf, problemOf}
 use Rattle.record.specs.Valid.{Valid}
 use Rattle.record.proofs.RecordLaws.{record-valid}
 use Rattle.record.proofs.ProblemLaws.{problem-puzzle}
-use Rattle.board.specs.Board.{Literal, Call, find, refusal, Full, cellsAfter}
+use Rattle.grid.specs.Cells.{Literal}
+use Rattle.board.specs.Board.{Call, find, refusal, Full, cellsAfter, enough}
 use Rattle.groups.specs.Rules.{BlockRules}
 use Rattle.board.specs.Kept.{boardOf}
 use Rattle.board.specs.Calls.{standing}
@@ -29,7 +30,7 @@ use Rattle.board.proofs.CallLaws.{opened-left, after-calls}
 use Rattle.kinds.specs.Kinds.{word}
 use Rattle.literals.specs.Literals.{Found}
 use Rattle.reasons.specs.Reasons.{findOn}
-use Rattle.reasons.specs.Find.{cellsOn, reasonOn, enough, findRefusal, findOf, bufferAfter, literalOf, told, answerOn}
+use Rattle.reasons.specs.Find.{cellsOn, reasonOn, findRefusal, findOf, bufferAfter, literalOf, told, answerOn}
 use Rattle.literals.specs.Buffer.{findingBy, bufferBy}
 use Rattle.reasons.specs.Demand3.{boardAfter, Demand}
 use Rattle.reasons.proofs.OnMachine.{OnMachine, on-machine}

@@ -14,5 +14,5 @@ pub mod Demand3
 pub mod ReasonLaws
 pub mod NonEmpty
 pub mod BoardArrays
-pub mod Checks
 pub mod Unchanged
+pub mod Behind

@@ -11,12 +11,12 @@ use lib.ListN.{length, length-append}
 use Rattle.grid.specs.Lists.{filter}
 use Rattle.grid.specs.Grid.{Grid}
 use Rattle.record.specs.Record.{Puzzle}
-use Rattle.board.specs.Board.{Literal, square, filled}
+use Rattle.grid.specs.Cells.{Literal, square, potential}
 use Rattle.groups.specs.Groups.{labels, group, names}
 use Rattle.groups.specs.Arrows.{Pair, onArrow}
 use Rattle.kinds.specs.Kinds.{View, view}
 use Rattle.units.specs.Units.{Entry, parent, path, reason1At, reason1, reason2At, reason2}
-use Rattle.literals.specs.Literals.{Found, orElse, given, firstOf}
+use Rattle.literals.specs.Literals.{Found, orElse, reasonIf, firstOf}
 use Rattle.growth.specs.Growth.{reasonGrow, reason3At, reasonShrink, reason4At, reason4aAt, reason4bAt, reason34}
 use Rattle.reasons.specs.Reasons.{findReason}
 use Rattle.literals.proofs.Pass.{each-length}
@@ -43,8 +43,8 @@ unfolding firstOf
 firstOf-literate f [] h = none-literate
 firstOf-literate f (x ∷ xs) h = orElse-literate (f x) (firstOf f xs) (h x) (firstOf-literate f xs h)
 
-given-literate : (t : Bool) (s : List Literal) → 0 < length s → Literate (given t s)
-unfolding given
+given-literate : (t : Bool) (s : List Literal) → 0 < length s → Literate (reasonIf t s)
+unfolding reasonIf
 given-literate true s h = some-literate s h
 given-literate false s h = none-literate
 
@@ -68,7 +68,7 @@ module _ (p : Puzzle) (cells : List ℕ) where
   -- reason 1 has a square of its group
   literate1 : Literate (reason1 p cells)
   unfolding reason1 reason1At
-  literate1 = firstOf-literate _ (names g (filled cells) (labels g (filled cells))) λ f. at (group g (filled cells) (labels g (filled cells)) f)
+  literate1 = firstOf-literate _ (names g (potential cells) (labels g (potential cells))) λ f. at (group g (potential cells) (labels g (potential cells)) f)
     where
       at : (c : List ℕ) → Literate (reason1At p cells c)
       at c = given-literate _ _ (simp (length-append, each-length) (omega arith))

@@ -10,13 +10,13 @@ use mathlib.Core.Option.{none, some}
 use lib.ListN.{getD}
 use borrow.Author.Tests.{eqb-true}
 use Rattle.grid.specs.Lists.{Distinct}
-use Rattle.grid.proofs.ListLaws.{}
 use Rattle.grid.specs.Grid.{Grid}
 use Rattle.record.proofs.LineLaws.{valid-arrows}
 use Rattle.record.specs.Record.{Puzzle, ok, readRecord}
 use Rattle.record.proofs.RecordLaws.{record-valid}
-use Rattle.board.specs.Board.{Full, Agrees, SameCells, SameDecisions, Literal, Call, cellsAfter, afterAll, undecided}
-use Rattle.board.proofs.BoardLaws.{un-below}
+use Rattle.grid.specs.Cells.{Agrees, Literal, undecided}
+use Rattle.board.specs.Board.{Full, SameCells, SameDecisions, Call, cellsAfter, afterAll}
+use Rattle.grid.proofs.CellLaws.{un-below}
 use Rattle.board.proofs.Standing.{Standing, calls-standing, index, standing-distinct, same-board, cells-equal, cell-stands, cells-valid}
 use Rattle.groups.specs.Rules.{BlockRules}
 use Rattle.kinds.proofs.Bridge.{Setting}

@@ -13,8 +13,8 @@ use Rattle.grid.proofs.ListLaws.{mem-any, mem-member, at-mem, so-false}
 use Rattle.grid.specs.Grid.{Grid, size, Adjacent}
 use Rattle.grid.specs.Link.{linked-start, linked-trans, linked-sym}
 use Rattle.record.specs.Record.{Puzzle}
-use Rattle.board.specs.Board.{square}
-use Rattle.board.proofs.BoardLaws.{sq-below}
+use Rattle.grid.specs.Cells.{square}
+use Rattle.grid.proofs.CellLaws.{sq-below}
 use Rattle.groups.specs.Arrows.{onArrow, Pair}
 use Rattle.groups.proofs.ArrowLaws.{NextAt, at-last, at-cur, pos-below, position, posLast, posCur, Parted, mid, tip, whole, mid-clear}
 use Rattle.groups.specs.Rules.{Next, BlockRules, Grown, SameBlock}

@@ -15,14 +15,14 @@ use Rattle.grid.specs.Grid.{Grid, size, cellsOf, touches}
 use Rattle.record.specs.Record.{Puzzle, readRecord, ok}
 use Rattle.record.proofs.RecordLaws.{record-valid}
 use Rattle.record.proofs.FreshLaws.{one-length, arrows-length}
-use Rattle.board.specs.Board.{Literal, square, empty, filled}
+use Rattle.grid.specs.Cells.{Literal, square, empty, potential}
 use Rattle.groups.proofs.ArrowLaws.{pairs-parted, pos-below}
 use Rattle.groups.specs.Groups.{labels, group, names}
 use Rattle.groups.specs.Arrows.{onArrow, Pair, pairs}
 use Rattle.kinds.specs.Kinds.{View, view, viewWith}
 use Rattle.literals.proofs.Pass.{each-length}
 use Rattle.units.specs.Units.{Entry, reason1At, reason1, reason2At, reason2, path, parent, breadthFirst}
-use Rattle.literals.specs.Literals.{Found, orElse, given, firstOf, each}
+use Rattle.literals.specs.Literals.{Found, orElse, reasonIf, firstOf, each}
 use Rattle.growth.specs.Growth.{blockName, reasonGrow, reason3At, gap, reasonShrink, reason4At, reason4aAt, reason4bAt, reason34}
 use Rattle.reasons.specs.Reasons.{findReason}
 use Rattle.kinds.proofs.Lengths.{block-length, fence-length}
@@ -49,10 +49,10 @@ unfolding firstOf
 firstOf-short n f [] h = none-short n
 firstOf-short n f (x ∷ xs) h = orElse-short n (f x) (firstOf f xs) (h x (List·Memᴰ·head refl)) (firstOf-short n f xs (λ y m. h y (List·Memᴰ·tail m)))
 
-given-short : (n : ℕ) (t : Bool) (r : List Literal) → length r ≤ n → Short n (given t r)
-unfolding given
-given-short n true r h = some-short n r h
-given-short n false r h = none-short n
+reason-if-short : (n : ℕ) (t : Bool) (r : List Literal) → length r ≤ n → Short n (reasonIf t r)
+unfolding reasonIf
+reason-if-short n true r h = some-short n r h
+reason-if-short n false r h = none-short n
 
 path-length : (k : ℕ) (cs : List Entry) (a b : ℕ) → length (path k cs a b) ≤ suc k
 unfolding path
@@ -79,10 +79,10 @@ module _ (p : Puzzle) (cells : List ℕ) where
 
   short1 : Short (bound g) (reason1 p cells)
   unfolding reason1 reason1At
-  short1 = firstOf-short (bound g) _ (names g (filled cells) (labels g (filled cells))) λ f m. at (group g (filled cells) (labels g (filled cells)) f)
+  short1 = firstOf-short (bound g) _ (names g (potential cells) (labels g (potential cells))) λ f m. at (group g (potential cells) (labels g (potential cells)) f)
     where
       at : (c : List ℕ) → Short (bound g) (reason1At p cells c)
-      at c = given-short (bound g) (any (square cells) c && not (any (onArrow arrows) c)) _ (length1 c)
+      at c = reason-if-short (bound g) (any (square cells) c && not (any (onArrow arrows) c)) _ (length1 c)
 
   short2 : Short (bound g) (reason2 p cells)
   unfolding reason2 reason2At
@@ -103,7 +103,7 @@ module _ (v : View) (e : Pair) (h : length (e .between) ≤ size (v .grid)) wher
 
   short3 : Short (bound (v .grid)) (reason3At v e)
   unfolding reason3At
-  short3 = given-short (bound (v .grid)) _ (reasonGrow v e) grow-length
+  short3 = reason-if-short (bound (v .grid)) _ (reasonGrow v e) grow-length
 
   shrink-length : length (reasonShrink v e) ≤ bound (v .grid)
   unfolding reasonShrink gap
@@ -119,7 +119,7 @@ module _ (v : View) (e : Pair) (h : length (e .between) ≤ size (v .grid)) wher
 
   short4 : Short (bound (v .grid)) (reason4At v e)
   unfolding reason4At reason4aAt reason4bAt
-  short4 = orElse-short (bound (v .grid)) _ _ (given-short (bound (v .grid)) _ (reasonGrow v e) grow-length) (given-short (bound (v .grid)) _ (reasonShrink v e) shrink-length)
+  short4 = orElse-short (bound (v .grid)) _ _ (reason-if-short (bound (v .grid)) _ (reasonGrow v e) grow-length) (reason-if-short (bound (v .grid)) _ (reasonShrink v e) shrink-length)
 
 -- a pair's cells lie on an arrow
 pairs-length : (cells a : List ℕ) (p : Pair) → List·Memᴰ p (pairs cells a) → length (p .between) ≤ length a

@@ -14,8 +14,8 @@ use Rattle.grid.proofs.ListLaws.{mem-filter, dec-so, true-and, so-not, any-mem,
 use Rattle.grid.specs.Grid.{Grid, size, Adjacent}
 use Rattle.grid.specs.Link.{Linked, linked-end, linked-map, here, linked-start}
 use Rattle.grid.proofs.Count.{count}
-use Rattle.board.specs.Board.{Literal, empty, square, undecided, filled, Agrees}
-use Rattle.board.proofs.BoardLaws.{sq-not-em}
+use Rattle.grid.specs.Cells.{Literal, empty, square, undecided, potential, Agrees}
+use Rattle.grid.proofs.CellLaws.{sq-not-em}
 use Rattle.groups.proofs.GroupLaws.{mem-group, own-names, group-linked, linked-group}
 use Rattle.groups.proofs.Shift.{Contains}
 use Rattle.groups.specs.Groups.{labels, group, names}
@@ -28,8 +28,8 @@ use Rattle.kinds.specs.Meaning.{PartialBoard, Block, Reach}
 use Rattle.kinds.proofs.Fence.{length-reach, length-block}
 use Rattle.reasons.proofs.Sound34.{four-none, tooMany, three-none, tooFew, Spot, reason34-sound, A}
 use Rattle.reasons.proofs.Plain.{on-line, lineAt, lineLen, Which, rules-plain, plain-rules, RulesAt}
-use Rattle.reasons.proofs.First.{or-else-some, given-none, first-none, or-else-none}
-use Rattle.reasons.proofs.Sound1.{so-filled, reason1-sound, filled<, filled-so}
+use Rattle.reasons.proofs.First.{or-else-some, reason-if-none, first-none, or-else-none}
+use Rattle.reasons.proofs.Sound1.{so-filled, reason1-sound, potential<, filled-so}
 use Rattle.reasons.proofs.Stands.{find-stands}
 use Rattle.reasons.proofs.Sound2.{reason2-sound, blockOf}
 use Rattle.literals.specs.Literals.{Found, orElse, firstOf}
@@ -86,18 +86,18 @@ module _ (set : Setting) where
     quiet-1 : reason1 puzzle cells ≡ none → (s : ℕ) → So (square cells s) → ¬ ((c : ℕ) → Linked (Adjacent grid) (λ k. ¬ So (empty cells k)) s c → ¬ So (onArrow arrows c))
     unfolding reason1 reason1At
     quiet-1 e s sq none-there =
-        let fs : So (filled cells s) = filled-so set s (sq-not-em cells s sq) in
-        let s< = filled< set s fs in
-        let c : List ℕ = group grid (filled cells) l (getD l s 0) in
-        let k = first-none (λ f. reason1At puzzle cells (group grid (filled cells) l f)) (names grid (filled cells) l) e (own-names grid (filled cells) s s< fs) in
-        given-none (any (square cells) c && not (any (onArrow arrows) c)) _ k
-        (true-and (mem-any (square cells) c (mem-group grid (filled cells) l (getD l s 0) s s< fs refl) sq)
+        let fs : So (potential cells s) = filled-so set s (sq-not-em cells s sq) in
+        let s< = potential< set s fs in
+        let c : List ℕ = group grid (potential cells) l (getD l s 0) in
+        let k = first-none (λ f. reason1At puzzle cells (group grid (potential cells) l f)) (names grid (potential cells) l) e (own-names grid (potential cells) s s< fs) in
+        reason-if-none (any (square cells) c && not (any (onArrow arrows) c)) _ k
+        (true-and (mem-any (square cells) c (mem-group grid (potential cells) l (getD l s 0) s s< fs refl) sq)
         (so-not (any (onArrow arrows) c) (λ a.
         let w = any-mem (onArrow arrows) c a in
-        none-there (w .0) (linked-map (λ x q. so-filled set x (linked-end q)) (group-linked grid (filled cells) s (w .0) s< fs (w .1))) (w .2))))
+        none-there (w .0) (linked-map (λ x q. so-filled set x (linked-end q)) (group-linked grid (potential cells) s (w .0) s< fs (w .1))) (w .2))))
       where
         l : List ℕ
-        l = labels grid (filled cells)
+        l = labels grid (potential cells)
 
     two-none : (a b : ℕ) (l : List ℕ) → List·Memᴰ a l → List·Memᴰ b l → a ≢ b → reason2At grid cells l ≡ none → ⊥
     unfolding reason2At

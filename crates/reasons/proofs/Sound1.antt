@@ -14,8 +14,8 @@ use Rattle.grid.specs.Lists.{filter, any, last}
 use Rattle.grid.proofs.ListLaws.{filter-mem, mem-filter, and-true, true-and, not-so, so-not, any-mem, mem-any, last-mem}
 use Rattle.grid.specs.Grid.{Grid, size, cellsOf, touches, Adjacent}
 use Rattle.grid.specs.Link.{Linked, linked-end, linked-map}
-use Rattle.board.specs.Board.{Literal, empty, square, undecided, filled, Agrees}
-use Rattle.board.proofs.BoardLaws.{sq-not-em}
+use Rattle.grid.specs.Cells.{Literal, empty, square, undecided, potential, Agrees}
+use Rattle.grid.proofs.CellLaws.{sq-not-em}
 use Rattle.groups.proofs.GroupLaws.{mem-group, group-mem, Labels, labelled}
 use Rattle.groups.specs.Groups.{labels, group, names}
 use Rattle.groups.specs.Arrows.{onArrow}
@@ -23,7 +23,7 @@ use Rattle.kinds.proofs.Bridge.{Setting, boardOf, sq<, un<}
 use Rattle.kinds.specs.Kinds.{has}
 use Rattle.kinds.specs.Meaning.{PartialBoard}
 use Rattle.kinds.proofs.Confine.{lonely}
-use Rattle.reasons.proofs.First.{given-some, first-some, agrees-left, agrees-right, agrees-each}
+use Rattle.reasons.proofs.First.{reason-if-some, first-some, agrees-left, agrees-right, agrees-each}
 use Rattle.reasons.proofs.Plain.{RulesAt}
 use Rattle.literals.specs.Literals.{each}
 use Rattle.units.specs.Units.{reason1At, reason1}
@@ -41,34 +41,34 @@ module _ (set : Setting) where
   abbrev B : PartialBoard
   B = boardOf set
 
-  pub filled-so : (c : ℕ) → ¬ So (empty cells c) → So (filled cells c)
-  unfolding filled
+  pub filled-so : (c : ℕ) → ¬ So (empty cells c) → So (potential cells c)
+  unfolding potential
   filled-so c h = so-not (empty cells c) h
 
-  pub so-filled : (c : ℕ) → So (filled cells c) → ¬ So (empty cells c)
-  unfolding filled
+  pub so-filled : (c : ℕ) → So (potential cells c) → ¬ So (empty cells c)
+  unfolding potential
   so-filled c h = not-so {a = empty cells c} h
 
-  pub filled< : (c : ℕ) → So (filled cells c) → c < size grid
-  filled< c h = go (B .cases c)
+  pub potential< : (c : ℕ) → So (potential cells c) → c < size grid
+  potential< c h = go (B .cases c)
     where
       go : So (empty cells c) ⊎ So (square cells c) ⊎ So (undecided cells c) → c < size grid
       go (inl z) = absurd (so-filled c h z)
       go (inr (inl z)) = sq< set c z
       go (inr (inr z)) = un< set c z
 
-  pub filled-labels : Labels grid (filled cells)
-  filled-labels = labelled grid (filled cells) filled<
+  pub filled-labels : Labels grid (potential cells)
+  filled-labels = labelled grid (potential cells) potential<
 
   -- the potential group named f
   abbrev pub pot : ℕ → List ℕ
-  pot f = group grid (filled cells) (labels grid (filled cells)) f
+  pot f = group grid (potential cells) (labels grid (potential cells)) f
 
   -- a cell that is linked to one of the group is in the group
   pub pot-linked : (f s x : ℕ) → List·Memᴰ s (pot f) → Linked (Adjacent grid) (λ k. ¬ So (empty cells k)) s x → List·Memᴰ x (pot f)
   pot-linked f s x m l =
-      let k : Linked (Adjacent grid) (λ c. So (filled cells c)) s x = linked-map (λ y z. filled-so y (linked-end z)) l in
-      mem-group grid (filled cells) (labels grid (filled cells)) f x (filled< x (linked-end k)) (linked-end k) (sym (filled-labels .linked s x k) ∙ group-mem grid (filled cells) (labels grid (filled cells)) f s m .2)
+      let k : Linked (Adjacent grid) (λ c. So (potential cells c)) s x = linked-map (λ y z. filled-so y (linked-end z)) l in
+      mem-group grid (potential cells) (labels grid (potential cells)) f x (potential< x (linked-end k)) (linked-end k) (sym (filled-labels .linked s x k) ∙ group-mem grid (potential cells) (labels grid (potential cells)) f s m .2)
 
   -- the empty cells that touch a group
   abbrev pub bounds : List ℕ → List ℕ
@@ -79,8 +79,8 @@ module _ (set : Setting) where
     pub reason1-sound : (r : List Literal) → reason1 puzzle cells ≡ some r → Agrees full r → ⊥
     unfolding reason1 reason1At square
     reason1-sound r e ag =
-        let w = first-some (λ f. reason1At puzzle cells (pot f)) (names grid (filled cells) (labels grid (filled cells))) r e in
-        let q = given-some (any (square cells) (pot (w .0)) && not (any (onArrow arrows) (pot (w .0)))) (each 0 (bounds (pot (w .0))) ++ each 1 (last 0 (filter (square cells) (pot (w .0))) ∷ [])) r (w .2) in
+        let w = first-some (λ f. reason1At puzzle cells (pot f)) (names grid (potential cells) (labels grid (potential cells))) r e in
+        let q = reason-if-some (any (square cells) (pot (w .0)) && not (any (onArrow arrows) (pot (w .0)))) (each 0 (bounds (pot (w .0))) ++ each 1 (last 0 (filter (square cells) (pot (w .0))) ∷ [])) r (w .2) in
         go (w .0) (and-true (any (square cells) (pot (w .0))) _ (q .0)) (subst (Agrees full) (sym (q .1)) ag)
       where
         go : (f : ℕ) → So (any (square cells) (pot f)) × So (not (any (onArrow arrows) (pot f)))

@@ -12,7 +12,7 @@ use Rattle.grid.specs.Lists.{Distinct, filter}
 use Rattle.grid.proofs.ListLaws.{filter-mem, distinct-filter}
 use Rattle.grid.specs.Grid.{Grid, size}
 use Rattle.grid.specs.Link.{linked-start}
-use Rattle.board.specs.Board.{Literal, square, Agrees}
+use Rattle.grid.specs.Cells.{Literal, square, Agrees}
 use Rattle.groups.proofs.GroupLaws.{group-mem, group-distinct}
 use Rattle.groups.specs.Groups.{labels, group, names}
 use Rattle.groups.specs.Arrows.{onArrow}

@@ -14,8 +14,8 @@ use Rattle.grid.specs.Lists.{filter, any, flatMap, last, init, tail}
 use Rattle.grid.proofs.ListLaws.{mem-filter, flatMap-mem, dec-so, not-so, so-not, any-mem, at-mem}
 use Rattle.grid.specs.Grid.{Grid, size}
 use Rattle.grid.proofs.Count.{count}
-use Rattle.board.specs.Board.{Literal, empty, square, undecided, Agrees}
-use Rattle.board.proofs.BoardLaws.{sq-below}
+use Rattle.grid.specs.Cells.{Literal, empty, square, undecided, Agrees}
+use Rattle.grid.proofs.CellLaws.{sq-below}
 use Rattle.groups.proofs.GroupLaws.{label-own}
 use Rattle.groups.proofs.RulesLaws.{dec-block}
 use Rattle.groups.proofs.Shift.{taking, contains-map, fits-contains, contains-fits, Contains}
@@ -27,9 +27,9 @@ use Rattle.kinds.specs.Kinds.{View, view, viewWith, block, reach, fence}
 use Rattle.kinds.specs.Meaning.{PartialBoard, Block, Reach}
 use Rattle.kinds.proofs.Confine.{Fenced}
 use Rattle.kinds.proofs.Fence.{reach-in, in-reach, block-in, in-block, length-reach, length-block, fenced}
-use Rattle.reasons.proofs.First.{first-some, agrees-left, agrees-right, agrees-each, or-else-some, or-else-none, given-none, given-some}
+use Rattle.reasons.proofs.First.{first-some, agrees-left, agrees-right, agrees-each, or-else-some, or-else-none, reason-if-none, reason-if-some}
 use Rattle.reasons.proofs.Plain.{lineLen, RulesAt, on-line, Which, lineAt}
-use Rattle.literals.specs.Literals.{given, firstOf, each}
+use Rattle.literals.specs.Literals.{reasonIf, firstOf, each}
 use Rattle.growth.specs.Growth.{reasonShrink, mostApart, blockName, reasonGrow, reason3At, gap, reason4At, reason4aAt, reason4bAt, reason34}
 use Rattle.growth.proofs.Gap.{Choice, most-bound}
 use Rattle.reasons.proofs.Refute.{Arrows, Filling, reason-3, reason-4a, reason-4b}
@@ -119,7 +119,7 @@ module _ (set : Setting) where
 
     pub three-some : (r : List Literal) → reason3At v pair ≡ some r → (reasonGrow v pair ≡ r) × ((s : Shift) → ¬ Contains grid s (Block B lastCell) (Reach B curCell))
     unfolding reason3At view viewWith blockName
-    three-some r e = let w = given-some (not tried) (reasonGrow v pair) r e in (w .1, λ s f. not-so {a = tried} (w .0) (so-fits lastCell curCell (pr .1) aa ac s f))
+    three-some r e = let w = reason-if-some (not tried) (reasonGrow v pair) r e in (w .1, λ s f. not-so {a = tried} (w .0) (so-fits lastCell curCell (pr .1) aa ac s f))
 
     pub three-none : reason3At v pair ≡ none → (s : Shift) × Contains grid s (Block B lastCell) (Reach B curCell)
     unfolding reason3At view viewWith blockName
@@ -127,7 +127,7 @@ module _ (set : Setting) where
       where
         go : Dec (So tried) → (s : Shift) × Contains grid s (Block B lastCell) (Reach B curCell)
         go (yes h) = let w = any-mem (fits grid (block v (name lastCell)) (reach v (name curCell)) (name lastCell)) (reach v (name curCell)) h in fits-so lastCell curCell (w .0) aa (pr .2) (w .2)
-        go (no h) = absurd (given-none (not tried) (reasonGrow v pair) e (so-not tried h))
+        go (no h) = absurd (reason-if-none (not tried) (reasonGrow v pair) e (so-not tried h))
 
     -- the test of reason 4 (a)
     abbrev pub tooFew : Bool
@@ -143,15 +143,15 @@ module _ (set : Setting) where
 
     pub four-some : (r : List Literal) → reason4At v pair ≡ some r → (So tooFew × (reasonGrow v pair ≡ r)) ⊎ (So tooMany × (shrinkLiterals ≡ r))
     unfolding reason4At reason4aAt reason4bAt reasonShrink view viewWith blockName gap
-    four-some r e = go (or-else-some (given tooFew (reasonGrow v pair)) (given tooMany shrinkLiterals) r e)
+    four-some r e = go (or-else-some (reasonIf tooFew (reasonGrow v pair)) (reasonIf tooMany shrinkLiterals) r e)
       where
-        go : (given tooFew (reasonGrow v pair) ≡ some r) ⊎ ((given tooFew (reasonGrow v pair) ≡ none) × (given tooMany shrinkLiterals ≡ some r)) → (So tooFew × (reasonGrow v pair ≡ r)) ⊎ (So tooMany × (shrinkLiterals ≡ r))
-        go (inl k) = inl (given-some tooFew (reasonGrow v pair) r k)
-        go (inr k) = inr (given-some tooMany shrinkLiterals r (k .1))
+        go : (reasonIf tooFew (reasonGrow v pair) ≡ some r) ⊎ ((reasonIf tooFew (reasonGrow v pair) ≡ none) × (reasonIf tooMany shrinkLiterals ≡ some r)) → (So tooFew × (reasonGrow v pair ≡ r)) ⊎ (So tooMany × (shrinkLiterals ≡ r))
+        go (inl k) = inl (reason-if-some tooFew (reasonGrow v pair) r k)
+        go (inr k) = inr (reason-if-some tooMany shrinkLiterals r (k .1))
 
     pub four-none : reason4At v pair ≡ none → (¬ So tooFew) × (¬ So tooMany)
     unfolding reason4At reason4aAt reason4bAt reasonShrink view viewWith blockName gap
-    four-none e = let w = or-else-none (given tooFew (reasonGrow v pair)) (given tooMany shrinkLiterals) e in (given-none tooFew (reasonGrow v pair) (w .0), given-none tooMany shrinkLiterals (w .1))
+    four-none e = let w = or-else-none (reasonIf tooFew (reasonGrow v pair)) (reasonIf tooMany shrinkLiterals) e in (reason-if-none tooFew (reasonGrow v pair) (w .0), reason-if-none tooMany shrinkLiterals (w .1))
 
     -- a filling that agrees and meets the rules
     module _ (full : List ℕ) (long : length full ≡ size grid) (rules : RulesAt puzzle full) where

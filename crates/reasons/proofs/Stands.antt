@@ -14,14 +14,14 @@ use Rattle.grid.specs.Lists.{filter, any, flatMap, last, init, tail}
 use Rattle.grid.proofs.ListLaws.{filter-mem, mem-filter, flatMap-mem, and-true, any-mem, last-mem, at-mem, mem-at, upto-mem}
 use Rattle.grid.specs.Grid.{Grid, size, cellsOf, touches}
 use Rattle.grid.specs.Link.{linked-end, linked-start}
-use Rattle.board.specs.Board.{Literal, empty, square, filled}
+use Rattle.grid.specs.Cells.{Literal, empty, square, potential}
 use Rattle.groups.specs.Groups.{labels, group, names}
 use Rattle.groups.specs.Arrows.{onArrow, pairs, Pair}
 use Rattle.kinds.proofs.Bridge.{Setting, sq<, blockLabel, kinds, kind, kind-get, kind-vacant, kind-in-block}
-use Rattle.kinds.specs.Kinds.{View, view, viewWith, block, reach, fence, fenceAt, rival, Kind, vacant, barrier, floating, inBlock, beside}
+use Rattle.kinds.specs.Kinds.{View, view, viewWith, block, reach, fence, fenceAt, disturbing, Kind, vacant, barrier, floating, inBlock, neighbour}
 use Rattle.kinds.proofs.Fence.{block-in}
 use Rattle.reasons.proofs.Sound34.{curCell, lastCell, placed, four-some, tooMany, tooFew, three-some, shrinkLiterals, pair, Placed, Spot}
-use Rattle.reasons.proofs.First.{given-some, or-else-some, first-some}
+use Rattle.reasons.proofs.First.{reason-if-some, or-else-some, first-some}
 use Rattle.reasons.proofs.Sound2.{way, two-of}
 use Rattle.literals.specs.Literals.{orElse, firstOf, each}
 use Rattle.units.specs.Units.{reason1At, reason1, reason2}
@@ -94,8 +94,8 @@ module _ (set : Setting) where
       at k l vacant e n = shown-as (k, 0) i u (cond-mem (touches grid (reach v f) k) (k, 0) n) (em-zero k l (kind-vacant set k e))
       at k l barrier e n = absurd (List·Memᴰ·not-nil n)
       at k l floating e n = absurd (List·Memᴰ·not-nil n)
-      at k l (inBlock x) e n = shown-as (k, 1) i u (cond-mem (not (eqb x f) && rival v (reach v f) x) (k, 1) n) (sq-one k (kind-in-block set k x e))
-      at k l (beside x) e n = absurd (List·Memᴰ·not-nil n)
+      at k l (inBlock x) e n = shown-as (k, 1) i u (cond-mem (not (eqb x f) && disturbing v (reach v f) x) (k, 1) n) (sq-one k (kind-in-block set k x e))
+      at k l (neighbour x) e n = absurd (List·Memᴰ·not-nil n)
 
   stand-block : (a : ℕ) → So (square cells a) → Stands (each 1 (block v (nameOf a)))
   stand-block a sa = stand-each 1 (block v (nameOf a)) (λ x m. sq-one x (linked-end (block-in set a x sa m)))
@@ -163,8 +163,8 @@ module _ (set : Setting) where
   stand-1 : (r : List Literal) → reason1 puzzle cells ≡ some r → Stands r
   unfolding reason1 reason1At cellsOf
   stand-1 r e =
-      let w = first-some (λ f. reason1At puzzle cells (pot f)) (names grid (filled cells) (labels grid (filled cells))) r e in
-      let q = given-some (any (square cells) (pot (w .0)) && not (any (onArrow arrows) (pot (w .0)))) (each 0 (bounds (pot (w .0))) ++ each 1 (last 0 (filter (square cells) (pot (w .0))) ∷ [])) r (w .2) in
+      let w = first-some (λ f. reason1At puzzle cells (pot f)) (names grid (potential cells) (labels grid (potential cells))) r e in
+      let q = reason-if-some (any (square cells) (pot (w .0)) && not (any (onArrow arrows) (pot (w .0)))) (each 0 (bounds (pot (w .0))) ++ each 1 (last 0 (filter (square cells) (pot (w .0))) ∷ [])) r (w .2) in
       let h = any-mem (square cells) (pot (w .0)) (and-true (any (square cells) (pot (w .0))) _ (q .0) .0) in
       subst Stands (q .1) (stand-join (each 0 (bounds (pot (w .0)))) (each 1 (last 0 (filter (square cells) (pot (w .0))) ∷ []))
       (stand-each 0 (bounds (pot (w .0))) (λ x m. let k = filter-mem (λ i. empty cells i && touches grid (pot (w .0)) i) (cellsOf grid) m in em-zero x (upto-mem (size grid) (k .0)) (and-true (empty cells x) _ (k .1) .0)))
@@ -172,7 +172,7 @@ module _ (set : Setting) where
       (sq-one _ (filter-mem (square cells) (pot (w .0)) (last-mem 0 (filter (square cells) (pot (w .0))) (mem-filter (square cells) (pot (w .0)) (h .1) (h .2))) .1)))))
     where
       pot : ℕ → List ℕ
-      pot f = group grid (filled cells) (labels grid (filled cells)) f
+      pot f = group grid (potential cells) (labels grid (potential cells)) f
 
       bounds : List ℕ → List ℕ
       bounds c = filter (λ i. empty cells i && touches grid c i) (cellsOf grid)

@@ -10,13 +10,14 @@ use mathlib.Core.Option.{none, some}
 use lib.ListN.{length}
 use Rattle.grid.specs.Lists.{Distinct}
 use Rattle.record.specs.Record.{Puzzle, ok, refused, readRecord}
-use Rattle.board.specs.Board.{Literal, Call, SameCells, SameDecisions, Full, Agrees}
+use Rattle.grid.specs.Cells.{Literal, Agrees}
+use Rattle.board.specs.Board.{Call, SameCells, SameDecisions, Full, enough}
 use Rattle.board.specs.Kept.{openOf}
 use Rattle.board.specs.Calls.{leftAll, standing}
 use Rattle.board.specs.declared.Board.{Board}
 use Rattle.groups.specs.Rules.{BlockRules}
 use Rattle.reasons.specs.Reasons.{findOn}
-use Rattle.reasons.specs.Find.{cellsOn, enough, bufferAfter, answerOn}
+use Rattle.reasons.specs.Find.{cellsOn, bufferAfter, answerOn}
 
 -- the board that the calls cs leave, the first of them on the board that the record s opens
 abbrev pub boardAfter : List ℕ → List Call → Board

@@ -1,15 +1,16 @@
 -- What find answers on a board, and what it leaves in the lent buffer.
 -- Assumes nothing.
-use Prim.Native.Nat.{ℕ, _+_, _*_, _/_, _%_}
+use Prim.Native.Nat.{ℕ, _/_, _%_}
 use mathlib.Core.Bool.{cond}
 use mathlib.Core.List.{List, map}
 use mathlib.Core.Option.{none, some}
 use lib.Dec.{ltb}
 use lib.ListN.{length, take}
-use Rattle.grid.specs.Grid.{Grid, size}
+use Rattle.grid.specs.Grid.{size}
 use Rattle.record.specs.Record.{Outcome, ok, refused}
 use Rattle.record.specs.Problem.{gridOf, puzzleOf}
-use Rattle.board.specs.Board.{Literal}
+use Rattle.grid.specs.Cells.{Literal}
+use Rattle.board.specs.Board.{enough}
 use Rattle.board.specs.Form.{wellFormed}
 use Rattle.board.specs.declared.Board.{Board}
 use Rattle.literals.specs.Literals.{Found}
@@ -25,10 +26,6 @@ cellsOn b = take (size (gridOf (b .problem))) (b .cells)
 -- the first reason that applies on a board
 unfoldable pub reasonOn : Board → Found
 reasonOn b = findReason (puzzleOf (b .problem)) (cellsOn b)
-
--- a buffer is long enough from 3 × H × W + 1 literals on
-unfoldable pub enough : Grid → ℕ
-enough g = 3 * size g + 1
 
 -- find's refusal on a board with a buffer of k literals: 6, then 11; 0 for none
 unfoldable pub findRefusal : Board → ℕ → ℕ

@@ -14,7 +14,8 @@ use borrow.Author.Tests.{ltb-true, ltb-false, eqb-true}
 use Rattle.grid.specs.Lists.{Distinct}
 use Rattle.grid.proofs.ListLaws.{split, and-true, at-mem}
 use Rattle.grid.specs.Grid.{size}
-use Rattle.record.specs.Record.{Puzzle, ok, bit, number, filler, readRecord}
+use Rattle.fields.specs.Fields.{ok, bit, number, filler}
+use Rattle.record.specs.Record.{Puzzle, readRecord}
 use Rattle.record.specs.Write.{valueOf, pack, recordBits, writeRecord}
 use Rattle.record.specs.Valid.{Fresh, Valid}
 use Rattle.record.specs.Problem.{arrowCells}
@@ -22,7 +23,7 @@ use Rattle.record.proofs.RecordLaws.{record-valid}
 use Rattle.record.proofs.FreshLaws.{arrows-fresh, arrows-length}
 use Rattle.record.proofs.LineLaws.{ValidArrows, valid-arrows}
 use Rattle.record.proofs.WriteLaws.{pack-byte, length-pack, size-le, few-arrows, round-trip, written-bytes}
-use Rattle.record.proofs.FieldLaws.{window, window-number}
+use Rattle.fields.proofs.FieldLaws.{window, window-number}
 use Rattle.record.proofs.BitLaws.{bitsAt, length-bitsAt, record-bits}
 
 -- fresh members are distinct

@@ -12,17 +12,19 @@ use borrow.Author.Tests.{ltb-true}
 use Rattle.grid.specs.Lists.{any, member}
 use Rattle.grid.proofs.ListLaws.{and-true}
 use Rattle.grid.specs.Grid.{Grid}
-use Rattle.record.specs.Record.{Outcome, ok, refused, _>>=_, unless, field, stepFrom, stepCells, arrowAt, arrowsAt}
-use Rattle.record.specs.Inside.{Answered, done, fault, Stepped, to, off, stepAt, takeAt, Opening, openingAt, startOf, Kept, StepTaken, step, ArrowRead, arrow}
+use Rattle.fields.specs.Fields.{Outcome, ok, refused, _>>=_, unless, field, stepFrom}
+use Rattle.record.specs.Record.{stepCells, arrowAt, arrowsAt}
+use Rattle.fields.specs.Inside.{Stepped, to, off, stepAt, Opening, openingAt, startOf}
+use Rattle.record.specs.Inside.{Answered, done, fault, takeAt, Kept, StepTaken, step, ArrowRead, arrow}
 use Rattle.record.specs.declared.Answer.{Answer}
 use Rattle.record.specs.declared.Answer.the-variants.{Done, Refused}
-use Rattle.record.specs.declared.Place.{Place}
-use Rattle.record.specs.declared.Place.the-variants.{At, Lost}
-use Rattle.record.specs.declared.Start.{Start}
-use Rattle.record.specs.declared.Start.the-variants.{From, Bad}
-use Rattle.record.specs.declared.Field.the-variants.{Value, Fault}
-use Rattle.record.proofs.RecordLaws.{bind-ok, unless-ok, ok-eq, field-ok}
-use Rattle.record.proofs.ReadLaws.{bind-bind, bind-same, bind-value, bind-refused, behind}
+use Rattle.fields.specs.declared.Place.{Place}
+use Rattle.fields.specs.declared.Place.the-variants.{At, Lost}
+use Rattle.fields.specs.declared.Start.{Start}
+use Rattle.fields.specs.declared.Start.the-variants.{From, Bad}
+use Rattle.fields.specs.declared.Field.the-variants.{Value, Fault}
+use Rattle.fields.proofs.OutcomeLaws.{bind-ok, unless-ok, ok-eq, field-ok}
+use Rattle.fields.proofs.ReadLaws.{bind-bind, bind-same, bind-value, bind-refused, behind}
 use Rattle.record.proofs.KeptLaws.{member-append}
 
 -- steps that agree on every value
@@ -30,10 +32,6 @@ pub bind-ext : {A B : Type 0} (o : Outcome A) (f h : A → Outcome B) → ((x : 
 unfolding _>>=_
 bind-ext (refused k) f h e = refl
 bind-ext (ok a) f h e = e a
-
-bind-of-ok : {A B : Type 0} (a : A) (f : A → Outcome B) → (ok a >>= f) ≡ f a
-unfolding _>>=_
-bind-of-ok a f = refl
 
 -- the same members
 pub record Same (u v : List ℕ) : Type 0 where

@@ -9,16 +9,17 @@ use mathlib.Core.List.{List, [], _∷_, _++_, append-assoc, append-nil, List·Me
 use lib.ListN.{length, set, length-append}
 use Rattle.grid.specs.Lists.{any, member, flatMap, arrayOf}
 use Rattle.grid.specs.Grid.{Grid}
-use Rattle.record.specs.Record.{Outcome, ok, refused, _>>=_, unless, arrowAt, filler, arrowsAt}
+use Rattle.fields.specs.Fields.{Outcome, ok, refused, _>>=_, unless, filler}
+use Rattle.record.specs.Record.{arrowAt, arrowsAt}
 use Rattle.grid.proofs.ArrayLaws.{array-length, array-out, array-more}
 use Rattle.record.specs.Valid.{Fresh, Arrow}
 use Rattle.record.specs.Problem.{arrowCells, endsFrom}
 use Rattle.record.specs.Inside.{Answered, done, fault, mark, Kept, ArrowRead, arrow}
 use Rattle.record.specs.declared.Answer.the-variants.{Done, Refused}
-use Rattle.record.specs.declared.Field.{Field}
-use Rattle.record.specs.declared.Field.the-variants.{Value, Fault}
+use Rattle.fields.specs.declared.Field.{Field}
+use Rattle.fields.specs.declared.Field.the-variants.{Value, Fault}
 use Rattle.record.proofs.RecordLaws.{arrow-ok}
-use Rattle.record.proofs.ReadLaws.{bind-same, bind-value, bind-refused, behind}
+use Rattle.fields.proofs.ReadLaws.{bind-same, bind-value, bind-refused, behind}
 use Rattle.record.proofs.KeptLaws.{kept-length}
 use Rattle.record.proofs.ProblemLaws.{length-ends}
 use Rattle.record.proofs.ArrowLaws.{bind-ext, same-turn, arrows-same}

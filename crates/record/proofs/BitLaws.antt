@@ -14,10 +14,12 @@ use Rattle.grid.specs.Lists.{member, flatMap, Distinct}
 use Rattle.grid.proofs.ListLaws.{and-true, so-false, member-mem, mem-member}
 use Rattle.grid.specs.Grid.{Grid, size, row, col, up, down, left, right, neighbours}
 use Rattle.grid.proofs.GridLaws.{apart, beside, on-grid}
-use Rattle.record.specs.Record.{ok, refused, unless, Puzzle, bit, number, field, cellCodes, stepFrom, stepCells, arrowAt, arrowsAt, filler, readRecord}
+use Rattle.fields.specs.Fields.{ok, refused, unless, bit, number, field, stepFrom, filler}
+use Rattle.record.specs.Record.{Puzzle, cellCodes, stepCells, arrowAt, arrowsAt, readRecord}
 use Rattle.record.specs.Problem.{arrowCells}
 use Rattle.record.specs.Write.{bitsOf, direction, stepBits, arrowBits, recordBits}
-use Rattle.record.proofs.RecordLaws.{bind-ok, unless-ok, ok-eq, bit-lt, field-ok, there-ok, step-ok, corner}
+use Rattle.fields.proofs.OutcomeLaws.{bind-ok, unless-ok, ok-eq, bit-lt, field-ok, there-ok, step-ok}
+use Rattle.record.proofs.RecordLaws.{corner}
 use Rattle.record.proofs.WholeLaws.{arrows-count}
 
 module _ (s : List ℕ) where

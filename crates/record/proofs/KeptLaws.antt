@@ -13,7 +13,7 @@ use borrow.Author.Tests.{eqb-true, eqb-false}
 use Rattle.grid.specs.Lists.{any, member}
 use Rattle.grid.proofs.ListLaws.{split, mem-member}
 use Rattle.grid.proofs.ArrayLaws.{array-more}
-use Rattle.record.specs.Record.{unless}
+use Rattle.fields.specs.Fields.{unless}
 use Rattle.record.specs.Valid.{Fresh}
 use Rattle.record.specs.Inside.{Answered, done, fault, mark, Kept}
 use Rattle.record.specs.declared.Answer.the-variants.{Done, Refused}

@@ -3,9 +3,7 @@ pub mod FreshLaws
 pub mod LineLaws
 pub mod WriteLaws
 pub mod ProblemLaws
-pub mod FieldLaws
-pub mod StepLaws
-pub mod ReadLaws
+pub mod CellLaws
 pub mod KeptLaws
 pub mod ArrowLaws
 pub mod ArrowsLaws

@@ -7,7 +7,8 @@ use mathlib.Core.List.{List, [], _∷_, List·Memᴰ, List·Memᴰ·head, List·
 use lib.ListN.{length, replicate, length-append}
 use Rattle.grid.specs.Lists.{flatMap}
 use Rattle.grid.specs.Grid.{Grid, size}
-use Rattle.record.specs.Record.{Puzzle, ok, readRecord}
+use Rattle.fields.specs.Fields.{ok}
+use Rattle.record.specs.Record.{Puzzle, readRecord}
 use Rattle.record.specs.Write.{arrowBits, recordBits, writeRecord}
 use Rattle.record.specs.Valid.{end, Fresh, arrow, Arrows, Valid}
 use Rattle.record.proofs.WriteLaws.{length-pack, length-bitsOf, length-codes, length-arrowBits, round-trip}

@@ -2,7 +2,7 @@
 -- Assumes nothing.
 use Prim.Native.Nat.{ℕ, suc, _+_, _-_}
 use native.Mathlib.Omega.{arith}
-use mathlib.Core.Path.{_≡_, refl, sym, ap, _∙_}
+use mathlib.Core.Path.{_≡_, refl, ap, _∙_}
 use mathlib.Core.List.{List, [], _∷_, _++_, append-assoc}
 use lib.ListN.{length, take, drop, replicate, length-append}
 use lib.Seq.{take-append-seam, drop-at}
@@ -48,7 +48,3 @@ cells-kept n cs h = rw (← h) (array-take 0 cs)
 pub problem-puzzle : (p : Puzzle) → Valid p → puzzleOf (problemOf p) ≡ p
 unfolding puzzleOf problemOf gridOf
 problem-puzzle p v = rw (cells-kept (size (p .grid)) (p .given) (v .total), arrows-kept (p .arrows)) refl
-
--- two valid puzzles that give one problem are one
-pub problem-injective : (p q : Puzzle) → Valid p → Valid q → problemOf p ≡ problemOf q → p ≡ q
-problem-injective p q v w e = sym (problem-puzzle p v) ∙ ap puzzleOf e ∙ problem-puzzle q w

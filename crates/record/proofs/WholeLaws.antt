@@ -8,13 +8,14 @@ use mathlib.Core.List.{List, [], _++_}
 use lib.ListN.{length}
 use Rattle.grid.specs.Lists.{arrayOf}
 use Rattle.grid.specs.Grid.{Grid, size}
-use Rattle.record.specs.Record.{ok, refused, _>>=_, field, cellCodes, arrowAt, arrowsAt, readRecord}
+use Rattle.fields.specs.Fields.{ok, refused, _>>=_, field}
+use Rattle.record.specs.Record.{cellCodes, arrowAt, arrowsAt, readRecord}
 use Rattle.record.specs.Problem.{endsFrom, arrowCells, problemOf, reading, readOf}
-use Rattle.record.specs.Inside.{gridWith}
+use Rattle.fields.specs.Inside.{gridWith}
 use Rattle.record.specs.declared.Reading.{Reading}
 use Rattle.record.specs.declared.Answer.the-variants.{Done}
-use Rattle.record.proofs.RecordLaws.{bind-ok, ok-eq, field-ok}
-use Rattle.record.proofs.ReadLaws.{field-one}
+use Rattle.fields.proofs.OutcomeLaws.{bind-ok, ok-eq, field-ok}
+use Rattle.fields.proofs.ReadLaws.{field-one}
 
 -- as many arrows as were asked for
 pub arrows-count : (s : List ℕ) (g : Grid) (u : List ℕ) (at m : ℕ) {l : List (List ℕ)} → arrowsAt s g u at m ≡ ok l → length l ≡ m

@@ -15,7 +15,8 @@ use Rattle.grid.proofs.ListLaws.{so-false, member-mem, split, mem-any}
 use Rattle.grid.specs.Lists.{member, any, flatMap}
 use Rattle.grid.specs.Grid.{Grid, size, row, col, only, up, down, left, right, neighbours}
 use Rattle.grid.proofs.GridLaws.{width-pos, index}
-use Rattle.record.specs.Record.{_>>=_, Outcome, ok, unless, Puzzle, bit, number, field, cellCodes, there, stepFrom, stepCells, arrowAt, arrowsAt, filler, readRecord}
+use Rattle.fields.specs.Fields.{_>>=_, Outcome, ok, unless, bit, number, field, there, stepFrom, filler}
+use Rattle.record.specs.Record.{Puzzle, cellCodes, stepCells, arrowAt, arrowsAt, readRecord}
 use Rattle.record.specs.Valid.{Walk, on, Fresh, Arrow, arrow, Arrows, Valid}
 use Rattle.record.proofs.FreshLaws.{together, arrows-length, one-length}
 use Rattle.record.specs.Write.{bitsOf, valueOf, pack, direction, stepBits, arrowBits, recordBits, writeRecord}

@@ -5,7 +5,8 @@ use mathlib.Core.List.{List, [], _∷_}
 use lib.ListN.{length, take, drop}
 use Rattle.grid.specs.Lists.{flatMap, arrayOf}
 use Rattle.grid.specs.Grid.{Grid, size}
-use Rattle.record.specs.Record.{Outcome, ok, refused, Puzzle, readRecord}
+use Rattle.fields.specs.Fields.{Outcome, ok, refused}
+use Rattle.record.specs.Record.{Puzzle, readRecord}
 use Rattle.record.specs.declared.Problem.{Problem}
 use Rattle.record.specs.declared.Reading.{Reading}
 use Rattle.record.specs.declared.Answer.{Answer}

@@ -1,47 +1,20 @@
--- The record: bit fields, most significant bit first, and its refusals 1 to 5.
+-- The record: its fields in turn, and its refusals 1 to 5.
 -- Assumes nothing.
-use Prim.Native.Nat.{ℕ, zero, suc, _+_, _-_, _*_, _/_, _%_, _^_}
-use mathlib.Core.Bool.{Bool, true, false, cond, _&&_, not}
+use Prim.Native.Nat.{ℕ, zero, suc, _+_, _*_}
+use mathlib.Core.Bool.{_&&_, not}
 use mathlib.Core.List.{List, [], _∷_, _++_}
-use lib.Dec.{eqb, leb, ltb}
-use lib.ListN.{length, getD}
+use lib.Dec.{ltb}
+use lib.ListN.{length}
 use Rattle.grid.specs.Lists.{member}
-use Rattle.grid.specs.Grid.{Grid, size, up, down, left, right}
-
--- a value, or the number of a refusal
-pub data Outcome (A : Type 0) : Type 0 where
-  refused : ℕ → Outcome A
-  ok : A → Outcome A
-
-infixl 10 _>>=_
--- the next step, unless one was refused
-unfoldable pub _>>=_ : {A B : Type 0} → Outcome A → (A → Outcome B) → Outcome B
-_>>=_ (refused k) f = refused k
-_>>=_ (ok a) f = f a
-
--- refusal k where the test fails
-unfoldable pub unless : Bool → ℕ → Outcome ℕ
-unless true k = ok 0
-unless false k = refused k
+use Rattle.grid.specs.Grid.{Grid, size}
+pub use Rattle.fields.specs.Fields.{Outcome, refused, ok}
+unfoldable pub use Rattle.fields.specs.Fields.{_>>=_, unless, bit, number, field, there, stepFrom, filler}
 
 -- what a record says: the grid, a code for each cell, the arrows as lists of cells
 pub record Puzzle : Type 0 where
   pub grid : Grid
   pub given : List ℕ
   pub arrows : List (List ℕ)
-
--- bit k of the bytes
-unfoldable pub bit : List ℕ → ℕ → ℕ
-bit s k = getD s (k / 8) 0 / 2 ^ (7 - k % 8) % 2
-
--- the number in the k bits from at
-unfoldable pub number : List ℕ → ℕ → ℕ → ℕ
-number s at zero = 0
-number s at (suc k) = 2 * number s at k + bit s (at + k)
-
--- a field of k bits at at, or 1 where the record ends before its end
-unfoldable pub field : List ℕ → ℕ → ℕ → Outcome ℕ
-field s at k = cond (leb (at + k) (8 * length s)) (ok (number s at k)) (refused 1)
 
 -- n cells of two bits from at; code 3 is refused
 unfoldable pub cellCodes : List ℕ → ℕ → ℕ → Outcome (List ℕ)
@@ -51,18 +24,6 @@ cellCodes s at (suc n) =
     unless (ltb c 3) 2 >>= λ _.
     cellCodes s (at + 2) n >>= λ cs.
     ok (c ∷ cs)
-
--- the cell there, if there is one
-unfoldable pub there : List ℕ → Outcome ℕ
-there [] = refused 3
-there (j ∷ js) = ok j
-
--- the cell one step from i: 0 up, 1 down, 2 left, 3 right; 3 is refused off the grid
-unfoldable pub stepFrom : Grid → ℕ → ℕ → Outcome ℕ
-stepFrom g i zero = there (up g i)
-stepFrom g i (suc zero) = there (down g i)
-stepFrom g i (suc (suc zero)) = there (left g i)
-stepFrom g i (suc (suc (suc d))) = there (right g i)
 
 -- the cells after i on an arrow of k further steps, read from at; used cells are refused
 unfoldable pub stepCells : List ℕ → Grid → List ℕ → ℕ → ℕ → ℕ → Outcome (List ℕ)
@@ -84,10 +45,6 @@ arrowAt s g used at =
     unless (not (member (y * g .width + x) used)) 4 >>= λ _.
     stepCells s g ((y * g .width + x) ∷ used) (y * g .width + x) (at + 20) k >>= λ js.
     ok ((y * g .width + x) ∷ js)
-
--- only zero bits, and fewer than eight of them, from at
-unfoldable pub filler : List ℕ → ℕ → Bool
-filler s at = ltb (8 * length s - at) 8 && eqb (number s at (8 * length s - at)) 0
 
 -- m arrows from at, and the filler behind them
 unfoldable pub arrowsAt : List ℕ → Grid → List ℕ → ℕ → ℕ → Outcome (List (List ℕ))

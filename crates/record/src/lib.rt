@@ -1,13 +1,18 @@
-// The record of a puzzle: fields packed most significant bit first, read from a byte slice.
+// The record of a puzzle: its fields in turn, read from a byte slice.
 ghost use mathlib.Core.Path.{_≡_};
 ghost use mathlib.Core.Bool.{not};
 ghost use mathlib.Core.List.{List, [], _∷_, _++_};
 ghost use Prim.Native.Nat.{ℕ, _+_, _*_, _≤_, _<_};
-ghost use lib.ListN.{length, getD};
+ghost use lib.ListN.{length};
 ghost use Rattle.grid.specs.Lists.{member, arrayOf};
-ghost use Rattle.record.specs.Record.{refused, unless, number, field, cellCodes, stepFrom, stepCells, filler, arrowsAt};
+ghost use Rattle.fields.specs.Fields.{refused, unless};
+ghost use Rattle.record.specs.Record.{cellCodes, stepCells, arrowsAt};
 ghost use Rattle.record.specs.Problem.{arrowCells, endsFrom, reading, readOf};
-ghost use Rattle.record.specs.Inside.{fieldOf, Answered, cellCode, codeAt, gridWith, Stepped, stepAt, openingAt, startOf, Kept, StepTaken, ArrowRead};
+ghost use Rattle.record.specs.Inside.{Answered, Kept, StepTaken, ArrowRead};
+ghost use Rattle.fields.specs.Inside.{gridWith};
+use fields::Field;
+use fields::Place;
+use fields::Start;
 
 // What an accepted record says. `cells` has a code for each cell (0 plain, 1 black, 2 given square), `arrows` the cells of the
 // arrows, one arrow after another, `ends` for each of the `count` arrows the place in `arrows` where it ends. 0 stands behind each.
@@ -32,87 +37,6 @@ pub struct Reading {
     pub problem: Problem,
 }
 
-// A number that was read, or the number of the refusal.
-enum Field {
-    Value(usize),
-    Fault(u8),
-}
-
-// How an arrow begins: its first cell and the steps that follow; or the number of the refusal.
-enum Start {
-    From {
-        row: usize,
-        col: usize,
-        steps: usize,
-    },
-    Bad(u8),
-}
-
-// The cell that a step leads to, or the number of the refusal.
-enum Place {
-    At { row: usize, col: usize },
-    Lost(u8),
-}
-
-// Byte k, 0 behind the end.
-fn byte_at(s: &[u8], k: usize) -> u32
-    ensures { λ r. ⌜ (r ≡ getD (now (s .entry)) k 0) × (r < 256) ⌝ }
-{
-    if k < s.len() {
-        return s[k] as u32;
-    }
-    0
-}
-
-// The number in the n bits from at. They lie in three bytes, since n is small; bits behind the end are 0.
-fn number_at(s: &[u8], at: usize, n: usize) -> usize
-    requires { ⌜ n ≤ 16 ⌝ }
-    ensures { λ r. ⌜ r ≡ number (now (s .entry)) at n ⌝ }
-{
-    let q = at / 8;
-    let first = byte_at(s, q);
-    let second = byte_at(s, q + 1);
-    let third = byte_at(s, q + 2);
-    let window = first * 65536 + second * 256 + third;
-    ((window >> (24 - at % 8 - n)) % (1u32 << n)) as usize
-}
-
-// The field of n bits at at, or 1 where the record ends before its end.
-fn read_field(s: &[u8], at: usize, n: usize) -> Field
-    requires { ⌜ (at ≤ 65536) × (n ≤ 16) ⌝ }
-    ensures { λ r. ⌜ r ≡ fieldOf (field (now (s .entry)) at n) ⌝ }
-{
-    if s.len() < (at + n + 7) / 8 {
-        return Field::Fault(1);
-    }
-    Field::Value(number_at(s, at, n))
-}
-
-// The code of a cell: 0 plain, 1 black, 2 given square, 3 refused.
-fn cell_code(code: usize) -> Field
-    ensures { λ r. ⌜ r ≡ fieldOf (cellCode code) ⌝ }
-{
-    match code {
-        0 => Field::Value(0),
-        1 => Field::Value(1),
-        2 => Field::Value(2),
-        3 => Field::Fault(2),
-        _ => Field::Fault(2),
-    }
-}
-
-// The code of the cell at at.
-fn read_code(s: &[u8], at: usize) -> Field
-    requires { ⌜ at ≤ 65536 ⌝ }
-    ensures { λ r. ⌜ r ≡ fieldOf (codeAt (now (s .entry)) at) ⌝ }
-{
-    let f = read_field(s, at, 2);
-    match f {
-        Field::Value(code) => cell_code(code),
-        Field::Fault(k) => Field::Fault(k),
-    }
-}
-
 // The codes of all n cells, to the front of an array of zeros.
 fn read_cells(s: &[u8], n: usize, cells: &mut [u8; 1024]) -> Answer
     requires { ⌜ (n ≤ 1024) × (now cells ≡ arrayOf 0 []) ⌝ }
@@ -120,7 +44,7 @@ fn read_cells(s: &[u8], n: usize, cells: &mut [u8; 1024]) -> Answer
 {
     let mut i = 0;
     while i < n {
-        let f = read_code(s, 21 + 2 * i);
+        let f = fields::read_code(s, 21 + 2 * i);
         match f {
             Field::Value(code) => {
                 cells[i] = code as u8;
@@ -134,82 +58,11 @@ fn read_cells(s: &[u8], n: usize, cells: &mut [u8; 1024]) -> Answer
     Answer::Done
 }
 
-// The cell one step from a cell of the grid: 0 up, 1 down, 2 left, 3 right.
-fn step_from(height: usize, width: usize, row: usize, col: usize, direction: usize) -> Place
-    requires { ⌜ (row < height) × (col < width) × (height ≤ 32) × (direction < 4) ⌝ }
-    ensures { λ r. ⌜ Stepped (gridWith height width) (stepFrom (gridWith height width) (row * width + col) direction) r ⌝ }
-{
-    match direction {
-        0 => {
-            if 0 < row {
-                return Place::At { row: row - 1, col };
-            }
-            Place::Lost(3)
-        }
-        1 => {
-            if row + 1 < height {
-                return Place::At { row: row + 1, col };
-            }
-            Place::Lost(3)
-        }
-        2 => {
-            if 0 < col {
-                return Place::At { row, col: col - 1 };
-            }
-            Place::Lost(3)
-        }
-        3 => {
-            if col + 1 < width {
-                return Place::At { row, col: col + 1 };
-            }
-            Place::Lost(3)
-        }
-        _ => Place::Lost(3),
-    }
-}
-
-// The cell that the step at at leads to.
-fn read_step(s: &[u8], height: usize, width: usize, row: usize, col: usize, at: usize) -> Place
-    requires { ⌜ (row < height) × (col < width) × (height ≤ 32) × (at ≤ 65536) ⌝ }
-    ensures { λ r. ⌜ Stepped (gridWith height width) (stepAt (now (s .entry)) (gridWith height width) (row * width + col) at) r ⌝ }
-{
-    let f = read_field(s, at, 2);
-    match f {
-        Field::Value(direction) => step_from(height, width, row, col, direction),
-        Field::Fault(k) => Place::Lost(k),
-    }
-}
-
-// The start of the arrow at at: its three fields are read before the start is tested.
-fn read_start(s: &[u8], height: usize, width: usize, at: usize) -> Start
-    requires { ⌜ at ≤ 65000 ⌝ }
-    ensures { λ r. ⌜ r ≡ startOf (openingAt (now (s .entry)) (gridWith height width) at) ⌝ }
-{
-    let y = read_field(s, at, 5);
-    let Field::Value(row) = y else {
-        return Start::Bad(1);
-    };
-    let x = read_field(s, at + 5, 5);
-    let Field::Value(col) = x else {
-        return Start::Bad(1);
-    };
-    let k = read_field(s, at + 10, 10);
-    let Field::Value(steps) = k else {
-        return Start::Bad(1);
-    };
-    if height <= row {
-        return Start::Bad(3);
-    }
-    if width <= col {
-        return Start::Bad(3);
-    }
-    Start::From { row, col, steps }
-}
-
 // Puts a cell behind the count arrow cells of the line and marks it; 4 where it is marked already.
 fn enter(cell: usize, count: usize, line: &mut [u16; 1024], used: &mut [u8; 1024]) -> Answer
     requires { ⌜ (cell < 1024) × ((l : List ℕ) × (length l ≡ count) × Kept l (now line) (now used)) ⌝ }
-    ensures { λ r. ⌜ ((l : List ℕ) → length l ≡ count → Kept l (now (line .entry)) (now (used .entry)) → Answered (unless (not (member cell l)) 4) (λ _. Kept (l ++ (cell ∷ [])) (now (line .exit)) (now (used .exit))) r) ⌝ }
+    ensures { λ r. ⌜ ((l : List ℕ) → length l ≡ count → Kept l (now (line .entry)) (now (used .entry))
+        → Answered (unless (not (member cell l)) 4) (λ _. Kept (l ++ (cell ∷ [])) (now (line .exit)) (now (used .exit))) r) ⌝ }
 {
     if used[cell] != 0 {
         return Answer::Refused(4);
@@ -232,9 +85,10 @@ fn take_step(
     used: &mut [u8; 1024],
 ) -> Place
     requires { ⌜ (row < height) × (col < width) × (height ≤ 32) × (width ≤ 32) × (at ≤ 65536) × ((l : List ℕ) × (length l ≡ count) × Kept l (now line) (now used)) ⌝ }
-    ensures { λ r. ⌜ ((l : List ℕ) → length l ≡ count → Kept l (now (line .entry)) (now (used .entry)) → StepTaken (now (s .entry)) (gridWith height width) l (row * width + col) at (now (line .exit)) (now (used .exit)) r) ⌝ }
+    ensures { λ r. ⌜ ((l : List ℕ) → length l ≡ count → Kept l (now (line .entry)) (now (used .entry))
+        → StepTaken (now (s .entry)) (gridWith height width) l (row * width + col) at (now (line .exit)) (now (used .exit)) r) ⌝ }
 {
-    let p = read_step(s, height, width, row, col, at);
+    let p = fields::read_step(s, height, width, row, col, at);
     match p {
         Place::At { row: y, col: x } => {
             let a = enter(y * width + x, count, line, used);
@@ -260,8 +114,10 @@ fn read_steps(
     line: &mut [u16; 1024],
     used: &mut [u8; 1024],
 ) -> Answer
-    requires { ⌜ (row < height) × (col < width) × (height ≤ 32) × (width ≤ 32) × (at ≤ 60000) × (steps ≤ 1024) × ((l : List ℕ) × (length l ≡ count) × Kept l (now line) (now used)) ⌝ }
-    ensures { λ r. ⌜ ((l : List ℕ) → length l ≡ count → Kept l (now (line .entry)) (now (used .entry)) → Answered (stepCells (now (s .entry)) (gridWith height width) l (row * width + col) at steps) (λ js. Kept (l ++ js) (now (line .exit)) (now (used .exit))) r) ⌝ }
+    requires { ⌜ (row < height) × (col < width) × (height ≤ 32) × (width ≤ 32) × (at ≤ 60000) × (steps ≤ 1024)
+        × ((l : List ℕ) × (length l ≡ count) × Kept l (now line) (now used)) ⌝ }
+    ensures { λ r. ⌜ ((l : List ℕ) → length l ≡ count → Kept l (now (line .entry)) (now (used .entry))
+        → Answered (stepCells (now (s .entry)) (gridWith height width) l (row * width + col) at steps) (λ js. Kept (l ++ js) (now (line .exit)) (now (used .exit))) r) ⌝ }
 {
     let mut y = row;
     let mut x = col;
@@ -296,9 +152,10 @@ fn read_arrow(
     used: &mut [u8; 1024],
 ) -> Field
     requires { ⌜ (height ≤ 32) × (width ≤ 32) × (at ≤ 50000) × ((l : List ℕ) × (length l ≡ count) × Kept l (now line) (now used)) ⌝ }
-    ensures { λ r. ⌜ ((l : List ℕ) → length l ≡ count → Kept l (now (line .entry)) (now (used .entry)) → ArrowRead (now (s .entry)) (gridWith height width) l at (now (line .exit)) (now (used .exit)) r) ⌝ }
+    ensures { λ r. ⌜ ((l : List ℕ) → length l ≡ count → Kept l (now (line .entry)) (now (used .entry))
+        → ArrowRead (now (s .entry)) (gridWith height width) l at (now (line .exit)) (now (used .exit)) r) ⌝ }
 {
-    let start = read_start(s, height, width, at);
+    let start = fields::read_start(s, height, width, at);
     match start {
         Start::From { row, col, steps } => {
             let a = enter(row * width + col, count, line, used);
@@ -326,21 +183,6 @@ fn read_arrow(
         }
         Start::Bad(k) => Field::Fault(k),
     }
-}
-
-// Only zero bits, and fewer than eight of them, from at.
-fn is_filler(s: &[u8], at: usize) -> bool
-    requires { ⌜ at ≤ 65536 ⌝ }
-    ensures { λ r. ⌜ r ≡ filler (now (s .entry)) at ⌝ }
-{
-    if (at + 7) / 8 < s.len() {
-        return false;
-    }
-    let end = 8 * s.len();
-    if end <= at {
-        return true;
-    }
-    number_at(s, at, end - at) == 0
 }
 
 // Reads the arrows, from at on, and the filler behind them; the arrays come empty.
@@ -372,7 +214,7 @@ fn read_arrows(
         }
         i += 1;
     }
-    if is_filler(s, at + 18 * i + 2 * count) {
+    if fields::is_filler(s, at + 18 * i + 2 * count) {
         return Answer::Done;
     }
     Answer::Refused(5)
@@ -413,15 +255,15 @@ fn refusal(k: u8) -> Reading
 pub fn read(s: &[u8]) -> Reading
     ensures { λ r. ⌜ r ≡ readOf (now (s .entry)) ⌝ }
 {
-    let h = read_field(s, 0, 5);
+    let h = fields::read_field(s, 0, 5);
     let Field::Value(rows) = h else {
         return refusal(1);
     };
-    let w = read_field(s, 5, 5);
+    let w = fields::read_field(s, 5, 5);
     let Field::Value(columns) = w else {
         return refusal(1);
     };
-    let m = read_field(s, 10, 11);
+    let m = fields::read_field(s, 10, 11);
     let Field::Value(count) = m else {
         return refusal(1);
     };

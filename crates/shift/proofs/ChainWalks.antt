@@ -12,10 +12,10 @@ use lib.Seq.{getD-take}
 use Rattle.grid.specs.Lists.{filter, any, upto}
 use borrow.Author.Tests.{eq-eqb, ne-eqb}
 use Rattle.grid.proofs.ListLaws.{so-false, filter-length, length-range, mem-filter, mem-upto, any-mem, mem-any, mem-at, at-mem}
+use Rattle.grid.proofs.AppendLaws.{filter-more}
 use Rattle.reach.specs.Chains.{ownedBy, cellsFrom, firstOf, firstFrom, Chains}
 use Rattle.reach.proofs.ChainLaws.{cellsUpTo, first-low, first-in, first-owned, from-none, passed-none, passed-first, passed-all, owned-both, chain-head, chain-next}
 use Rattle.shift.specs.Shift.{blockIn}
-use Rattle.literals.proofs.Pass.{filter-more}
 
 -- i is the next cell of the chain of f, 1024 or more at its end, and `passed` are the cells before it
 pub record Walk (owners : List ℕ) (n f : ℕ) (passed : List ℕ) (i : ℕ) : Type 0 where

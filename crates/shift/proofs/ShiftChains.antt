@@ -9,13 +9,13 @@ use lib.ListN.{getD, take}
 use Rattle.grid.specs.Lists.{any}
 use Rattle.grid.specs.Grid.{size, row, col}
 use Rattle.grid.specs.Side.{sized}
+use Rattle.grid.proofs.AppendLaws.{any-agree}
 use Rattle.groups.specs.Rules.{fits}
 use Rattle.kinds.specs.Kinds.{View, view, viewWith, block, reach}
 use Rattle.reach.specs.Chains.{cellsFrom}
 use Rattle.kinds.specs.Inside.{Limits, puzzleWith, Held}
 use Rattle.reach.specs.Inside.{reachesAt}
 use Rattle.reach.specs.Near.{NearFloats}
-use Rattle.kinds.proofs.Views.{any-same}
 use Rattle.reach.proofs.NearReach.{reached-is, reach-any}
 use Rattle.shift.specs.Shift.{blockIn, Gathered, BlockPlaces, fitsAt, shiftFits}
 use Rattle.shift.proofs.ChainWalks.{none-taken, some-taken}
@@ -38,7 +38,7 @@ module _ (h w : ℕ) (limits : Limits h w) (lines : List (List ℕ)) (cells : Li
 
   chains-are : (any test (cellsFrom owners (h * w) e 0) || any (λ m. any test (cellsFrom owners (h * w) m 0)) (take total groups)) ≡ shiftFits v f e
   unfolding shiftFits
-  chains-are = sym (reach-any h w limits lines cells kinds owners held e near groups total floats arrow test) ∙ any-same test (fits (v .grid) (block v f) (reach v e) f) (reach v e) (λ t _. test-is t)
+  chains-are = sym (reach-any h w limits lines cells kinds owners held e near groups total floats arrow test) ∙ any-agree test (fits (v .grid) (block v f) (reach v e) f) (reach v e) (λ t _. test-is t)
 
   -- some shift to a cell of the block's chain fits
   pub fits-own : any test (cellsFrom owners (h * w) e 0) ≡ true → shiftFits v f e ≡ true

@@ -5,7 +5,7 @@ use native.Mathlib.Omega.{arith}
 use native.Mathlib.Nat.{mod-lt, div-lt-iff-lt-mul}
 use native.Mathlib.Numerals.{add-one}
 use mathlib.Core.Path.{_≡_, refl, sym, _∙_}
-use mathlib.Core.Bool.{Bool, true, false, cond, So, _&&_, false≢true}
+use mathlib.Core.Bool.{Bool, true, false, cond, _&&_, false≢true}
 use mathlib.Core.List.{List, [], _∷_, _++_, map, map-append, append-nil, append-assoc, List·Memᴰ}
 use lib.Arith.{digits-lt}
 use lib.Dec.{eqb}
@@ -23,6 +23,7 @@ use Rattle.grid.proofs.ListLaws.{so-false, all-mem, mem-all, mem-at, at-mem, up
 use Rattle.grid.proofs.GridLaws.{width-pos, in-cells}
 use Rattle.grid.proofs.SideLaws.{area, moved-to}
 use Rattle.grid.proofs.ShiftLaws.{landing, landing-at, landing-any, sideIn}
+use Rattle.grid.proofs.AppendLaws.{same-test}
 use Rattle.groups.specs.Rules.{fits}
 use Rattle.kinds.specs.Kinds.{View, inReach, reach}
 use Rattle.shift.specs.Shift.{blockIn, Gathered, BlockPlaces, Places, landsIn, allLand, fitsAt}
@@ -119,11 +120,6 @@ all-upto p n h = mem-all p (upto n) (λ k m. h k (upto-mem n m))
 
 pub not-all : (p : ℕ → Bool) (n k : ℕ) → k < n → p k ≡ false → all p (upto n) ≡ false
 not-all p n k h e = so-false _ (λ a. false≢true (sym e ∙ all-mem p (upto n) a k (mem-upto n h)))
-
--- two tests that pass together are the same
-same-test : (a b : Bool) → (So a → So b) → (So b → So a) → a ≡ b
-same-test true b f h = sym (f refl)
-same-test false b f h = sym (so-false b (λ k. false≢true (h k)))
 
 -- a test on the members of a list, by their places
 all-at : (p q : ℕ → Bool) (l : List ℕ) → ((k : ℕ) → k < length l → p k ≡ q (getD l k 0)) → all p (upto (length l)) ≡ all q l

@@ -50,7 +50,8 @@ pub fn gather_block(
 ) -> usize
     requires { ⌜ Chained (now head) (now next) × (f < 1024)
         × (0 < w) × (length (now rows) ≡ 1024) × (length (now columns) ≡ 1024) ⌝ }
-    ensures { λ r. ⌜ ((owners : List ℕ) (n : ℕ) → Chains owners (now (head .entry)) (now (next .entry)) n → Gathered w (blockIn (now (kinds .entry)) owners n f) (now (rows .entry)) (now (columns .entry)) (now (rows .exit)) (now (columns .exit)) r) ⌝ }
+    ensures { λ r. ⌜ ((owners : List ℕ) (n : ℕ) → Chains owners (now (head .entry)) (now (next .entry)) n
+        → Gathered w (blockIn (now (kinds .entry)) owners n f) (now (rows .entry)) (now (columns .entry)) (now (rows .exit)) (now (columns .exit)) r) ⌝ }
 {
     let mut count = 0;
     let mut i = head[f as usize] as usize;
@@ -79,7 +80,7 @@ fn lands_in(
 {
     let side = grid::shifted(h, w, y, x, dy, dx);
     match side {
-        Side::At(d) => reach::near::reached(kinds, owners, near, e, d),
+        Side::At(d) => near::reached(kinds, owners, near, e, d),
         Side::Off => false,
     }
 }
@@ -200,7 +201,11 @@ fn fits(
 ) -> bool
     requires { ⌜ Places h w (now rows) (now columns) count × (f < h * w)
         × Chains (now owners) (now head) (now next) (h * w) × (e < 1024) × Names (now groups) total ⌝ }
-    ensures { λ r. ⌜ ((lines : List (List ℕ)) (cells : List ℕ) → Held (view (puzzleWith (sized h w) lines) cells) (now (kinds .entry)) (now (owners .entry)) → NearFloats (view (puzzleWith (sized h w) lines) cells) e (now (near .entry)) (now (groups .entry)) total → getD (now (kinds .entry)) e 0 ≡ 1 → BlockPlaces w (block (view (puzzleWith (sized h w) lines) cells) f) (now (rows .entry)) (now (columns .entry)) count → r ≡ shiftFits (view (puzzleWith (sized h w) lines) cells) f e) ⌝ }
+    ensures { λ r. ⌜ ((lines : List (List ℕ)) (cells : List ℕ)
+        → Held (view (puzzleWith (sized h w) lines) cells) (now (kinds .entry)) (now (owners .entry))
+        → NearFloats (view (puzzleWith (sized h w) lines) cells) e (now (near .entry)) (now (groups .entry)) total → getD (now (kinds .entry)) e 0 ≡ 1
+        → BlockPlaces w (block (view (puzzleWith (sized h w) lines) cells) f) (now (rows .entry)) (now (columns .entry)) count
+        → r ≡ shiftFits (view (puzzleWith (sized h w) lines) cells) f e) ⌝ }
 {
     let fy = f / w;
     let fx = f % w;
@@ -264,10 +269,12 @@ pub fn shift_fits(
 ) -> bool
     requires { ⌜ Limits h w × Chains (now owners) (now head) (now next) (h * w)
         × (f < h * w) × (e < 1024) × Work (now groups) (now rows) (now columns) ⌝ }
-    ensures { λ r. ⌜ ((lines : List (List ℕ)) (cells : List ℕ) → Held (view (puzzleWith (sized h w) lines) cells) (now (kinds .entry)) (now (owners .entry)) → getD (now (kinds .entry)) e 0 ≡ 1 → r ≡ shiftFits (view (puzzleWith (sized h w) lines) cells) f e) ⌝ }
+    ensures { λ r. ⌜ ((lines : List (List ℕ)) (cells : List ℕ)
+        → Held (view (puzzleWith (sized h w) lines) cells) (now (kinds .entry)) (now (owners .entry)) → getD (now (kinds .entry)) e 0 ≡ 1
+        → r ≡ shiftFits (view (puzzleWith (sized h w) lines) cells) f e) ⌝ }
     ensures { λ r. ⌜ Work (now (groups .exit)) (now (rows .exit)) (now (columns .exit)) ⌝ }
 {
-    let total = reach::near::near_floats(kinds, owners, head, next, h, w, e, near, groups);
+    let total = near::near_floats(kinds, owners, head, next, h, w, e, near, groups);
     let count = gather_block(kinds, head, next, w, f, rows, columns);
     fits(
         h,

@@ -5,7 +5,7 @@ use native.Mathlib.Nat.{div-add-mod'}
 use native.Mathlib.Omega.{arith}
 use mathlib.Core.Logic.{_⊎_, inl, inr}
 use mathlib.Core.Path.{_≡_, refl, sym, ap, _∙_}
-use mathlib.Core.Bool.{Bool, true, false, cond, _&&_, _||_}
+use mathlib.Core.Bool.{Bool, true, false, cond, _&&_, _||_, or-false}
 use mathlib.Core.List.{List, [], _∷_, _++_, append-nil, List·Memᴰ, List·Memᴰ·head, List·Memᴰ·tail}
 use lib.Dec.{eqb}
 use lib.ListN.{length, getD, set, take}
@@ -17,16 +17,14 @@ use Rattle.grid.specs.Side.{sized, towards, besideOf}
 use Rattle.grid.specs.declared.Side.the-variants.{At, Off}
 use Rattle.grid.proofs.SideLaws.{beside-at, beside-off}
 use Rattle.grid.proofs.GridLaws.{beside, on-grid}
-use Rattle.board.specs.Board.{empty, filled, square}
+use Rattle.grid.proofs.AppendLaws.{any-append, last-more, any-agree, filter-upto, upto-more, filter-more}
+use Rattle.grid.specs.Cells.{empty, potential, square}
 use Rattle.groups.specs.Groups.{labels, group, labelArray}
 use Rattle.kinds.specs.Kinds.{word}
-use Rattle.kinds.proofs.Filled.{any-append}
 use Rattle.literals.specs.Literals.{each}
 use Rattle.literals.specs.Buffer.{Wrote}
 use Rattle.units.specs.Arrays.{boundaryOf}
 use Rattle.literals.proofs.BufferLaws.{wrote-more}
-use Rattle.literals.proofs.Pass.{upto-more, filter-more}
-use Rattle.kinds.proofs.BlockArrays.{filter-upto}
 use Rattle.units.proofs.Ranks.{label-test, label-group}
 
 -- ---- some neighbour passes: direction by direction
@@ -36,10 +34,6 @@ module _ (t : ℕ → Bool) (g : Grid) (i : ℕ) where
   pub any-at : (k j : ℕ) → At j ≡ besideOf g i k → t j ≡ any t (towards g i k)
   unfolding any
   any-at k j e = rw (beside-at g i k j e) (sym (or-false (t j)))
-    where
-      or-false : (b : Bool) → (b || false) ≡ b
-      or-false true = refl
-      or-false false = refl
 
   pub any-off : (k : ℕ) → Off ≡ besideOf g i k → false ≡ any t (towards g i k)
   unfolding any
@@ -53,22 +47,13 @@ module _ (t : ℕ → Bool) (g : Grid) (i : ℕ) where
       ∙ ap (λ (b : Bool). any t (up g i) || b)
       (any-append t (down g i) (left g i ++ right g i)
       ∙ ap (λ (b : Bool). any t (down g i) || b)
-      (any-append t (left g i) (right g i) ∙ ap (λ (b : Bool). any t (left g i) || b) (or-false (any t (right g i)))))
-    where
-      or-false : (b : Bool) → b ≡ (b || false)
-      or-false true = refl
-      or-false false = refl
+      (any-append t (left g i) (right g i) ∙ ap (λ (b : Bool). any t (left g i) || b) (sym (or-false (any t (right g i))))))
 
 -- by the row and the column of the cell
 pub any-placed : (t : ℕ → Bool) (h w i : ℕ) → any t (neighbours (sized h w) i) ≡ any (λ k. any t (towards (sized h w) (i / w * w + i % w) k)) (upto 4)
 any-placed t h w i = any-around t (sized h w) i ∙ ap (λ (m : ℕ). any (λ k. any t (towards (sized h w) m k)) (upto 4)) (sym (div-add-mod' i w))
 
 -- ---- the last cell that passes: a loop from behind
-
-last-more : (d : ℕ) (l : List ℕ) (x : ℕ) → last d (l ++ (x ∷ [])) ≡ x
-unfolding last
-last-more d [] x = refl
-last-more d (y ∷ ys) x = last-more y ys x
 
 module _ (t : ℕ → Bool) (i : ℕ) where
   pub last-hit : t i ≡ true → last 0 (filter t (upto (i + 1))) ≡ i
@@ -97,11 +82,6 @@ filter-filter p q (x ∷ xs) = go (q x) (filter-filter p q xs)
     go true h = ap (λ (l : List ℕ). cond (p x) (x ∷ l) l) h
     go false h = h
 
-any-agree : (s t : ℕ → Bool) (l : List ℕ) → ((x : ℕ) → List·Memᴰ x l → s x ≡ t x) → any s l ≡ any t l
-unfolding any
-any-agree s t [] h = refl
-any-agree s t (x ∷ xs) h = rw (h x (List·Memᴰ·head refl), any-agree s t xs (λ y m. h y (List·Memᴰ·tail m))) refl
-
 -- a cell is in a filtered list exactly if it passes
 member-filter : (p : ℕ → Bool) (n i : ℕ) → i < n → member i (filter p (upto n)) ≡ p i
 member-filter p n i h = go (split (p i))
@@ -116,19 +96,19 @@ unfolding touches group cellsOf
 touches-by g p f i h k = any-agree _ (λ j. member j (group g p (labels g p) f)) (neighbours g i)
     (λ j m. let l = on-grid g h (beside g i m) in label-test g p j f l k ∙ sym (member-filter (λ i. p i && eqb (getD (labels g p) i 0) f) (size g) j l))
 
-module _ (g : Grid) (cells groups : List ℕ) (f : ℕ) (a : groups ≡ labelArray g (filled (take (size g) cells))) (h : f < 1024) where
+module _ (g : Grid) (cells groups : List ℕ) (f : ℕ) (a : groups ≡ labelArray g (potential (take (size g) cells))) (h : f < 1024) where
   -- the empty cells that touch the group
   pub empties-are : filter (λ i. eqb (getD cells i 0) 0 && any (λ j. eqb (getD groups j 0) f) (neighbours g i)) (upto (size g))
-      ≡ filter (λ i. empty (take (size g) cells) i && touches g (group g (filled (take (size g) cells)) (labels g (filled (take (size g) cells))) f) i) (cellsOf g)
+      ≡ filter (λ i. empty (take (size g) cells) i && touches g (group g (potential (take (size g) cells)) (labels g (potential (take (size g) cells))) f) i) (cellsOf g)
   unfolding cellsOf empty
-  empties-are = filter-upto _ _ (size g) (λ i l. rw (a, touches-by g (filled (take (size g) cells)) f i l h, getD-take (size g) cells i 0 l) refl)
+  empties-are = filter-upto _ _ (size g) (λ i l. rw (a, touches-by g (potential (take (size g) cells)) f i l h, getD-take (size g) cells i 0 l) refl)
 
   -- its squares
   squares-are : filter (λ i. eqb (getD groups i 0) f && eqb (getD cells i 0) 1) (upto (size g))
-      ≡ filter (square (take (size g) cells)) (group g (filled (take (size g) cells)) (labels g (filled (take (size g) cells))) f)
+      ≡ filter (square (take (size g) cells)) (group g (potential (take (size g) cells)) (labels g (potential (take (size g) cells))) f)
   unfolding square
   squares-are =
-      let p = filled (take (size g) cells) in
+      let p = potential (take (size g) cells) in
       sym (ap (filter (square (take (size g) cells))) (sym (label-group g p f h)) ∙ filter-filter (square (take (size g) cells)) (λ i. eqb (getD (labelArray g p) i 0) f) (upto (size g))
       ∙ filter-upto _ _ (size g) (λ i l. rw (a, getD-take (size g) cells i 0 l) refl))
 
@@ -138,4 +118,4 @@ module _ (g : Grid) (cells groups : List ℕ) (f : ℕ) (a : groups ≡ labelArr
       → Wrote (boundaryOf g (take (size g) cells) f) before (set after count (word (x, 1))) (count + 1)
   unfolding each
   boundary-are {before} {after} {count} {x} w l e =
-      rw (e, squares-are) (wrote-more (rw empties-are at w) (last 0 (filter (square (take (size g) cells)) (group g (filled (take (size g) cells)) (labels g (filled (take (size g) cells))) f)), 1) l)
+      rw (e, squares-are) (wrote-more (rw empties-are at w) (last 0 (filter (square (take (size g) cells)) (group g (potential (take (size g) cells)) (labels g (potential (take (size g) cells))) f)), 1) l)

@@ -15,7 +15,7 @@ use borrow.Author.Tests.{eq-eqb, ne-eqb, eqb-true, eqb-false}
 use Rattle.grid.specs.Lists.{any}
 use Rattle.grid.specs.Grid.{Grid, size}
 use Rattle.grid.proofs.ListLaws.{split}
-use Rattle.board.specs.Board.{square}
+use Rattle.grid.specs.Cells.{square}
 use Rattle.units.specs.Units.{Entry, breadthFirst, parent, path}
 use Rattle.units.specs.Search.{seen, appended, parentMark, Listing, Room}
 use Rattle.units.specs.BreadthFirst.{Listed}

@@ -1,9 +1,7 @@
 pub mod Walk
 pub mod Listings
 pub mod Breadth
-pub mod Ways
 pub mod Ranks
 pub mod Boundary
-pub mod Crossings
 pub mod Checks
 pub mod Quick

@@ -14,8 +14,8 @@ use borrow.Author.Tests.{eqb-true, eqb-false, eq-eqb, ne-eqb}
 use Rattle.grid.specs.Lists.{any, filter, Distinct}
 use Rattle.grid.specs.Grid.{Grid, size, neighbours}
 use Rattle.grid.proofs.ListLaws.{split, so-false, at-mem}
-use Rattle.board.specs.Board.{square}
-use Rattle.literals.proofs.Pass.{filter-more}
+use Rattle.grid.proofs.AppendLaws.{filter-more}
+use Rattle.grid.specs.Cells.{square}
 use Rattle.units.specs.Units.{Entry}
 use Rattle.units.specs.Search.{seen, appended, parentMark, unlisted, Listing, wanted, Offered, Room}
 

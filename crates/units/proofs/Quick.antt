@@ -1,28 +1,29 @@
 -- Where reasons 1 and 2 don't apply, as the marks of the arrow cells' groups tell.
 -- Assumes nothing.
-use Prim.Native.Nat.{ℕ, _*_, _≤_, _<_}
+use Prim.Native.Nat.{ℕ, _*_, _%_, _≤_, _<_}
+use native.Mathlib.Decide.{decLt}
 use native.Mathlib.Omega.{arith}
 use mathlib.Core.Path.{_≡_, refl, sym, ap, _∙_, subst}
-use mathlib.Core.Bool.{Bool, true, false, So, _&&_, not, false≢true}
+use mathlib.Core.Bool.{Bool, true, false, So, _&&_, _||_, not, false≢true}
 use mathlib.Core.List.{List, [], _∷_, List·Memᴰ, List·Memᴰ·head, List·Memᴰ·tail}
 use mathlib.Core.Option.{none}
-use lib.Dec.{eqb}
+use lib.Dec.{eqb, leb}
 use lib.ListN.{length, getD, take, List·getD-eq-default}
 use lib.Seq.{getD-take}
-use borrow.Author.Tests.{eqb-true, eq-eqb, ne-eqb}
+use borrow.Author.Tests.{eqb-true, eq-eqb, le-leb, lt-leb}
 use Rattle.grid.specs.Lists.{range, upto, any, filter, Distinct}
 use Rattle.grid.specs.Grid.{Grid, size, cellsOf}
 use Rattle.grid.specs.Side.{sized}
 use Rattle.grid.proofs.SideLaws.{area}
 use Rattle.grid.proofs.ListLaws.{so-false, and-true, true-and, not-so, any-mem, mem-any, filter-mem, upto-mem, mem-upto, distinct-filter, distinct-upto}
 use Rattle.record.specs.Record.{Puzzle}
-use Rattle.board.specs.Board.{Literal, filled, square}
+use Rattle.grid.specs.Cells.{Literal, potential, square}
 use Rattle.groups.specs.Groups.{labels, group, names}
 use Rattle.groups.specs.Arrows.{onArrow}
 use Rattle.groups.proofs.GroupLaws.{group-mem, mem-group}
 use Rattle.kinds.specs.Inside.{puzzleWith, Given, Marks, nameAt, nameAmong, nameTwice}
 use Rattle.kinds.proofs.ArrowMarks.{mark-on, listed-on, on-listed, arrow-mask, met-twice}
-use Rattle.literals.specs.Literals.{Found, orElse, given, firstOf}
+use Rattle.literals.specs.Literals.{Found, orElse, reasonIf, firstOf}
 use Rattle.units.specs.Units.{reason1, reason1At, reason2, reason2At}
 use Rattle.units.specs.Arrays.{PotentialArrays, BlockArrays, Listed, strandedAt}
 use Rattle.literals.specs.Buffer.{FoundAs}
@@ -34,23 +35,17 @@ use Rattle.units.proofs.Checks.{sized-size}
 
 -- ---- a square of a group that is not marked
 
-module _ (cells groups marks : List ℕ) (i : ℕ) where
-  -- no square
-  pub stranded-none : (getD cells i 0 ≡ 1 → ⊥) → false ≡ strandedAt cells groups marks i
-  unfolding strandedAt
-  stranded-none h = rw (ne-eqb (getD cells i 0) 1 h) refl
-
-  module _ (s : getD cells i 0 ≡ 1) where
-    -- in no group
-    pub stranded-alone : length marks ≡ 1024 → 1024 ≤ getD groups i 0 → true ≡ strandedAt cells groups marks i
-    unfolding strandedAt
-    stranded-alone l h =
+-- a square of a group that is not marked, as it is found without a branch: a name that is none goes by the place of its remainder
+pub stranded-either : (cells groups marks : List ℕ) (i : ℕ) → length marks ≡ 1024
+    → (eqb (getD cells i 0) 1 && (leb 1024 (getD groups i 0) || not (eqb (getD marks (getD groups i 0 % 1024) 0) 1))) ≡ strandedAt cells groups marks i
+unfolding strandedAt
+stranded-either cells groups marks i l = go (decLt (getD groups i 0) 1024)
+  where
+    go : Dec (getD groups i 0 < 1024) → (eqb (getD cells i 0) 1 && (leb 1024 (getD groups i 0) || not (eqb (getD marks (getD groups i 0 % 1024) 0) 1))) ≡ (eqb (getD cells i 0) 1 && not (eqb (getD marks (getD groups i 0) 0) 1))
+    go (yes h) = let e : getD groups i 0 % 1024 ≡ getD groups i 0 = omega arith in rw (lt-leb 1024 (getD groups i 0) h, e) refl
+    go (no h) =
         let z : getD marks (getD groups i 0) 0 ≡ 0 = List·getD-eq-default marks 0 {n = getD groups i 0} (omega arith) in
-        rw (eq-eqb (getD cells i 0) 1 s, z) refl
-
-    pub stranded-by : not (eqb (getD marks (getD groups i 0) 0) 1) ≡ strandedAt cells groups marks i
-    unfolding strandedAt
-    stranded-by = rw (eq-eqb (getD cells i 0) 1 s) refl
+        rw (le-leb 1024 (getD groups i 0) (omega arith), z) refl
 
 -- no cell is passed yet
 pub any-start : (t : ℕ → Bool) → any t (upto 0) ≡ false
@@ -68,16 +63,16 @@ name-low : (g : Grid) (p : ℕ → Bool) (f : ℕ) → List·Memᴰ f (names g p
 unfolding names cellsOf
 name-low g p f m = upto-mem (size g) (filter-mem (λ i. p i && eqb (getD (labels g p) i 0) i) (upto (size g)) m .0)
 
-given-not : (b : Bool) (r : List Literal) → b ≡ false → given b r ≡ none
-unfolding given
-given-not b r e = rw e refl
+reason-if-not : (b : Bool) (r : List Literal) → b ≡ false → reasonIf b r ≡ none
+unfolding reasonIf
+reason-if-not b r e = rw e refl
 
 -- each square is in a group with an arrow cell: reason 1 does not apply
 pub none-stranded : (p : Puzzle) (cells groups onarrow marks arrows : List ℕ) (n total : ℕ) → n ≤ 1024 → n ≡ size (p .grid) → PotentialArrays p (take n cells) groups onarrow
     → Listed arrows total onarrow → Marks marks (nameAmong groups arrows total) → any (strandedAt cells groups marks) (upto n) ≡ false → reason1 p (take n cells) ≡ none
 unfolding reason1 reason1At strandedAt square nameAmong
 none-stranded p cells groups onarrow marks arrows n total small e P L M none-is =
-    all-none _ (names g t (labels g t)) (λ f m. given-not _ _ (so-false _ (at f (name-low g t f m))))
+    all-none _ (names g t (labels g t)) (λ f m. reason-if-not _ _ (so-false _ (at f (name-low g t f m))))
   where
     g : Grid
     g = p .grid
@@ -86,7 +81,7 @@ none-stranded p cells groups onarrow marks arrows n total small e P L M none-is 
     now = take n cells
 
     t : ℕ → Bool
-    t = filled now
+    t = potential now
 
     c : ℕ → List ℕ
     c f = group g t (labels g t) f

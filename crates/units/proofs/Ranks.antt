@@ -14,16 +14,16 @@ use borrow.Author.Tests.{eqb-true, eqb-false, ne-eqb}
 use Rattle.grid.specs.Lists.{range, upto, any, filter}
 use Rattle.grid.specs.Grid.{Grid, size, cellsOf}
 use Rattle.grid.proofs.ListLaws.{split, upto-mem, filter-mem}
+use Rattle.grid.proofs.AppendLaws.{filter-upto, upto-more, filter-more}
 use Rattle.record.specs.Record.{Puzzle}
-use Rattle.board.specs.Board.{Literal, filled, square}
+use Rattle.grid.specs.Cells.{Literal, potential, square}
 use Rattle.groups.specs.Groups.{labels, labelAt, labelArray, maskOf, noGroup, group, names}
 use Rattle.groups.specs.Arrows.{onArrow}
-use Rattle.literals.specs.Literals.{Found, orElse, given, firstOf}
+use Rattle.literals.specs.Literals.{Found, orElse, reasonIf, firstOf}
 use Rattle.units.specs.Units.{reason1, reason1At}
 use Rattle.units.specs.Arrays.{PotentialArrays, rankAt, topRank, Ranked, firstName, foundAt, boundaryOf}
 use Rattle.units.specs.declared.Name.the-variants.{At, Nobody}
-use Rattle.literals.proofs.Pass.{upto-more, filter-more}
-use Rattle.kinds.proofs.BlockArrays.{array-at, filter-upto}
+use Rattle.kinds.proofs.BlockArrays.{array-at}
 
 -- ---- a mark is raised
 
@@ -104,13 +104,13 @@ pub first-upto : (s t : ℕ → Bool) (n : ℕ) → ((x : ℕ) → x < n → s x
 first-upto s t n h = first-agree s t (upto n) (λ x m. h x (upto-mem n m))
 
 -- the reason of the first name that passes is the first reason
-pub first-found : (q t : ℕ → Bool) (r : ℕ → List Literal) (l : List ℕ) → firstOf (λ f. given (t f) (r f)) (filter q l) ≡ foundAt r (firstName (λ f. q f && t f) l)
-unfolding firstOf filter firstName foundAt given orElse
+pub first-found : (q t : ℕ → Bool) (r : ℕ → List Literal) (l : List ℕ) → firstOf (λ f. reasonIf (t f) (r f)) (filter q l) ≡ foundAt r (firstName (λ f. q f && t f) l)
+unfolding firstOf filter firstName foundAt reasonIf orElse
 first-found q t r [] = refl
 first-found q t r (x ∷ xs) = go (q x) (t x) refl (first-found q t r xs)
   where
     F : ℕ → Found
-    F f = given (t f) (r f)
+    F f = reasonIf (t f) (r f)
 
     go : (a b : Bool) → t x ≡ b → firstOf F (filter q xs) ≡ foundAt r (firstName (λ f. q f && t f) xs)
         → firstOf F (cond a (x ∷ filter q xs) (filter q xs)) ≡ foundAt r (cond (a && t x) (At x) (firstName (λ f. q f && t f) xs))
@@ -194,7 +194,7 @@ stranded-is puzzle cells groups onarrow n marks s e P R =
     now = take n cells
 
     p : ℕ → Bool
-    p = filled now
+    p = potential now
 
     c : ℕ → List ℕ
     c f = group g p (labels g p) f
@@ -223,3 +223,16 @@ stranded-is puzzle cells groups onarrow n marks s e P R =
         let own : eqb (getD groups f 0) f ≡ q f = ap (λ (l : List ℕ). eqb (getD l f 0) f) (P .groups-are) ∙ label-test g p f f h f< in
         let mark : eqb (getD marks f 0) 1 ≡ t f = ap (λ (m : ℕ). eqb m 1) (R .ranks f (omega arith) ∙ ap (topRank (rankAt cells onarrow)) (list f f<) ∙ top f) ∙ one-test (any (onArrow arrows) (c f)) (any (square now) (c f)) in
         rw (own, mark) refl
+
+-- the first name that passes is in the list
+first-mem : (t : ℕ → Bool) (l : List ℕ) (f : ℕ) → firstName t l ≡ At f → List·Memᴰ f l
+unfolding firstName
+first-mem t [] f e = let z : _≡_ {A = ℕ} 0 1 = cc in absurd (omega arith)
+first-mem t (x ∷ xs) f e = go (t x) e (λ k. first-mem t xs f k)
+  where
+    go : (b : Bool) → cond b (At x) (firstName t xs) ≡ At f → (firstName t xs ≡ At f → List·Memᴰ f xs) → List·Memᴰ f (x ∷ xs)
+    go true e ih = let q : f ≡ x = cc in List·Memᴰ·head q
+    go false e ih = List·Memᴰ·tail (ih e)
+
+pub first-below : (t : ℕ → Bool) (n f : ℕ) → firstName t (upto n) ≡ At f → f < n
+first-below t n f e = upto-mem n (first-mem t (upto n) f e)

@@ -17,7 +17,7 @@ use Rattle.grid.specs.Grid.{Grid, size, neighbours, Adjacent}
 use Rattle.grid.specs.Link.{Linked, here, step, linked-start, linked-trans, linked-inside}
 use Rattle.grid.proofs.Count.{count, count-except, count-inj-suc, count-le}
 use Rattle.grid.proofs.GridLaws.{adj-sym, apart}
-use Rattle.board.specs.Board.{square}
+use Rattle.grid.specs.Cells.{square}
 use Rattle.units.specs.Units.{Entry, breadthFirst, parent, path}
 use Rattle.units.specs.Search.{seen, appended}
 use Rattle.units.specs.BreadthFirst.{Listed}

@@ -1,5 +1,5 @@
--- The breadth-first list and the path of reason 2 step by step, with no count of steps. `breadthFirst` and `path` of Reasons compute them
--- (proofs/BreadthFirstLaws.antt).
+-- The breadth-first list and the path of reason 2 step by step, with no count of steps. `breadthFirst` and `path` of Units compute them
+-- (reasons/proofs/BreadthFirstLaws.antt).
 -- Assumes nothing.
 use Prim.Native.Nat.{ℕ}
 use mathlib.Core.Logic.{_≢_}
@@ -7,7 +7,7 @@ use mathlib.Core.Path.{_≡_}
 use mathlib.Core.Bool.{So}
 use mathlib.Core.List.{List, [], _∷_, _++_, List·Memᴰ}
 use Rattle.grid.specs.Grid.{Grid, neighbours}
-use Rattle.board.specs.Board.{Literal, square}
+use Rattle.grid.specs.Cells.{Literal, square}
 use Rattle.units.specs.Units.{Entry}
 use Rattle.literals.specs.Literals.{each}
 

@@ -9,7 +9,7 @@ use lib.ListN.{length, getD, take, set}
 use Rattle.grid.specs.Lists.{any, filter}
 use Rattle.grid.specs.Grid.{Grid, size, neighbours}
 use Rattle.grid.specs.Side.{sized}
-use Rattle.board.specs.Board.{square}
+use Rattle.grid.specs.Cells.{square}
 use Rattle.groups.specs.Groups.{Joined}
 use Rattle.units.specs.Units.{Entry, breadthFirst}
 

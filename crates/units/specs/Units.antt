@@ -8,16 +8,32 @@ use lib.Dec.{eqb}
 use Rattle.grid.specs.Lists.{any, filter, last}
 use Rattle.grid.specs.Grid.{Grid, size, cellsOf, neighbours, touches}
 use Rattle.record.specs.Record.{Puzzle}
-use Rattle.board.specs.Board.{Literal, empty, square, filled}
+use Rattle.grid.specs.Cells.{Literal, empty, square, potential}
 use Rattle.groups.specs.Groups.{labels, group, names}
 use Rattle.groups.specs.Arrows.{onArrow}
-use Rattle.literals.specs.Literals.{Found, given, firstOf, each}
+use Rattle.literals.specs.Literals.{Found, reasonIf, firstOf, each}
 
--- an entry of a breadth-first list: a cell and its parent
+-- 1. the empty cells that touch the potential group c, then its last square
+abbrev pub boundary : Grid → List ℕ → List ℕ → List Literal
+boundary g cells c =
+    each 0 (filter (λ i. empty cells i && touches g c i) (cellsOf g)) ++ each 1 (last 0 (filter (square cells) c) ∷ [])
+
+module _ (p : Puzzle) (cells : List ℕ) where
+  -- a potential group c with a square and no arrow cell
+  unfoldable pub reason1At : List ℕ → Found
+  reason1At c = reasonIf (any (square cells) c && not (any (onArrow (p .arrows)) c)) (boundary (p .grid) cells c)
+
+  -- the lowest numbered potential group that gives a reason
+  unfoldable pub reason1 : Found
+  reason1 =
+      let l = labels (p .grid) (potential cells) in
+      firstOf (λ f. reason1At (group (p .grid) (potential cells) l f)) (names (p .grid) (potential cells) l)
+
+-- 2. an entry of the breadth-first list: a cell and its parent
 abbrev pub Entry : Type 0
 Entry = ℕ × ℕ
 
--- 2. the breadth-first list, each cell with its parent: walked cells are done, todo are listed and wait
+-- the breadth-first list, each cell with its parent: walked cells are done, todo are listed and wait
 unfoldable pub breadthFirst : Grid → List ℕ → ℕ → List Entry → List Entry → List Entry
 breadthFirst g cells zero done todo = done ++ todo
 breadthFirst g cells (suc k) done [] = done
@@ -42,22 +58,7 @@ reason2At g cells [] = none
 reason2At g cells (a ∷ []) = none
 reason2At g cells (a ∷ b ∷ rest) = some (each 1 (path (size g) (breadthFirst g cells (size g) [] ((b, b) ∷ [])) a b))
 
--- 1. the empty cells that touch the potential group c, then its last square
-abbrev pub boundary : Grid → List ℕ → List ℕ → List Literal
-boundary g cells c =
-    each 0 (filter (λ i. empty cells i && touches g c i) (cellsOf g)) ++ each 1 (last 0 (filter (square cells) c) ∷ [])
-
 module _ (p : Puzzle) (cells : List ℕ) where
-  -- a potential group c with a square and no arrow cell
-  unfoldable pub reason1At : List ℕ → Found
-  reason1At c = given (any (square cells) c && not (any (onArrow (p .arrows)) c)) (boundary (p .grid) cells c)
-
-  -- the lowest numbered potential group that gives a reason
-  unfoldable pub reason1 : Found
-  reason1 =
-      let l = labels (p .grid) (filled cells) in
-      firstOf (λ f. reason1At (group (p .grid) (filled cells) l f)) (names (p .grid) (filled cells) l)
-
   -- the lowest numbered block that gives a reason
   unfoldable pub reason2 : Found
   reason2 =

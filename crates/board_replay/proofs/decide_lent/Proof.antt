@@ -50,10 +50,10 @@ use Rattle.record.proofs.Answer as R
 use Rattle.record.proofs.Answer.Laws as R′
 use Rattle.board.proofs.Decided as D
 use Rattle.board.proofs.Decided.Laws as D′
-use Rattle.board.proofs.decide_in as callee
-use Rattle.board.proofs.decide_in.Symbol as callee-def
-use Rattle.board.proofs.decide_in.Symbol.{name as #callee}
-use Rattle.board.proofs.decide_in.Met as callee-thm
+use Rattle.lent.proofs.decide_in as callee
+use Rattle.lent.proofs.decide_in.Symbol as callee-def
+use Rattle.lent.proofs.decide_in.Symbol.{name as #callee}
+use Rattle.lent.proofs.decide_in.Met as callee-thm
 use Rattle.board_replay.proofs.decide_lent.Key.{name as #self}
 use Rattle.board_replay.proofs.decide_lent as self
 use Rattle.board_replay.proofs.decide_lent.Statement as stated
@@ -188,4 +188,4 @@ decide-lent-spec 𝓤 H 𝓜 𝓖 𝓡 =
     entered 𝓤 H (tripleOf 𝓤 H (𝓖 .A) self.signature (self.spec 𝓤 H (𝓖 .A) (𝓜 .mem) (𝓡 .run)))
     (tables 𝓤 H 𝓜 𝓡 code.env .C) (tables 𝓤 H 𝓜 𝓡 code.env .Λ) #self code.function (code.unfolded 𝓤 H 𝓜 𝓡)
     (self-meets 𝓤 H (𝓖 .A) (givenOf 𝓤 H 𝓜 𝓖) (𝓜 .mem) (𝓡 .run) (tablesOf 𝓤 H 𝓜 (tables 𝓤 H 𝓜 𝓡 code.env))
-    (cited 𝓤 H (Callee 𝓤 H (𝓖 .A) (𝓜 .mem) (𝓡 .run)) 𝓜 𝓡 code.env #callee callee-def.routine code.calls-board·decide-in (callee-thm.met 𝓤 H 𝓜 𝓖 𝓡)))
+    (cited 𝓤 H (Callee 𝓤 H (𝓖 .A) (𝓜 .mem) (𝓡 .run)) 𝓜 𝓡 code.env #callee callee-def.routine code.calls-lent·decide-in (callee-thm.met 𝓤 H 𝓜 𝓖 𝓡)))

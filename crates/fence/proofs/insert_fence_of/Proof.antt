@@ -2,7 +2,7 @@
 -- Assumes nothing.
 use mathlib.Core.Path.{sym, _∙_}
 use Rattle.fence.proofs.Ordering.{ordered-room}
-use Rattle.fence.proofs.Fences.{none-added, adds-untouched, adds-decided, adds-itself, adds-rivals}
+use Rattle.fence.proofs.Fences.{none-added, adds-untouched, adds-decided, adds-itself, adds-disturbing}
 use borrow.Author.Needs.{needs}
 use Rattle.fence.proofs.insert_fence_of.Statement.{statement}
 use Rattle.fence.proofs.insert_fence_of.Tie as tie
@@ -44,8 +44,8 @@ returns-3 c =
 touches-marked-requires-2 : tie.Need-touches-marked-requires-2
 touches-marked-requires-2 c κs = search needs
 
-insert-rivals-requires : tie.Need-insert-rivals-requires
-insert-rivals-requires c κs = search needs
+insert-disturbing-blocks-requires : tie.Need-insert-disturbing-blocks-requires
+insert-disturbing-blocks-requires c κs = search needs
 
 same-length-2 : tie.Need-same-length-2
 same-length-2 c = search needs
@@ -53,7 +53,7 @@ same-length-2 c = search needs
 returns-4 : tie.Need-returns-4
 returns-4 c =
     let a = c .before .before .before .before .before .before .before .before .before .before .before .args in
-    λ base t whole o. adds-rivals (a .cells .now) (a .kinds .now) (a .owners .now) (a .marks .now) _ (a .f) (a .i) t (c .before .before .before .before .before .before .before .before .if1 .left) (c .before .before .before .before .before .before .if3 .left) (sym (c .before .before .before .before .before .touches-marked2 .ensures) ∙ c .before .before .before .before .if4 .taken) (c .before .before .insert-rivals .ensures base t whole o)
+    λ base t whole o. adds-disturbing (a .cells .now) (a .kinds .now) (a .owners .now) (a .marks .now) _ (a .f) (a .i) t (c .before .before .before .before .before .before .before .before .if1 .left) (c .before .before .before .before .before .before .if3 .left) (sym (c .before .before .before .before .before .touches-marked2 .ensures) ∙ c .before .before .before .before .if4 .taken) (c .before .before .insert-disturbing-blocks .ensures base t whole o)
 
 returns-5 : tie.Need-returns-5
 returns-5 c =
@@ -74,7 +74,7 @@ insert-fence-of-spec =
     element-copy-out-if3
     returns-3
     touches-marked-requires-2
-    insert-rivals-requires
+    insert-disturbing-blocks-requires
     same-length-2
     returns-4
     returns-5)

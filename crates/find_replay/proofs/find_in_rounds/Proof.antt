@@ -13,11 +13,14 @@ Inv-loop rounds board buffer₀ found₀ i₀ buffer found i = length buffer ≡
 abbrev μ-loop : tie.MeasureT-loop
 μ-loop rounds board buffer₀ found₀ i₀ buffer found i = rounds - i
 
+find-requires : tie.Need-find-requires Inv-loop μ-loop
+find-requires c κs = search needs
+
 loop-holds : tie.Need-loop-holds Inv-loop μ-loop
 loop-holds c = search needs
 
-find-requires : tie.Need-find-requires Inv-loop μ-loop
-find-requires c κs = search needs
+find-requires-2 : tie.Need-find-requires-2 Inv-loop μ-loop
+find-requires-2 c κs = search needs
 
 add-i : tie.Need-add-i Inv-loop μ-loop
 add-i c = search needs
@@ -40,8 +43,9 @@ find-in-rounds-spec =
     (tie.spec
     Inv-loop
     μ-loop
-    loop-holds
     find-requires
+    loop-holds
+    find-requires-2
     add-i
     loop-less
     loop-again

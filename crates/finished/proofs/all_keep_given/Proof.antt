@@ -4,13 +4,14 @@ use Prim.Native.Nat.{ℕ, _<_, _-_}
 use native.Mathlib.Omega.{arith}
 use mathlib.Core.Logic.{⊎-elim}
 use mathlib.Core.Path.{_≡_, refl, sym, _∙_, ap}
-use mathlib.Core.Bool.{Bool, true, false, _&&_}
+use mathlib.Core.Bool.{Bool, _&&_}
 use mathlib.Core.List.{List}
 use borrow.Author.Needs.{needs}
 use borrow.Author.Tests.{not-true, not-false}
 use lib.ListN.{length, getD, drop}
 use Rattle.grid.specs.Lists.{upto, all}
-use Rattle.form.proofs.Passes.{pass-on, pass-fail, pass-end, upto-at, upto-length}
+use Rattle.grid.proofs.AppendLaws.{upto-at, upto-length}
+use Rattle.form.proofs.Passes.{pass-on, pass-fail, pass-end}
 use Rattle.finished.specs.Finished.{keeps, keepsAll}
 use Rattle.finished.proofs.all_keep_given.Statement.{statement}
 use Rattle.finished.proofs.all_keep_given.Tie as tie

@@ -2,7 +2,7 @@
 -- Assumes nothing.
 use Prim.Native.Nat.{ℕ, _≤_, _-_, _*_}
 use native.Mathlib.Omega.{arith}
-use mathlib.Core.Path.{_≡_, sym, _∙_}
+use mathlib.Core.Path.{_≡_, refl, sym, _∙_}
 use lib.ListN.{length, length-replicate, take}
 use Rattle.grid.specs.Grid.{size}
 use Rattle.grid.specs.Side.{sized}
@@ -16,7 +16,7 @@ use Rattle.groups.proofs.compute_connected_components.Tie as tie
 
 abbrev Inv-loop : tie.InvT-loop
 Inv-loop cells is-potential h w labels₀ n stack₀ s₀ labels stack s =
-    (s ≤ n) × (length stack ≡ 1024) × Sofar (sized h w) (counts is-potential cells) s labels
+    (s ≤ n) × (length stack ≡ 1025) × Sofar (sized h w) (counts is-potential cells) s labels
 
 abbrev μ-loop : tie.MeasureT-loop
 μ-loop cells is-potential h w labels₀ n stack₀ s₀ labels stack s = n - s
@@ -24,35 +24,40 @@ abbrev μ-loop : tie.MeasureT-loop
 mul-n : tie.Need-mul-n Inv-loop μ-loop
 mul-n c = omega (arith, area (c .args .h) (c .args .w) (c .pre .0) (c .pre .1))
 
+mark-check-cells-requires : tie.Need-mark-check-cells-requires Inv-loop μ-loop
+mark-check-cells-requires c κs =
+    let e = c .before .before in
+    (area (e .args .h) (e .args .w) (e .pre .0) (e .pre .1), refl)
+
 loop-holds : tie.Need-loop-holds Inv-loop μ-loop
 unfolding size
 loop-holds c =
-    let e = c .before in
-    (omega arith, length-replicate {A = ℕ} 1024 0, sofar-none (area (e .args .h) (e .args .w) (e .pre .0) (e .pre .1)))
+    let e = c .before .before .before in
+    (omega arith, length-replicate {A = ℕ} 1025 0, sofar-none (sized (e .args .h) (e .args .w)) (area (e .args .h) (e .args .w) (e .pre .0) (e .pre .1)) (c .mark-check-cells .ensures))
 
 flood-requires : tie.Need-flood-requires Inv-loop μ-loop
 flood-requires c κs =
     let l = c .before .before in
-    let e = l .before .before .before in
+    let e = l .before .before .before .before .before in
     let v = l .before .loop .inv in
-    (record { tall = e .pre .0; wide = e .pre .1; within = l .loop-test .taken }, (v .2, v .1))
+    (record { tall = e .pre .0; wide = e .pre .1; within = l .loop-test .taken }, ((_, v .2), v .1))
 
 add-s : tie.Need-add-s Inv-loop μ-loop
 add-s c =
     let l = c .before .before .before in
-    let e = l .before .before .before in
+    let e = l .before .before .before .before .before in
     omega (arith, l .loop-test .taken, area (e .args .h) (e .args .w) (e .pre .0) (e .pre .1))
 
 loop-less : tie.Need-loop-less Inv-loop μ-loop
 loop-less c = omega arith
 
 loop-again : tie.Need-loop-again Inv-loop μ-loop
-loop-again c = (omega arith, c .flood .ensures .1, c .flood .ensures .0)
+loop-again c = (omega arith, c .flood .ensures .1, c .flood .ensures .0 _ (c .before .before .before .before .loop .inv .2))
 
 returns : tie.Need-returns Inv-loop μ-loop
 unfolding size
 returns c =
-    let e = c .before .before .before in
+    let e = c .before .before .before .before .before in
     let v = c .before .loop .inv in
     let g = sized (e .args .h) (e .args .w) in
     let n = e .args .h * e .args .w in
@@ -66,4 +71,4 @@ returns c =
 pub compute-connected-components-spec : {M : Type 1} → statement M
 compute-connected-components-spec =
     tie.close
-    (tie.spec Inv-loop μ-loop mul-n loop-holds flood-requires add-s loop-less loop-again returns)
+    (tie.spec Inv-loop μ-loop mul-n mark-check-cells-requires loop-holds flood-requires add-s loop-less loop-again returns)

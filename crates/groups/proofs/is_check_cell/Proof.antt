@@ -1,5 +1,5 @@
 -- `groups::is_check_cell` meets its contract. Assumes nothing.
-use Rattle.board.specs.Board.{square, empty, filled}
+use Rattle.grid.specs.Cells.{square, empty, potential}
 use Rattle.groups.specs.Groups.{counts}
 use borrow.Author.Needs.{needs}
 use Rattle.groups.proofs.is_check_cell.Statement.{statement}
@@ -12,7 +12,7 @@ element-copy-out-result-2 : tie.Need-element-copy-out-result-2
 element-copy-out-result-2 c = search needs
 
 returns : tie.Need-returns
-unfolding counts filled empty
+unfolding counts potential empty
 returns c = rw (c .before .if1 .taken)
 
 returns-2 : tie.Need-returns-2

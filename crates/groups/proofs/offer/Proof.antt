@@ -1,28 +1,40 @@
 -- `groups::offer` meets its contract. Assumes nothing.
-use mathlib.Core.Path.{refl, sym, _∙_}
-use mathlib.Core.Bool.{false≢true}
+use Prim.Native.Nat.{ℕ, _+_}
+use mathlib.Core.Path.{_≡_, refl}
+use mathlib.Core.Bool.{Bool, true, false, cond}
+use mathlib.Core.List.{List}
 use native.Mathlib.Omega.{arith}
-use borrow.Author.Tests.{not-true, not-false}
-use Rattle.groups.specs.Flood.{skip, take}
-use Rattle.groups.proofs.FloodLaws.{free-set}
+use lib.Dec.{eqb}
+use lib.ListN.{getD, set}
+use lib.Seq.{set-getD}
+use borrow.Author.Tests.{eqb-true, eqb-false}
+use Rattle.groups.specs.Flood.{unlabelled, Offered, skip, take}
 use borrow.Author.Needs.{needs}
 use Rattle.groups.proofs.offer.Statement.{statement}
 use Rattle.groups.proofs.offer.Tie as tie
 
-mul-if1 : tie.Need-mul-if1
-mul-if1 c = search needs
+-- what is written, by whether the cell is new
+offered : (q s : ℕ) (L st : List ℕ) (c : ℕ) (b : Bool) → eqb (getD L q 0) unlabelled ≡ b → Offered q s L st c (set L q (cond b s (getD L q 0))) (set st c q) (cond b (c + 1) c)
+offered q s L st c true e = take (eqb-true (getD L q 0) unlabelled e) refl refl refl
+offered q s L st c false e = skip (eqb-false (getD L q 0) unlabelled e) (set-getD L q 0) refl refl
 
-element-copy-out-if1 : tie.Need-element-copy-out-if1
-element-copy-out-if1 c = search needs
+mul-label : tie.Need-mul-label
+mul-label c = search needs
 
-returns : tie.Need-returns
-returns c = skip (λ _ e. c .if1 .taken e) refl refl refl
+element-copy-out-label : tie.Need-element-copy-out-label
+element-copy-out-label c = search needs
 
-is-check-cell-requires : tie.Need-is-check-cell-requires
-is-check-cell-requires c κs = search needs
+cast-stack : tie.Need-cast-stack
+cast-stack c = search needs
 
-returns-2 : tie.Need-returns-2
-returns-2 c = skip (λ o _. false≢true (sym (not-true _ (c .if2 .taken)) ∙ c .before .is-check-cell .ensures ∙ o)) refl refl refl
+mul-stack : tie.Need-mul-stack
+mul-stack c = omega (arith, c .before .pre .room)
+
+element-write-stack : tie.Need-element-write-stack
+element-write-stack c = omega (arith, c .before .pre .room)
+
+pick-requires : tie.Need-pick-requires
+pick-requires c κs = search needs
 
 mul-labels : tie.Need-mul-labels
 mul-labels c = search needs
@@ -30,37 +42,25 @@ mul-labels c = search needs
 element-write-labels : tie.Need-element-write-labels
 element-write-labels c = search needs
 
-cast-stack : tie.Need-cast-stack
-cast-stack c = search needs
+count-with-requires : tie.Need-count-with-requires
+count-with-requires c κs = omega (arith, c .before .before .pre .room)
 
-mul-stack : tie.Need-mul-stack
-mul-stack c = search needs
-
-element-write-stack : tie.Need-element-write-stack
-element-write-stack c =
-    let l = c .before .before in
-    let a = l .before .before in
-    omega (arith, a .pre .room, a .pre .seed, free-set (a .args .labels .now) (a .args .q) 0 (l .if1 .left) (λ e. omega (arith, e)))
-
-add-result : tie.Need-add-result
-add-result c = search needs
-
-returns-3 : tie.Need-returns-3
-returns-3 c = take (sym (c .before .is-check-cell .ensures) ∙ not-false _ (c .if2 .left)) (c .before .before .if1 .left) refl refl refl
+returns : tie.Need-returns
+returns c =
+    let a = c .before .before .before .args in
+    rw (c .before .pick .ensures, c .count-with .ensures) (offered (a .q) (a .s) (a .labels .now) (a .stack .now) (a .count) _ refl)
 
 pub offer-spec : {M : Type 1} → statement M
 offer-spec =
     tie.close
     (tie.spec
-    mul-if1
-    element-copy-out-if1
-    returns
-    is-check-cell-requires
-    returns-2
-    mul-labels
-    element-write-labels
+    mul-label
+    element-copy-out-label
     cast-stack
     mul-stack
     element-write-stack
-    add-result
-    returns-3)
+    pick-requires
+    mul-labels
+    element-write-labels
+    count-with-requires
+    returns)

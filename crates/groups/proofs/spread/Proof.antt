@@ -1,20 +1,20 @@
 -- `groups::spread` meets its contract. At the loop's head the neighbours in the directions before k have been offered. Assumes nothing.
-use Prim.Native.Nat.{_+_, _-_, _*_, _/_, _%_, _≤_}
+use Prim.Native.Nat.{ℕ, _+_, _-_, _*_, _/_, _%_, _≤_}
 use mathlib.Core.Path.{_≡_}
+use mathlib.Core.Bool.{Bool, true}
 use native.Mathlib.Omega.{arith}
 use borrow.Author.Needs.{needs}
 use Rattle.grid.specs.Side.{sized, InPlace}
-use Rattle.groups.specs.Groups.{counts}
 use Rattle.groups.proofs.FloodLaws.{Offers, offers-none, offers-more, top, spread-does}
 use Rattle.groups.proofs.spread.Statement.{statement}
 use Rattle.groups.proofs.spread.Tie as tie
 
 abbrev Inv-loop : tie.InvT-loop
-Inv-loop cells is-potential labels₀ stack₀ count h w s waiting₀ i y x k₀ labels stack waiting k =
-    Offers (sized h w) (counts is-potential cells) s (y * w + x) k labels₀ stack₀ waiting₀ labels stack waiting × (k ≤ 4)
+Inv-loop labels₀ stack₀ count h w s waiting₀ i y x k₀ labels stack waiting k =
+    ((p : ℕ → Bool) → Offers (sized h w) p s (y * w + x) k labels₀ stack₀ waiting₀ labels stack waiting) × (k ≤ 4)
 
 abbrev μ-loop : tie.MeasureT-loop
-μ-loop cells is-potential labels₀ stack₀ count h w s waiting₀ i y x k₀ labels stack waiting k = 4 - k
+μ-loop labels₀ stack₀ count h w s waiting₀ i y x k₀ labels stack waiting k = 4 - k
 
 -- the row and the column of the cell that is taken
 place : (c : tie.After-wide Inv-loop μ-loop) → InPlace (c .before .before .args .h) (c .before .before .args .w) (c .wide .result / c .before .before .args .w) (c .wide .result % c .before .before .args .w)
@@ -39,12 +39,12 @@ rem-x : tie.Need-rem-x Inv-loop μ-loop
 rem-x c = omega (arith, place c .column)
 
 loop-holds : tie.Need-loop-holds Inv-loop μ-loop
-loop-holds c = (offers-none (omega (arith, c .before .before .pre .room)), omega arith)
+loop-holds c = (λ p. offers-none (omega (arith, c .before .before .pre .room)), omega arith)
 
 offer-toward-requires : tie.Need-offer-toward-requires Inv-loop μ-loop
 offer-toward-requires c κs =
     let l = c .before .before .before in
-    ((place (l .before), c .before .before .loop-test .taken), (l .before .before .before .pre .seed, l .loop .inv .0 .room))
+    ((place (l .before), c .before .before .loop-test .taken), (l .before .before .before .pre .seed, l .loop .inv .0 (λ _. true) .room))
 
 add-k : tie.Need-add-k Inv-loop μ-loop
 add-k c = omega arith
@@ -55,14 +55,14 @@ loop-less c = omega arith
 loop-again : tie.Need-loop-again Inv-loop μ-loop
 loop-again c =
     let l = c .before .before .before .before in
-    (offers-more (l .before .before .before .pre .seed) (l .loop .inv .0) (c .offer-toward .ensures), omega (arith, c .before .before .before .loop-test .taken))
+    (λ p. offers-more (l .before .before .before .pre .seed) (l .loop .inv .0 p) (c .offer-toward .ensures), omega (arith, c .before .before .before .loop-test .taken))
 
 returns : tie.Need-returns Inv-loop μ-loop
 returns c =
     let l = c .before .loop in
     let e = c .before .before in
     let all : l .k ≡ 4 = omega (arith, l .inv .1, c .loop-test .left) in
-    spread-does (e .before .before .pre) (e .wide .ensures) (rw all at (l .inv .0))
+    λ p. spread-does (e .before .before .pre) (e .wide .ensures) (rw all at (l .inv .0 p))
 
 pub spread-spec : {M : Type 1} → statement M
 spread-spec =

@@ -14,6 +14,12 @@ abbrev μ-loop : tie.MeasureT-loop
 loop-holds : tie.Need-loop-holds Inv-loop μ-loop
 loop-holds c = search needs
 
+clear-requires : tie.Need-clear-requires Inv-loop μ-loop
+clear-requires c κs = search needs
+
+unname-requires : tie.Need-unname-requires Inv-loop μ-loop
+unname-requires c κs = search needs
+
 compute-board-info-detailed-requires : tie.Need-compute-board-info-detailed-requires Inv-loop μ-loop
 compute-board-info-detailed-requires c κs = search needs
 
@@ -36,6 +42,8 @@ kinds-in-rounds-spec =
     Inv-loop
     μ-loop
     loop-holds
+    clear-requires
+    unname-requires
     compute-board-info-detailed-requires
     add-i
     loop-less

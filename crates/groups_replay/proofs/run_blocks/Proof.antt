@@ -1,21 +1,18 @@
--- `groups_replay::run_blocks` is safe and ends: at most one block and one difference for each name passed.
+-- `groups_replay::run_blocks` is safe and ends.
 -- Assumes nothing.
-use Prim.Native.Nat.{_≤_, _-_}
 use borrow.Author.Needs.{needs}
-use native.Mathlib.Omega.{arith}
-use mathlib.Core.Logic.{⊎-elim}
-use lib.ListN.{length}
+use Prim.Native.Nat.{_-_, _≤_}
 use Rattle.groups_replay.proofs.run_blocks.Statement.{statement}
 use Rattle.groups_replay.proofs.run_blocks.Tie as tie
 
 abbrev Inv-loop : tie.InvT-loop
-Inv-loop list start cells kinds owners arrowed h w blocks₀ differ₀ at₀ f₀ blocks differ at f = (blocks ≤ f) × (differ ≤ blocks) × (at ≤ length list) × (f ≤ 1024)
+Inv-loop list start cells kinds owners arrowed h w found₀ f₀ found f = f ≤ 1024
 
 abbrev μ-loop : tie.MeasureT-loop
-μ-loop list start cells kinds owners arrowed h w blocks₀ differ₀ at₀ f₀ blocks differ at f = 1024 - f
+μ-loop list start cells kinds owners arrowed h w found₀ f₀ found f = 1024 - f
 
-add-at : tie.Need-add-at Inv-loop μ-loop
-add-at c = search needs
+add-also : tie.Need-add-also Inv-loop μ-loop
+add-also c = search needs
 
 loop-holds : tie.Need-loop-holds Inv-loop μ-loop
 loop-holds c = search needs
@@ -23,20 +20,17 @@ loop-holds c = search needs
 element-copy-out-if1 : tie.Need-element-copy-out-if1 Inv-loop μ-loop
 element-copy-out-if1 c = search needs
 
-run-block-requires : tie.Need-run-block-requires Inv-loop μ-loop
-run-block-requires c κs = search needs
-
-add-blocks : tie.Need-add-blocks Inv-loop μ-loop
-add-blocks c = search needs
-
-one-if-requires : tie.Need-one-if-requires Inv-loop μ-loop
-one-if-requires c κs = search needs
-
-add-differ : tie.Need-add-differ Inv-loop μ-loop
-add-differ c = search needs
+broken-requires : tie.Need-broken-requires Inv-loop μ-loop
+broken-requires c κs = search needs
 
 returns : tie.Need-returns Inv-loop μ-loop
 returns c = search needs
+
+run-block-requires : tie.Need-run-block-requires Inv-loop μ-loop
+run-block-requires c κs = search needs
+
+then-requires : tie.Need-then-requires Inv-loop μ-loop
+then-requires c κs = search needs
 
 add-f : tie.Need-add-f Inv-loop μ-loop
 add-f c = search needs
@@ -45,16 +39,13 @@ loop-less : tie.Need-loop-less Inv-loop μ-loop
 loop-less c = search needs
 
 loop-again : tie.Need-loop-again Inv-loop μ-loop
-loop-again c = ⊎-elim (λ w. omega arith) (λ w. omega arith) (c .if1 .came)
+loop-again c = search needs
 
 number-at-requires : tie.Need-number-at-requires Inv-loop μ-loop
 number-at-requires c κs = search needs
 
-one-if-requires-2 : tie.Need-one-if-requires-2 Inv-loop μ-loop
-one-if-requires-2 c κs = search needs
-
-add-differ-2 : tie.Need-add-differ-2 Inv-loop μ-loop
-add-differ-2 c = search needs
+also-requires : tie.Need-also-requires Inv-loop μ-loop
+also-requires c κs = search needs
 
 returns-2 : tie.Need-returns-2 Inv-loop μ-loop
 returns-2 c = search needs
@@ -65,18 +56,16 @@ run-blocks-spec =
     (tie.spec
     Inv-loop
     μ-loop
-    add-at
+    add-also
     loop-holds
     element-copy-out-if1
-    run-block-requires
-    add-blocks
-    one-if-requires
-    add-differ
+    broken-requires
     returns
+    run-block-requires
+    then-requires
     add-f
     loop-less
     loop-again
     number-at-requires
-    one-if-requires-2
-    add-differ-2
+    also-requires
     returns-2)

@@ -1,12 +1,12 @@
-use mathlib.Core.Path.{_≡_, refl, _∙_}
-use Prim.Native.Nat.{ℕ, _+_, _-_, _≤_, _<_, max}
+use mathlib.Core.Path.{refl}
+use Prim.Native.Nat.{ℕ, _-_, _≤_, _<_, max}
 use native.Mathlib.Omega.{arith}
 use mathlib.Core.List.{List}
 use lib.ListN.{getD}
 use lib.Seq.{slice}
 use borrow.Author.Needs.{needs}
 use Rattle.grid.specs.Lists.{filter}
-use Rattle.board.specs.Board.{empty}
+use Rattle.grid.specs.Cells.{empty}
 use Rattle.literals.specs.Literals.{each}
 use Rattle.literals.specs.Buffer.{Wrote}
 use Rattle.literals.proofs.BufferLaws.{wrote-length}

@@ -12,10 +12,10 @@ use Rattle.host.proofs.evolmino_find.Statement.{statement}
 use Rattle.host.proofs.evolmino_find.Tie as tie
 
 -- the record is accepted
-opens : (c : tie.After-enum-told) → Opens (c .before .before .before .before .before .before .before .args .«record» .now) (c .before .before .before .«open» .result .board)
+opens : (c : tie.After-enum-told) → Opens (c .before .before .before .before .before .before .args .«record» .now) (c .before .before .«open» .result .board)
 opens c =
-    let o = c .before .before .before .«open» in
-    open-done (c .before .before .before .before .before .before .before .args .«record» .now) (o .result) (o .ensures) (c .enum-told .given .1)
+    let o = c .before .before .«open» in
+    open-done (c .before .before .before .before .before .before .args .«record» .now) (o .result) (o .ensures) (c .enum-told .given .1)
 
 open-requires : tie.Need-open-requires
 open-requires c κs = search needs
@@ -24,7 +24,7 @@ enum-told : tie.Need-enum-told
 enum-told c = search needs
 
 decide-and-find-requires : tie.Need-decide-and-find-requires
-decide-and-find-requires c κs = (c .before .before .before .before .before .before .before .before .args .«record» .now, opens (c .before))
+decide-and-find-requires c κs = (c .before .before .before .before .before .before .before .args .«record» .now, opens (c .before))
 
 enum-known-answer : tie.Need-enum-known-answer
 enum-known-answer c = search needs
@@ -37,15 +37,15 @@ same-length c = search needs
 
 returns : tie.Need-returns
 returns c =
-    let s = c .before .before .before .before .before .before .before .before .before .before .before .args .«record» .now in
+    let s = c .before .before .before .before .before .before .before .before .before .before .args .«record» .now in
     let f = c .before .before .decide-and-find in
     let q = f .ensures s (opens (c .before .before .before .before)) in
     (toZ-ofZ w32 (f .result) (record { sfits = f .ok }) ∙ q .0, q .1)
 
 returns-2 : tie.Need-returns-2
 returns-2 c =
-    let a = c .before .before .before .before .before .before .before .before .before .args in
-    let o = c .before .before .before .before .before .«open» in
+    let a = c .before .before .before .before .before .before .before .before .args in
+    let o = c .before .before .before .before .«open» in
     let n = c .negated in
     let t = refused-told (a .output .now) (open-refused (a .«record» .now) (o .result) (o .ensures) (c .before .before .answer .given .1) (a .decisions .now) (length (a .output .now))) in
     (toZ-ofZ w32 (n .result) (record { sfits = n .ok }) ∙ n .ensures ∙ t .0, t .1)

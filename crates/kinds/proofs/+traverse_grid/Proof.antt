@@ -4,11 +4,12 @@ use native.Mathlib.Omega.{arith}
 use mathlib.Core.Logic.{⊎-elim}
 use borrow.Author.Needs.{needs}
 use lib.ListN.{set}
-use borrow.Author.Tests.{eq-eqb, eqb-true}
+use mathlib.Core.Path.{refl}
+use mathlib.Core.Bool.{Bool, true, So}
 use Prim.Native.Nat.{_≤_, _-_, ℕ, _<_}
 use Rattle.grid.specs.Side.{sized}
-use Rattle.kinds.specs.Inside.{free, floats}
-use Rattle.kinds.proofs.Traversal.{Turn, free-set, walked-not, turn-none, turn-more, turn-all}
+use Rattle.kinds.specs.Inside.{free, OnlyUnnamed}
+use Rattle.kinds.proofs.Traversal.{Turn, free-set, only-set, grown-only, walked-not, turn-none, turn-more, turn-all}
 use Rattle.grid.proofs.SideLaws.{in-place, cell-small, some-wide}
 use Rattle.grid.proofs.AroundLaws.{gathered, side-adjacent, side-cell, side-at, side-off, sides-none, sides-all}
 use borrow.Fn.Kinds.{In}
@@ -20,19 +21,19 @@ use Rattle.grid.proofs.toward.Reads as toward-reads
 use Rattle.kinds.proofs.+traverse_grid.{statement}
 use Rattle.kinds.proofs.+traverse_grid.Tie.{close}
 
-abbrev μ-traverse-grid : Measures 2 traverse-grid-kinds.ps ℕ
-μ-traverse-grid κs a = free (a .1 .0 .now)
+abbrev μ-traverse-grid : Measures 1 traverse-grid-kinds.ps ℕ
+μ-traverse-grid κs a = free (a .0 .now)
 
-abbrev traverse-grid-at : ℕ → In 2 traverse-grid-kinds.ps
+abbrev traverse-grid-at : ℕ → In 1 traverse-grid-kinds.ps
 traverse-grid-at t =
-    and 2 traverse-grid-kinds.ps (is 2 traverse-grid-kinds.ps μ-traverse-grid t) traverse-grid.Pre
+    and 1 traverse-grid-kinds.ps (is 1 traverse-grid-kinds.ps μ-traverse-grid t) traverse-grid.Pre
 
-abbrev traverse-grid-below : ℕ → In 2 traverse-grid-kinds.ps
+abbrev traverse-grid-below : ℕ → In 1 traverse-grid-kinds.ps
 traverse-grid-below t =
     and
-    2
+    1
     traverse-grid-kinds.ps
-    (falls 2 traverse-grid-kinds.ps _<_ μ-traverse-grid t)
+    (falls 1 traverse-grid-kinds.ps _<_ μ-traverse-grid t)
     traverse-grid.Pre
 
 -- what the callees promise
@@ -40,48 +41,42 @@ abbrev claims : ℕ → traverse-grid-lts.Claims
 claims t = (toward-reads.Asked, toward-reads.Learnt, traverse-grid-below t, traverse-grid.Post)
 
 abbrev traverse-grid-Inv-loop : traverse-grid-lts.InvT-loop
-traverse-grid-Inv-loop kinds owners₀ h w i name y x k₀ owners k = (k ≤ 4) × Turn (sized h w) (floats kinds) i name owners₀ owners (gathered (sized h w) i k)
+traverse-grid-Inv-loop owners₀ h w i name y x k₀ owners k =
+    (k ≤ 4) × ((p : ℕ → Bool) → So (p i) → OnlyUnnamed p owners₀ → Turn (sized h w) p i name owners₀ owners (gathered (sized h w) i k))
 
 abbrev traverse-grid-μ-loop : traverse-grid-lts.MeasureT-loop
-traverse-grid-μ-loop kinds owners₀ h w i name y x k₀ owners k = 4 - k
+traverse-grid-μ-loop owners₀ h w i name y x k₀ owners k = 4 - k
+
+traverse-grid-mul-if1 : (t : ℕ) → traverse-grid-lts.Need-mul-if1 (claims t) (traverse-grid-at t) traverse-grid.Post traverse-grid-Inv-loop traverse-grid-μ-loop
+traverse-grid-mul-if1 t c = omega (arith, cell-small (c .pre .1 .cell))
 
 traverse-grid-element-copy-out-if1 : (t : ℕ) → traverse-grid-lts.Need-element-copy-out-if1 (claims t) (traverse-grid-at t) traverse-grid.Post traverse-grid-Inv-loop traverse-grid-μ-loop
 traverse-grid-element-copy-out-if1 t c = cell-small (c .pre .1 .cell)
 
 traverse-grid-returns : (t : ℕ) → traverse-grid-lts.Need-returns (claims t) (traverse-grid-at t) traverse-grid.Post traverse-grid-Inv-loop traverse-grid-μ-loop
-unfolding floats
-traverse-grid-returns t c = walked-not (c .before .before .pre .1 .small) (λ o _. c .if1 .taken (eqb-true _ 4 o))
-
-traverse-grid-mul-if2 : (t : ℕ) → traverse-grid-lts.Need-mul-if2 (claims t) (traverse-grid-at t) traverse-grid.Post traverse-grid-Inv-loop traverse-grid-μ-loop
-traverse-grid-mul-if2 t c = omega (arith, cell-small (c .before .before .pre .1 .cell))
-
-traverse-grid-element-copy-out-if2 : (t : ℕ) → traverse-grid-lts.Need-element-copy-out-if2 (claims t) (traverse-grid-at t) traverse-grid.Post traverse-grid-Inv-loop traverse-grid-μ-loop
-traverse-grid-element-copy-out-if2 t c = cell-small (c .before .before .pre .1 .cell)
-
-traverse-grid-returns-2 : (t : ℕ) → traverse-grid-lts.Need-returns-2 (claims t) (traverse-grid-at t) traverse-grid.Post traverse-grid-Inv-loop traverse-grid-μ-loop
-traverse-grid-returns-2 t c = walked-not (c .before .before .before .before .pre .1 .small) (λ _ e. c .if2 .taken e)
+traverse-grid-returns t c = λ p _. walked-not (c .before .before .pre .1 .small) (λ _ e. c .if1 .taken e)
 
 traverse-grid-mul-owners : (t : ℕ) → traverse-grid-lts.Need-mul-owners (claims t) (traverse-grid-at t) traverse-grid.Post traverse-grid-Inv-loop traverse-grid-μ-loop
-traverse-grid-mul-owners t c = omega (arith, cell-small (c .before .before .before .before .pre .1 .cell))
+traverse-grid-mul-owners t c = omega (arith, cell-small (c .before .before .pre .1 .cell))
 
 traverse-grid-element-write-owners : (t : ℕ) → traverse-grid-lts.Need-element-write-owners (claims t) (traverse-grid-at t) traverse-grid.Post traverse-grid-Inv-loop traverse-grid-μ-loop
-traverse-grid-element-write-owners t c = cell-small (c .before .before .before .before .pre .1 .cell)
+traverse-grid-element-write-owners t c = cell-small (c .before .before .pre .1 .cell)
 
 traverse-grid-div-y : (t : ℕ) → traverse-grid-lts.Need-div-y (claims t) (traverse-grid-at t) traverse-grid.Post traverse-grid-Inv-loop traverse-grid-μ-loop
-traverse-grid-div-y t c = some-wide (c .before .before .before .before .pre .1 .cell)
+traverse-grid-div-y t c = some-wide (c .before .before .pre .1 .cell)
 
 traverse-grid-rem-x : (t : ℕ) → traverse-grid-lts.Need-rem-x (claims t) (traverse-grid-at t) traverse-grid.Post traverse-grid-Inv-loop traverse-grid-μ-loop
-traverse-grid-rem-x t c = some-wide (c .before .before .before .before .pre .1 .cell)
+traverse-grid-rem-x t c = some-wide (c .before .before .pre .1 .cell)
 
 traverse-grid-loop-holds : (t : ℕ) → traverse-grid-lts.Need-loop-holds (claims t) (traverse-grid-at t) traverse-grid.Post traverse-grid-Inv-loop traverse-grid-μ-loop
 traverse-grid-loop-holds t c =
-    let s = c .before .before .before .before in
+    let s = c .before .before in
     let a = s .args in
     let named = set (a .owners .now) (a .i) (a .name) in
-    (omega arith, sides-none (Turn (sized (a .h) (a .w)) (floats (a .kinds .now)) (a .i) (a .name) named named) _ _ (turn-none (s .pre .1 .small)))
+    (omega arith, λ p _ _. sides-none (Turn (sized (a .h) (a .w)) p (a .i) (a .name) named named) _ _ (turn-none (s .pre .1 .small)))
 
 traverse-grid-toward-requires : (t : ℕ) → traverse-grid-lts.Need-toward-requires (claims t) (traverse-grid-at t) traverse-grid.Post traverse-grid-Inv-loop traverse-grid-μ-loop
-traverse-grid-toward-requires t c κs = (in-place (c .before .before .before .before .before .before .pre .1 .cell), c .loop-test .taken)
+traverse-grid-toward-requires t c κs = (in-place (c .before .before .before .before .pre .1 .cell), c .loop-test .taken)
 
 traverse-grid-enum-known-side : (t : ℕ) → traverse-grid-lts.Need-enum-known-side (claims t) (traverse-grid-at t) traverse-grid.Post traverse-grid-Inv-loop traverse-grid-μ-loop
 traverse-grid-enum-known-side t c = search needs
@@ -90,9 +85,9 @@ traverse-grid-traverse-grid-requires : (t : ℕ) → traverse-grid-lts.Need-trav
 traverse-grid-traverse-grid-requires t c κs =
     let d = c .before .before .before .before in
     let l = d .before .before in
-    let s = l .before .before .before .before .before in
-    let fall = free-set (s .args .owners .now) (s .args .i) (s .args .name) (l .before .if2 .left) (λ e. omega (arith, e, s .pre .1 .small)) in (
-      omega (arith, fall, s .pre .0, l .loop .inv .1 .grown .fewer),
+    let s = l .before .before .before in
+    let fall = free-set (s .args .owners .now) (s .args .i) (s .args .name) (l .before .if1 .left) (λ e. omega (arith, e, s .pre .1 .small)) in (
+      omega (arith, fall, s .pre .0, l .loop .inv .1 (λ _. true) refl (λ _ _. refl) .grown .fewer),
       record { cell = side-cell (s .pre .1 .cell) (l .loop .k) (d .toward .result) (d .toward .ensures) _ (c .before .before .side .given .1); small = s .pre .1 .small },
     )
 
@@ -106,31 +101,34 @@ traverse-grid-loop-less : (t : ℕ) → traverse-grid-lts.Need-loop-less (claims
 traverse-grid-loop-less t c = omega arith
 
 traverse-grid-loop-again : (t : ℕ) → traverse-grid-lts.Need-loop-again (claims t) (traverse-grid-at t) traverse-grid.Post traverse-grid-Inv-loop traverse-grid-μ-loop
-unfolding floats
 traverse-grid-loop-again t c =
     let d = c .before .toward in
     let l = c .before .before .before in
-    let s = l .before .before .before .before .before in
+    let s = l .before .before .before in
     let a = s .args in
-    let named = set (a .owners .now) (a .i) (a .name) in
-    let floating = eq-eqb _ 4 (l .before .before .before .if1 .left) in (
+    let named = set (a .owners .now) (a .i) (a .name) in (
       omega (arith, c .before .before .loop-test .taken),
-      ⊎-elim
-          (λ v. side-at (s .pre .1 .cell) (l .loop .k) (d .result) (d .ensures) (Turn (sized (a .h) (a .w)) (floats (a .kinds .now)) (a .i) (a .name) named (c .match .owners)) _ (v .1 .given .1)
-          (rw (v .5) (turn-more (s .pre .1 .small) floating (side-adjacent (s .pre .1 .cell) (l .loop .k) (d .result) (d .ensures) _ (v .1 .given .1)) (v .4 .ensures) (l .loop .inv .1))))
-          (λ v. side-off (s .pre .1 .cell) (l .loop .k) (d .result) (d .ensures) (Turn (sized (a .h) (a .w)) (floats (a .kinds .now)) (a .i) (a .name) named (c .match .owners)) (v .1 .given .1)
-          (rw (v .2) (l .loop .inv .1)))
+      λ p o only.
+          let T = l .loop .inv .1 p o only in
+          ⊎-elim
+          (λ v. side-at (s .pre .1 .cell) (l .loop .k) (d .result) (d .ensures) (Turn (sized (a .h) (a .w)) p (a .i) (a .name) named (c .match .owners)) _ (v .1 .given .1)
+          (rw (v .5) (turn-more (s .pre .1 .small) o (side-adjacent (s .pre .1 .cell) (l .loop .k) (d .result) (d .ensures) _ (v .1 .given .1)) (v .4 .ensures p (grown-only (s .pre .1 .small) (T .grown) only)) T)))
+          (λ v. side-off (s .pre .1 .cell) (l .loop .k) (d .result) (d .ensures) (Turn (sized (a .h) (a .w)) p (a .i) (a .name) named (c .match .owners)) (v .1 .given .1)
+          (rw (v .2) T))
           (c .match .came),
     )
 
-traverse-grid-returns-3 : (t : ℕ) → traverse-grid-lts.Need-returns-3 (claims t) (traverse-grid-at t) traverse-grid.Post traverse-grid-Inv-loop traverse-grid-μ-loop
-unfolding floats
-traverse-grid-returns-3 t c =
+traverse-grid-returns-2 : (t : ℕ) → traverse-grid-lts.Need-returns-2 (claims t) (traverse-grid-at t) traverse-grid.Post traverse-grid-Inv-loop traverse-grid-μ-loop
+traverse-grid-returns-2 t c =
     let l = c .before .loop in
-    let s = c .before .before .before .before .before .before in
+    let s = c .before .before .before .before in
     let a = s .args in
-    turn-all (s .pre .1 .small) (eq-eqb _ 4 (c .before .before .before .before .if1 .left)) (c .before .before .if2 .left)
-    (sides-all (Turn (sized (a .h) (a .w)) (floats (a .kinds .now)) (a .i) (a .name) (set (a .owners .now) (a .i) (a .name)) (l .owners)) (sized (a .h) (a .w)) (a .i) (l .k) (l .inv .0) (c .loop-test .left) (l .inv .1))
+    let u = c .before .before .if1 .left in
+    λ p only.
+    let o = only (a .i) u in
+    turn-all (s .pre .1 .small) o u
+    (sides-all (Turn (sized (a .h) (a .w)) p (a .i) (a .name) (set (a .owners .now) (a .i) (a .name)) (l .owners)) (sized (a .h) (a .w)) (a .i) (l .k) (l .inv .0) (c .loop-test .left)
+    (l .inv .1 p o (only-set (a .owners .now) (a .i) (a .name) (s .pre .1 .small) u only)))
 
 pub +traverse-grid-spec : {M : Type 1} → statement M
 +traverse-grid-spec = close μ-traverse-grid λ t. traverse-grid-lts.spec (claims t)
@@ -138,11 +136,9 @@ pub +traverse-grid-spec : {M : Type 1} → statement M
     traverse-grid.Post
     traverse-grid-Inv-loop
     traverse-grid-μ-loop
+    (traverse-grid-mul-if1 t)
     (traverse-grid-element-copy-out-if1 t)
     (traverse-grid-returns t)
-    (traverse-grid-mul-if2 t)
-    (traverse-grid-element-copy-out-if2 t)
-    (traverse-grid-returns-2 t)
     (traverse-grid-mul-owners t)
     (traverse-grid-element-write-owners t)
     (traverse-grid-div-y t)
@@ -155,4 +151,4 @@ pub +traverse-grid-spec : {M : Type 1} → statement M
     (traverse-grid-add-k t)
     (traverse-grid-loop-less t)
     (traverse-grid-loop-again t)
-    (traverse-grid-returns-3 t)
+    (traverse-grid-returns-2 t)

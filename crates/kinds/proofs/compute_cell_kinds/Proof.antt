@@ -2,7 +2,6 @@
 -- Assumes nothing.
 use Prim.Native.Nat.{_≤_, _<_, _-_, _*_}
 use mathlib.Core.Path.{_≡_, ap, _∙_}
-use borrow.Author.Needs.{needs}
 use native.Mathlib.Omega.{arith}
 use Rattle.grid.specs.Side.{sized}
 use Rattle.grid.proofs.SideLaws.{area}
@@ -17,39 +16,32 @@ Inv-loop cells blocks arrowed h w kinds₀ owners₀ n i₀ kinds owners i = (i 
 abbrev μ-loop : tie.MeasureT-loop
 μ-loop cells blocks arrowed h w kinds₀ owners₀ n i₀ kinds owners i = n - i
 
-clear-requires : tie.Need-clear-requires Inv-loop μ-loop
-clear-requires c κs = search needs
-
-unname-requires : tie.Need-unname-requires Inv-loop μ-loop
-unname-requires c κs = search needs
-
 mul-n : tie.Need-mul-n Inv-loop μ-loop
 mul-n c =
-    let s = c .before .before .before .before in
-    omega (arith, area (s .args .h) (s .args .w) (s .pre .tall) (s .pre .wide))
+    omega (arith, area (c .args .h) (c .args .w) (c .pre .0 .tall) (c .pre .0 .wide))
 
 loop-holds : tie.Need-loop-holds Inv-loop μ-loop
-loop-holds c = (omega arith, c .before .before .clear .ensures ∙ codes-none _ _ _ _, c .unname .ensures ∙ owners-none _ _ _ _)
+loop-holds c = (omega arith, c .pre .1 ∙ codes-none _ _ _ _, c .pre .2 ∙ owners-none _ _ _ _)
 
 set-kind-requires : tie.Need-set-kind-requires Inv-loop μ-loop
 set-kind-requires c κs =
-    let s = c .before .before .before .before .before .before .before .before in
-    record { tall = s .pre .tall; wide = s .pre .wide; within = c .before .before .loop-test .taken }
+    let s = c .before .before .before .before in
+    record { tall = s .pre .0 .tall; wide = s .pre .0 .wide; within = c .before .before .loop-test .taken }
 
 add-i : tie.Need-add-i Inv-loop μ-loop
 add-i c =
-    let s = c .before .before .before .before .before .before .before .before .before in
-    omega (arith, area (s .args .h) (s .args .w) (s .pre .tall) (s .pre .wide), c .before .before .before .loop-test .taken)
+    let s = c .before .before .before .before .before in
+    omega (arith, area (s .args .h) (s .args .w) (s .pre .0 .tall) (s .pre .0 .wide), c .before .before .before .loop-test .taken)
 
 loop-less : tie.Need-loop-less Inv-loop μ-loop
 loop-less c = omega (arith, c .before .before .before .loop-test .taken)
 
 loop-again : tie.Need-loop-again Inv-loop μ-loop
 loop-again c =
-    let s = c .before .before .before .before .before .before .before .before .before in
+    let s = c .before .before .before .before .before in
     let v = c .before .before .before .before .loop .inv in
     let i = c .before .before .before .before .loop .i in
-    let small : i < 1024 = omega (arith, area (s .args .h) (s .args .w) (s .pre .tall) (s .pre .wide), c .before .before .before .loop-test .taken) in (
+    let small : i < 1024 = omega (arith, area (s .args .h) (s .args .w) (s .pre .0 .tall) (s .pre .0 .wide), c .before .before .before .loop-test .taken) in (
       omega (arith, c .before .before .before .loop-test .taken),
       c .set-kind .ensures .0 ∙ codes-more _ _ _ _ _ i small (v .1),
       c .set-kind .ensures .1 ∙ owners-more _ _ _ _ _ i small (v .2),
@@ -58,7 +50,7 @@ loop-again c =
 returns : tie.Need-returns Inv-loop μ-loop
 returns c =
     let v = c .before .loop .inv in
-    let s = c .before .before .before .before .before .before in
+    let s = c .before .before in
     let e : c .before .loop .i ≡ s .args .h * s .args .w = omega (arith, v .0, c .loop-test .left) in
     (v .1 ∙ ap (codesIn _ _ _ _) e, v .2 ∙ ap (ownersIn _ _ _ _) e)
 
@@ -68,8 +60,6 @@ compute-cell-kinds-spec =
     (tie.spec
     Inv-loop
     μ-loop
-    clear-requires
-    unname-requires
     mul-n
     loop-holds
     set-kind-requires

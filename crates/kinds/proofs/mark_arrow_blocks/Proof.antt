@@ -1,12 +1,11 @@
 -- The loop's invariant: the names of the groups of the arrow cells passed are marked.
 -- Assumes nothing.
 use Prim.Native.Nat.{_≤_, _-_}
-use mathlib.Core.Logic.{⊎-elim}
-use mathlib.Core.Path.{_≡_, _∙_}
+use mathlib.Core.Path.{_≡_}
 use borrow.Author.Needs.{needs}
 use native.Mathlib.Omega.{arith}
 use Rattle.kinds.specs.Inside.{Marks, nameAmong, nameTwice}
-use Rattle.kinds.proofs.Filled.{marks-none, among-none, among-more, twice-none, twice-met, twice-new}
+use Rattle.kinds.proofs.Filled.{marks-none, among-none, among-more, twice-none, twice-next}
 use Rattle.kinds.proofs.mark_arrow_blocks.Statement.{statement}
 use Rattle.kinds.proofs.mark_arrow_blocks.Tie as tie
 
@@ -46,9 +45,9 @@ loop-less c = search needs
 
 loop-again : tie.Need-loop-again Inv-loop μ-loop
 loop-again c =
-    let l = c .before .before .before .before .before .loop in
-    let m = c .before .mark-group .ensures _ (l .inv .1) in
-    (omega arith, among-more _ _ _ (m .marked), ⊎-elim (λ w. w .1 ∙ twice-met _ _ _ (m .before) (w .0 .taken)) (λ w. w .1 ∙ twice-new _ _ _ (m .before) (w .0 .left) (l .inv .2)) (c .if1 .came))
+    let l = c .before .before .before .before .loop in
+    let m = c .mark-group .ensures _ (l .inv .1) in
+    (omega arith, among-more _ _ _ (m .marked), twice-next _ _ _ (m .before) (l .inv .2))
 
 returns : tie.Need-returns Inv-loop μ-loop
 returns c =

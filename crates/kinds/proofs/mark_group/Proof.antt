@@ -1,8 +1,8 @@
 -- A cell in a group marks the group's name.
 -- Assumes nothing.
-use mathlib.Core.Path.{refl}
+use native.Mathlib.Omega.{arith}
 use lib.ListN.{getD}
-use Rattle.kinds.proofs.Filled.{met-none, met-some}
+use Rattle.kinds.proofs.Filled.{met-either}
 use borrow.Author.Needs.{needs}
 use Rattle.kinds.proofs.mark_group.Statement.{statement}
 use Rattle.kinds.proofs.mark_group.Tie as tie
@@ -13,27 +13,22 @@ mul-f c = search needs
 element-copy-out-f : tie.Need-element-copy-out-f
 element-copy-out-f c = search needs
 
-returns : tie.Need-returns
-returns c =
-    let a = c .before .before .args in
-    met-none (getD (a .names .now) (a .i) 0) (c .if1 .taken)
+cast-slot : tie.Need-cast-slot
+cast-slot c = omega arith
 
-cast-met : tie.Need-cast-met
-cast-met c = search needs
+element-copy-out-mark : tie.Need-element-copy-out-mark
+element-copy-out-mark c = omega arith
 
-element-copy-out-met : tie.Need-element-copy-out-met
-element-copy-out-met c = search needs
-
-cast-marks : tie.Need-cast-marks
-cast-marks c = search needs
+pick-mark-requires : tie.Need-pick-mark-requires
+pick-mark-requires c κs = search needs
 
 element-write-marks : tie.Need-element-write-marks
-element-write-marks c = search needs
+element-write-marks c = omega arith
 
-returns-2 : tie.Need-returns-2
-returns-2 c =
+returns : tie.Need-returns
+returns c =
     let a = c .before .before .before .args in
-    met-some (getD (a .names .now) (a .i) 0) _ (c .before .if1 .left) refl
+    λ t k. rw (c .pick-mark .ensures) (met-either (getD (a .names .now) (a .i) 0) t k)
 
 pub mark-group-spec : {M : Type 1} → statement M
 mark-group-spec =
@@ -41,9 +36,8 @@ mark-group-spec =
     (tie.spec
     mul-f
     element-copy-out-f
-    returns
-    cast-met
-    element-copy-out-met
-    cast-marks
+    cast-slot
+    element-copy-out-mark
+    pick-mark-requires
     element-write-marks
-    returns-2)
+    returns)

@@ -1,53 +1,73 @@
 -- The loop's invariant: the floating groups of the cells passed are named.
 -- Assumes nothing.
-use Prim.Native.Nat.{_≤_, _-_, _*_}
+use Prim.Native.Nat.{ℕ, _≤_, _<_, _-_, _*_}
+use mathlib.Core.Bool.{Bool}
+use mathlib.Core.Logic.{⊎-elim}
 use mathlib.Core.Path.{_≡_}
 use native.Mathlib.Omega.{arith}
 use Rattle.grid.specs.Side.{sized}
 use Rattle.grid.proofs.SideLaws.{area}
-use Rattle.kinds.specs.Inside.{floats, Sofar}
-use Rattle.kinds.proofs.Traversal.{sofar-none, sofar-more}
+use Rattle.kinds.specs.Inside.{Unnamed, Sofar}
+use Rattle.kinds.proofs.Traversal.{walked-not, sofar-none, sofar-only, sofar-more}
 use Rattle.kinds.proofs.name_floating_groups.Statement.{statement}
 use Rattle.kinds.proofs.name_floating_groups.Tie as tie
 
 abbrev Inv-loop : tie.InvT-loop
-Inv-loop kinds owners₀ h w n i₀ owners i = (i ≤ n) × Sofar (sized h w) (floats kinds) owners₀ i owners
+Inv-loop owners₀ h w n i₀ owners i = (i ≤ n) × ((p : ℕ → Bool) → Unnamed p owners₀ → Sofar (sized h w) p owners₀ i owners)
 
 abbrev μ-loop : tie.MeasureT-loop
-μ-loop kinds owners₀ h w n i₀ owners i = n - i
+μ-loop owners₀ h w n i₀ owners i = n - i
 
 mul-n : tie.Need-mul-n Inv-loop μ-loop
-mul-n c = omega (arith, area (c .args .h) (c .args .w) (c .pre .0 .tall) (c .pre .0 .wide))
+mul-n c = omega (arith, area (c .args .h) (c .args .w) (c .pre .tall) (c .pre .wide))
 
 loop-holds : tie.Need-loop-holds Inv-loop μ-loop
-loop-holds c = (omega arith, sofar-none (c .pre .1))
+loop-holds c = (omega arith, λ p u. sofar-none (u .all))
+
+mul-if1 : tie.Need-mul-if1 Inv-loop μ-loop
+mul-if1 c =
+    let s = c .before .before in
+    omega (arith, area (s .args .h) (s .args .w) (s .pre .tall) (s .pre .wide), c .loop-test .taken)
+
+element-copy-out-if1 : tie.Need-element-copy-out-if1 Inv-loop μ-loop
+element-copy-out-if1 c =
+    let s = c .before .before in
+    omega (arith, area (s .args .h) (s .args .w) (s .pre .tall) (s .pre .wide), c .loop-test .taken)
 
 cast-traverse-grid : tie.Need-cast-traverse-grid Inv-loop μ-loop
 cast-traverse-grid c =
-    let s = c .before .before .before in
-    omega (arith, area (s .args .h) (s .args .w) (s .pre .0 .tall) (s .pre .0 .wide), c .before .loop-test .taken)
+    let s = c .before .before .before .before .before in
+    omega (arith, area (s .args .h) (s .args .w) (s .pre .tall) (s .pre .wide), c .before .before .before .loop-test .taken)
 
 traverse-grid-requires : tie.Need-traverse-grid-requires Inv-loop μ-loop
 traverse-grid-requires c κs =
-    let s = c .before .before .before in
+    let s = c .before .before .before .before .before in
+    let t = c .before .before .before .loop-test .taken in
     record {
-      cell = record { tall = s .pre .0 .tall; wide = s .pre .0 .wide; within = c .before .loop-test .taken };
-      small = omega (arith, area (s .args .h) (s .args .w) (s .pre .0 .tall) (s .pre .0 .wide), c .before .loop-test .taken);
+      cell = record { tall = s .pre .tall; wide = s .pre .wide; within = t };
+      small = omega (arith, area (s .args .h) (s .args .w) (s .pre .tall) (s .pre .wide), t);
     }
 
 add-i : tie.Need-add-i Inv-loop μ-loop
 add-i c =
     let s = c .before .before .before .before in
-    omega (arith, area (s .args .h) (s .args .w) (s .pre .0 .tall) (s .pre .0 .wide), c .before .before .loop-test .taken)
+    omega (arith, area (s .args .h) (s .args .w) (s .pre .tall) (s .pre .wide), c .before .before .loop-test .taken)
 
 loop-less : tie.Need-loop-less Inv-loop μ-loop
 loop-less c = omega (arith, c .before .before .loop-test .taken)
 
 loop-again : tie.Need-loop-again Inv-loop μ-loop
 loop-again c =
-    let s = c .before .before .before .before in (
-      omega (arith, c .before .before .loop-test .taken),
-      sofar-more (omega (arith, area (s .args .h) (s .args .w) (s .pre .0 .tall) (s .pre .0 .wide), c .before .before .loop-test .taken)) (c .before .before .before .loop .inv .1) (c .traverse-grid .ensures),
+    let s = c .before .before .before .before in
+    let t = c .before .before .loop-test .taken in (
+      omega (arith, t),
+      λ p u.
+          let S = c .before .before .before .loop .inv .1 p u in
+          let small : c .before .before .before .loop .i < 1024 = omega (arith, area (s .args .h) (s .args .w) (s .pre .tall) (s .pre .wide), t) in
+          ⊎-elim
+          (λ v. rw (v .3) (sofar-more small S (v .2 .ensures p (sofar-only (u .only) S))))
+          (λ v. rw (v .1) (sofar-more small S (walked-not small (λ _ e. v .0 .left e))))
+          (c .if1 .came),
     )
 
 returns : tie.Need-returns Inv-loop μ-loop
@@ -55,7 +75,7 @@ returns c =
     let v = c .before .loop .inv in
     let s = c .before .before in
     let e : c .before .loop .i ≡ s .args .h * s .args .w = omega (arith, v .0, c .loop-test .left) in
-    rw e at (v .1)
+    λ p u. rw e at (v .1 p u)
 
 pub name-floating-groups-spec : {M : Type 1} → statement M
 name-floating-groups-spec =
@@ -65,6 +85,8 @@ name-floating-groups-spec =
     μ-loop
     mul-n
     loop-holds
+    mul-if1
+    element-copy-out-if1
     cast-traverse-grid
     traverse-grid-requires
     add-i

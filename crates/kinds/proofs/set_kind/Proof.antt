@@ -5,6 +5,7 @@ use native.Mathlib.Omega.{arith}
 use lib.ListN.{set}
 use Rattle.grid.proofs.SideLaws.{cell-small}
 use Rattle.kinds.specs.Kinds.{kindCode, ownerBy}
+use Rattle.kinds.specs.Inside.{unnamed}
 use borrow.Author.Needs.{needs}
 use Rattle.kinds.proofs.set_kind.Statement.{statement}
 use Rattle.kinds.proofs.set_kind.Tie as tie
@@ -31,7 +32,7 @@ returns : tie.Need-returns
 returns c =
     let a = c .before .before .before .args in
     let k = c .before .before .kind-at .ensures in
-    (ap (set (a .kinds .now) (a .i)) (c .before .kind-code .ensures ∙ ap kindCode k), ap (set (a .owners .now) (a .i)) (c .kind-owner .ensures ∙ ap (ownerBy 1024) k))
+    (ap (set (a .kinds .now) (a .i)) (c .before .kind-code .ensures ∙ ap kindCode k), ap (set (a .owners .now) (a .i)) (c .kind-owner .ensures ∙ ap (ownerBy unnamed) k))
 
 pub set-kind-spec : {M : Type 1} → statement M
 set-kind-spec =

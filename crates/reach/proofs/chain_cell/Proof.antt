@@ -1,6 +1,7 @@
 -- A cell with an owner comes in front of its owner's chain.
 -- Assumes nothing.
-use Rattle.reach.proofs.ChainLaws.{chains-same, chains-more}
+use native.Mathlib.Omega.{arith}
+use Rattle.reach.proofs.ChainLaws.{chains-either}
 use borrow.Author.Needs.{needs}
 use Rattle.reach.proofs.chain_cell.Statement.{statement}
 use Rattle.reach.proofs.chain_cell.Tie as tie
@@ -11,42 +12,46 @@ mul-f c = search needs
 element-copy-out-f : tie.Need-element-copy-out-f
 element-copy-out-f c = search needs
 
-returns : tie.Need-returns
-returns c =
-    let a = c .before .before .args in
-    λ n l C. chains-same (a .owners .now) n (a .i) l C (c .if1 .taken)
+cast-slot : tie.Need-cast-slot
+cast-slot c = omega arith
 
-cast-next : tie.Need-cast-next
-cast-next c = search needs
+mul-first : tie.Need-mul-first
+mul-first c = omega arith
+
+element-copy-out-first : tie.Need-element-copy-out-first
+element-copy-out-first c = omega arith
+
+mul-behind : tie.Need-mul-behind
+mul-behind c = search needs
+
+element-copy-out-behind : tie.Need-element-copy-out-behind
+element-copy-out-behind c = search needs
+
+pick-requires : tie.Need-pick-requires
+pick-requires c κs = search needs
 
 mul-next : tie.Need-mul-next
 mul-next c = search needs
 
-element-copy-out-next : tie.Need-element-copy-out-next
-element-copy-out-next c = search needs
-
-mul-next-2 : tie.Need-mul-next-2
-mul-next-2 c = search needs
-
 element-write-next : tie.Need-element-write-next
 element-write-next c = search needs
 
-cast-head : tie.Need-cast-head
-cast-head c = search needs
+cast-pick : tie.Need-cast-pick
+cast-pick c = search needs
 
-cast-head-2 : tie.Need-cast-head-2
-cast-head-2 c = search needs
+pick-requires-2 : tie.Need-pick-requires-2
+pick-requires-2 c κs = search needs
 
 mul-head : tie.Need-mul-head
-mul-head c = search needs
+mul-head c = omega arith
 
 element-write-head : tie.Need-element-write-head
-element-write-head c = search needs
+element-write-head c = omega arith
 
-returns-2 : tie.Need-returns-2
-returns-2 c =
-    let a = c .before .before .before .args in
-    λ n l C. chains-more (a .owners .now) n (a .i) l C (c .before .if1 .left)
+returns : tie.Need-returns
+returns c =
+    let a = c .before .before .before .before .before .args in
+    λ n l C. rw (c .before .pick .ensures, c .pick2 .ensures) (chains-either (a .owners .now) n (a .i) l C)
 
 pub chain-cell-spec : {M : Type 1} → statement M
 chain-cell-spec =
@@ -54,14 +59,16 @@ chain-cell-spec =
     (tie.spec
     mul-f
     element-copy-out-f
-    returns
-    cast-next
+    cast-slot
+    mul-first
+    element-copy-out-first
+    mul-behind
+    element-copy-out-behind
+    pick-requires
     mul-next
-    element-copy-out-next
-    mul-next-2
     element-write-next
-    cast-head
-    cast-head-2
+    cast-pick
+    pick-requires-2
     mul-head
     element-write-head
-    returns-2)
+    returns)

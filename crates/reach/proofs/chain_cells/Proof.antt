@@ -15,16 +15,8 @@ Inv-loop owners n head₀ next₀ i₀ head next i = (i ≤ n) × ChainsFrom own
 abbrev μ-loop : tie.MeasureT-loop
 μ-loop owners n head₀ next₀ i₀ head next i = i
 
-unname-requires : tie.Need-unname-requires Inv-loop μ-loop
-unname-requires c κs = search needs
-
-unname-requires-2 : tie.Need-unname-requires-2 Inv-loop μ-loop
-unname-requires-2 c κs = search needs
-
 loop-holds : tie.Need-loop-holds Inv-loop μ-loop
-loop-holds c =
-    let s = c .before .before .before .before in
-    (omega arith, rw (c .before .before .unname .ensures, c .unname2 .ensures) (chains-none (s .args .owners .now) (s .args .n) (s .pre)))
+loop-holds c = (omega arith, rw (c .pre .1, c .pre .2) (chains-none (c .args .owners .now) (c .args .n) (c .pre .0)))
 
 sub-i : tie.Need-sub-i Inv-loop μ-loop
 sub-i c = search needs
@@ -53,8 +45,6 @@ chain-cells-spec =
     (tie.spec
     Inv-loop
     μ-loop
-    unname-requires
-    unname-requires-2
     loop-holds
     sub-i
     chain-cell-requires

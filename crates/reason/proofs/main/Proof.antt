@@ -6,7 +6,7 @@ use mathlib.Core.Path.{sym}
 use borrow.Author.Needs.{needs}
 use lib.ListN.{length}
 use lib.Seq.{length-take-le}
-use Rattle.answer.proofs.Writing.{write-within}
+use Rattle.text.proofs.Writing.{write-within}
 use Rattle.reason.proofs.main.Statement.{statement}
 use Rattle.reason.proofs.main.Tie as tie
 

@@ -3,9 +3,9 @@
 use Prim.Native.Nat.{_+_, _*_, _≤_, _<_}
 use native.Mathlib.Omega.{arith}
 use mathlib.Core.Path.{_≡_, _∙_}
-use Rattle.record.specs.Record.{ok, field}
-use Rattle.record.proofs.RecordLaws.{field-ok}
-use Rattle.record.proofs.ReadLaws.{value-ok, fault-refused}
+use Rattle.fields.specs.Fields.{ok, field}
+use Rattle.fields.proofs.OutcomeLaws.{field-ok}
+use Rattle.fields.proofs.ReadLaws.{value-ok, fault-refused}
 use Rattle.record.proofs.ArrowLaws.{answered-done, answered-fault}
 use Rattle.record.proofs.WholeLaws.{whole-cut, whole-cut-2, whole-cut-3, whole-size, whole-cells, whole-arrows, whole-done}
 use borrow.Author.Needs.{needs}

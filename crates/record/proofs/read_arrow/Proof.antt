@@ -5,8 +5,9 @@ use native.Mathlib.Omega.{arith}
 use mathlib.Core.Path.{_≡_, _∙_}
 use mathlib.Core.List.{List, [], _∷_, _++_}
 use lib.ListN.{length, length-append}
-use Rattle.record.specs.Record.{ok}
-use Rattle.record.specs.Inside.{gridWith, openingAt, Kept}
+use Rattle.fields.specs.Fields.{ok}
+use Rattle.fields.specs.Inside.{gridWith, openingAt}
+use Rattle.record.specs.Inside.{Kept}
 use Rattle.record.proofs.KeptLaws.{kept-length}
 use Rattle.record.proofs.ArrowLaws.{answered-done, cell-small, start-ok, start-bad, opening-fits, arrow-bad, arrow-used, arrow-cut, arrow-whole}
 use borrow.Author.Needs.{needs}

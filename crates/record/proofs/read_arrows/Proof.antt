@@ -6,9 +6,11 @@ use mathlib.Core.Path.{_≡_, sym, _∙_}
 use mathlib.Core.List.{List, _++_}
 use lib.ListN.{length}
 use borrow.Author.Needs.{needs}
-use Rattle.record.specs.Record.{ok, arrowAt}
+use Rattle.fields.specs.Fields.{ok}
+use Rattle.record.specs.Record.{arrowAt}
 use Rattle.record.specs.Problem.{arrowCells}
-use Rattle.record.specs.Inside.{fault, gridWith, Kept}
+use Rattle.fields.specs.Inside.{gridWith}
+use Rattle.record.specs.Inside.{fault, Kept}
 use Rattle.record.proofs.KeptLaws.{kept-length}
 use Rattle.record.proofs.ArrowsLaws.{read-arrow, read-fault, ArrowsSoFar, arrows-start, arrows-fault, arrows-room, arrows-more, arrows-filled, arrows-unfilled}
 use Rattle.record.proofs.read_arrows.Statement.{statement}

@@ -4,9 +4,11 @@ use Prim.Native.Nat.{_+_, _-_, _*_, _≤_}
 use native.Mathlib.Omega.{arith}
 use mathlib.Core.Path.{_≡_}
 use borrow.Author.Needs.{needs}
-use Rattle.record.specs.Record.{ok}
-use Rattle.record.specs.Inside.{fault, codeAt}
-use Rattle.record.proofs.ReadLaws.{value-ok, fault-refused, code-small, CellsSoFar, cells-start, cells-fault, cells-more, cells-end}
+use Rattle.fields.specs.Fields.{ok}
+use Rattle.fields.specs.Inside.{codeAt}
+use Rattle.record.specs.Inside.{fault}
+use Rattle.fields.proofs.ReadLaws.{value-ok, fault-refused, code-small}
+use Rattle.record.proofs.CellLaws.{CellsSoFar, cells-start, cells-fault, cells-more, cells-end}
 use Rattle.record.proofs.read_cells.Statement.{statement}
 use Rattle.record.proofs.read_cells.Tie as tie
 

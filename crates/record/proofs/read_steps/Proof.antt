@@ -6,7 +6,8 @@ use mathlib.Core.Path.{_≡_, _∙_}
 use mathlib.Core.List.{List, _++_}
 use lib.ListN.{length, length-append}
 use borrow.Author.Needs.{needs}
-use Rattle.record.specs.Inside.{gridWith, fault, Kept}
+use Rattle.fields.specs.Inside.{gridWith}
+use Rattle.record.specs.Inside.{fault, Kept}
 use Rattle.record.proofs.KeptLaws.{kept-length}
 use Rattle.record.proofs.ArrowLaws.{taken-to, taken-lost, StepsSoFar, steps-start, steps-fault, steps-more, steps-end}
 use Rattle.record.proofs.read_steps.Statement.{statement}

@@ -2,7 +2,7 @@
 -- Assumes nothing.
 use Prim.Native.Nat.{_+_, _*_, _<_}
 use native.Mathlib.Omega.{arith}
-use Rattle.record.specs.Inside.{gridWith}
+use Rattle.fields.specs.Inside.{gridWith}
 use Rattle.record.proofs.ArrowLaws.{stepped-to, stepped-off, cell-small, step-lost, step-used, step-new}
 use borrow.Author.Needs.{needs}
 use Rattle.record.proofs.take_step.Statement.{statement}

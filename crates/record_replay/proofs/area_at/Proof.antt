@@ -23,10 +23,10 @@ byte-at-requires-2 : tie.Need-byte-at-requires-2
 byte-at-requires-2 c κs = search needs
 
 mul-result : tie.Need-mul-result
-mul-result c = omega (arith, small (c .before .byte-at .result) (c .byte-at2 .result) (c .before .byte-at .ensures) (c .byte-at2 .ensures))
+mul-result c = omega (arith, small (c .before .byte-at .result) (c .byte-at2 .result) (c .before .byte-at .ensures .1) (c .byte-at2 .ensures .1))
 
 returns : tie.Need-returns
-returns c = small (c .before .byte-at .result) (c .byte-at2 .result) (c .before .byte-at .ensures) (c .byte-at2 .ensures)
+returns c = small (c .before .byte-at .result) (c .byte-at2 .result) (c .before .byte-at .ensures .1) (c .byte-at2 .ensures .1)
 
 pub area-at-spec : {M : Type 1} → statement M
 area-at-spec =

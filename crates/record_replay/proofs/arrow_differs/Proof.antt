@@ -14,15 +14,6 @@ abbrev μ-loop : tie.MeasureT-loop
 loop-holds : tie.Need-loop-holds Inv-loop μ-loop
 loop-holds c = search needs
 
-mul-if1 : tie.Need-mul-if1 Inv-loop μ-loop
-mul-if1 c = search needs
-
-add-if1 : tie.Need-add-if1 Inv-loop μ-loop
-add-if1 c = search needs
-
-returns : tie.Need-returns Inv-loop μ-loop
-returns c = search needs
-
 add-wider : tie.Need-add-wider Inv-loop μ-loop
 add-wider c = search needs
 
@@ -44,8 +35,8 @@ add-number-at c = search needs
 number-at-requires : tie.Need-number-at-requires Inv-loop μ-loop
 number-at-requires c κs = search needs
 
-returns-2 : tie.Need-returns-2 Inv-loop μ-loop
-returns-2 c = search needs
+returns : tie.Need-returns Inv-loop μ-loop
+returns c = search needs
 
 add-i : tie.Need-add-i Inv-loop μ-loop
 add-i c = search needs
@@ -56,8 +47,8 @@ loop-less c = search needs
 loop-again : tie.Need-loop-again Inv-loop μ-loop
 loop-again c = search needs
 
-returns-3 : tie.Need-returns-3 Inv-loop μ-loop
-returns-3 c = search needs
+returns-2 : tie.Need-returns-2 Inv-loop μ-loop
+returns-2 c = search needs
 
 pub arrow-differs-spec : {M : Type 1} → statement M
 arrow-differs-spec =
@@ -66,9 +57,6 @@ arrow-differs-spec =
     Inv-loop
     μ-loop
     loop-holds
-    mul-if1
-    add-if1
-    returns
     add-wider
     mul-wider
     element-copy-out-wider
@@ -76,8 +64,8 @@ arrow-differs-spec =
     mul-number-at
     add-number-at
     number-at-requires
-    returns-2
+    returns
     add-i
     loop-less
     loop-again
-    returns-3)
+    returns-2)

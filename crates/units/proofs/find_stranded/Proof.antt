@@ -1,8 +1,7 @@
-use mathlib.Core.Path.{_≡_, sym, ap, _∙_}
+use mathlib.Core.Path.{sym, ap, _∙_}
 use lib.ListN.{take}
 use Rattle.units.specs.Arrays.{foundAt, boundaryOf}
-use Rattle.units.proofs.Ranks.{stranded-is}
-use Rattle.units.proofs.Crossings.{first-below}
+use Rattle.units.proofs.Ranks.{stranded-is, first-below}
 use borrow.Author.Needs.{needs}
 use Rattle.units.proofs.find_stranded.Statement.{statement}
 use Rattle.units.proofs.find_stranded.Tie as tie

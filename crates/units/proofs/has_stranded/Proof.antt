@@ -7,7 +7,7 @@ use mathlib.Core.Bool.{false}
 use borrow.Author.Needs.{needs}
 use Rattle.grid.specs.Lists.{any, upto}
 use Rattle.grid.proofs.ListLaws.{mem-any, mem-upto}
-use Rattle.kinds.proofs.Filled.{any-more}
+use Rattle.grid.proofs.AppendLaws.{any-more}
 use Rattle.units.specs.Arrays.{strandedAt}
 use Rattle.units.proofs.Quick.{any-start}
 use Rattle.units.proofs.has_stranded.Statement.{statement}

@@ -1,0 +1,4 @@
+pub mod OutcomeLaws
+pub mod FieldLaws
+pub mod StepLaws
+pub mod ReadLaws

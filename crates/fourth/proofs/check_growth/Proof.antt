@@ -1,0 +1,143 @@
+use Prim.Native.Nat.{_*_, _≤_, _<_}
+use native.Mathlib.Omega.{arith}
+use mathlib.Core.Path.{refl, ap, _∙_}
+use lib.ListN.{length, getD, take}
+use Rattle.grid.proofs.SideLaws.{area}
+use Rattle.growth.proofs.PairChecks.{block-in}
+use Rattle.growth.proofs.PairFinds.{no-growth, growth-found}
+use Rattle.growth.proofs.PairNames.{scene-name, scene-kind}
+use Rattle.shift.proofs.Shifts.{in-few}
+use borrow.Author.Needs.{needs}
+use Rattle.fourth.proofs.check_growth.Statement.{statement}
+use Rattle.fourth.proofs.check_growth.Tie as tie
+
+small : (c : tie.Start) → c .args .h * c .args .w ≤ 1024
+small c = area (c .args .h) (c .args .w) (c .pre .0 .tall) (c .pre .0 .wide)
+
+-- the two squares' places hold cells
+last-cell : (c : tie.Start) → getD (c .args .arrows .now) (c .args .last) 0 < 1024
+last-cell c = c .pre .1 .line .places .cells (c .args .last)
+
+cur-cell : (c : tie.Start) → getD (c .args .arrows .now) (c .args .cur) 0 < 1024
+cur-cell c = c .pre .1 .line .places .cells (c .args .cur)
+
+-- the names of their blocks are cells of the grid
+last-name : (c : tie.Start) → getD (c .args .owners .now) (getD (c .args .arrows .now) (c .args .last) 0) 0 < c .args .h * c .args .w
+last-name c = let p = c .pre .1 in scene-name (p .line .scene) (c .args .last) (omega arith) (omega (arith, p .order)) (p .first)
+
+cur-name : (c : tie.Start) → getD (c .args .owners .now) (getD (c .args .arrows .now) (c .args .cur) 0) 0 < c .args .h * c .args .w
+cur-name c = let p = c .pre .1 in scene-name (p .line .scene) (c .args .cur) (omega (arith, p .order)) (omega arith) (p .second)
+
+mul-last-block : tie.Need-mul-last-block
+mul-last-block c = search needs
+
+element-copy-out-last-block : tie.Need-element-copy-out-last-block
+element-copy-out-last-block c = search needs
+
+cast-last-block : tie.Need-cast-last-block
+cast-last-block c = omega (arith, last-cell (c .before .before))
+
+mul-last-block-2 : tie.Need-mul-last-block-2
+mul-last-block-2 c = omega (arith, last-cell (c .before .before))
+
+element-copy-out-last-block-2 : tie.Need-element-copy-out-last-block-2
+element-copy-out-last-block-2 c = omega (arith, last-cell (c .before .before))
+
+mul-cell : tie.Need-mul-cell
+mul-cell c = search needs
+
+element-copy-out-cell : tie.Need-element-copy-out-cell
+element-copy-out-cell c = search needs
+
+cast-cell : tie.Need-cast-cell
+cast-cell c = omega (arith, cur-cell (c .before .before .before .before))
+
+mul-block : tie.Need-mul-block
+mul-block c = omega (arith, cur-cell (c .before .before .before .before))
+
+element-copy-out-block : tie.Need-element-copy-out-block
+element-copy-out-block c = omega (arith, cur-cell (c .before .before .before .before))
+
+count-reach-requires : tie.Need-count-reach-requires
+count-reach-requires c κs =
+    let s = c .before .before .before .before .before .before .before in
+    let p = s .pre in
+    (record { tall = p .0 .tall; wide = p .0 .wide }, p .2 .chains, omega (arith, cur-name s, small s), p .3)
+
+count-block-requires : tie.Need-count-block-requires
+count-block-requires c κs =
+    let s = c .before .before .before .before .before .before .before .before in
+    let a = s .args in
+    (record { owners = a .owners .now; size = a .h * a .w; chains = s .pre .2 .chains }, omega (arith, last-name s, small s))
+
+add-if1 : tie.Need-add-if1
+add-if1 c =
+    let s = c .before .before .before .before .before .before .before .before .before in
+    let a = s .args in
+    omega (arith, c .count-block .ensures (a .owners .now) (a .h * a .w) (s .pre .2 .chains), in-few (a .kinds .now) (a .owners .now) (getD (a .owners .now) (getD (a .arrows .now) (a .last) 0) 0) (a .h * a .w), small s)
+
+returns : tie.Need-returns
+returns c =
+    let s = c .before .before .before .before .before .before .before .before .before .before in
+    let a = s .args in
+    let p = s .pre .1 in
+    let reach = c .before .before .count-reach .ensures in
+    let size = c .before .count-block .ensures (a .owners .now) (a .h * a .w) (s .pre .2 .chains) in (
+      (λ lines k. no-growth k (p .order) (p .first) (p .second) _ _ refl refl
+          (omega (
+            arith,
+            c .if1 .taken,
+            size ∙ ap length (block-in (a .h) (a .w) lines (a .cells .now) (k .held) (getD (a .owners .now) (getD (a .arrows .now) (a .last) 0) 0)),
+            reach .0 lines (take (a .h * a .w) (a .cells .now)) (k .held) (s .pre .2 .counts) (scene-kind k (a .cur) (omega (arith, p .order)) (omega arith) (p .second)),
+          ))),
+      reach .1,
+    )
+
+reason-for-pair-requires : tie.Need-reason-for-pair-requires
+reason-for-pair-requires c κs =
+    let s = c .before .before .before .before .before .before .before .before .before .before .before in
+    let p = s .pre .1 in
+    (s .pre .0, record { lines = p .line .lines; held = p .line .scene .held }, p .line .scene .inside (s .args .cur) (omega (arith, p .order)) (omega arith))
+
+same-length : tie.Need-same-length
+same-length c = search needs
+
+returns-2 : tie.Need-returns-2
+returns-2 c =
+    let s = c .before .before .before .before .before .before .before .before .before .before .before .before .before .before in
+    let a = s .args in
+    let p = s .pre .1 in
+    let reach = c .before .before .before .before .before .before .count-reach .ensures in
+    let size = c .before .before .before .before .before .count-block .ensures (a .owners .now) (a .h * a .w) (s .pre .2 .chains) in (
+      (λ lines k. growth-found k (p .order) (p .first) (p .second) _ _ refl refl
+          (omega (
+            arith,
+            c .before .before .before .before .if1 .left,
+            size ∙ ap length (block-in (a .h) (a .w) lines (a .cells .now) (k .held) (getD (a .owners .now) (getD (a .arrows .now) (a .last) 0) 0)),
+            reach .0 lines (take (a .h * a .w) (a .cells .now)) (k .held) (s .pre .2 .counts) (scene-kind k (a .cur) (omega (arith, p .order)) (omega arith) (p .second)),
+          ))
+          (c .before .before .reason-for-pair .ensures lines (k .held))),
+      reach .1,
+    )
+
+pub check-growth-spec : {M : Type 1} → statement M
+check-growth-spec =
+    tie.close
+    (tie.spec
+    mul-last-block
+    element-copy-out-last-block
+    cast-last-block
+    mul-last-block-2
+    element-copy-out-last-block-2
+    mul-cell
+    element-copy-out-cell
+    cast-cell
+    mul-block
+    element-copy-out-block
+    count-reach-requires
+    count-block-requires
+    add-if1
+    returns
+    reason-for-pair-requires
+    same-length
+    returns-2)

@@ -1,0 +1,113 @@
+-- Laws of lists that grow at their end, and of tests that agree on a list's members.
+-- Assumes nothing.
+use Prim.Native.Nat.{ℕ, zero, suc, _+_, _<_}
+use native.Mathlib.Nat.{add-zero, zero-add}
+use native.Mathlib.Numerals.{add-one}
+use native.Mathlib.Decide.{ℕ-discrete}
+use native.Mathlib.Omega.{arith}
+use mathlib.Core.Path.{_≡_, refl, sym, ap, _∙_}
+use mathlib.Core.Bool.{Bool, true, false, So, cond, _||_, or-false, false≢true}
+use mathlib.Core.List.{List, [], _∷_, _++_, List·Memᴰ, List·Memᴰ·head, List·Memᴰ·tail}
+use lib.ListN.{length, getD, length-append}
+use Rattle.grid.specs.Lists.{range, upto, filter, any, init, last}
+use Rattle.grid.proofs.ListLaws.{so-false, length-range, getD-range, upto-mem}
+
+-- two tests that pass together are the same
+pub same-test : (a b : Bool) → (So a → So b) → (So b → So a) → a ≡ b
+same-test true b f h = sym (f refl)
+same-test false b f h = sym (so-false b (λ k. false≢true (h k)))
+
+-- by cases on whether j is q
+pub by-eq : {P : Type 0} (j q : ℕ) → (j ≡ q → P) → ((j ≡ q → ⊥) → P) → P
+by-eq {P} j q f h = go (ℕ-discrete j q)
+  where
+    go : Dec (j ≡ q) → P
+    go (yes e) = f e
+    go (no ne) = h ne
+
+-- ---- the numbers below n
+
+-- a range ends with its last number
+range-more : (a k : ℕ) → range a (suc k) ≡ range a k ++ ((a + k) ∷ [])
+unfolding range
+range-more a zero = ap (λ (x : ℕ). x ∷ []) (sym (add-zero a))
+range-more a (suc k) = ap (λ (l : List ℕ). a ∷ l) (range-more (suc a) k ∙ ap (λ (x : ℕ). range (suc a) k ++ (x ∷ [])) (omega arith))
+
+pub upto-more : (k : ℕ) → upto (k + 1) ≡ upto k ++ (k ∷ [])
+unfolding upto
+upto-more k = ap (range 0) (add-one k) ∙ range-more 0 k ∙ ap (λ (x : ℕ). range 0 k ++ (x ∷ [])) (zero-add k)
+
+pub upto-length : (n : ℕ) → length (upto n) ≡ n
+unfolding upto
+upto-length n = length-range 0 n
+
+pub upto-at : (n i : ℕ) → i < n → getD (upto n) i 0 ≡ i
+unfolding upto
+upto-at n i h = getD-range 0 n i h ∙ omega arith
+
+-- ---- lists that are joined
+
+module _ {A : Type 0} where
+  pub any-append : (p : A → Bool) (l m : List A) → any p (l ++ m) ≡ (any p l || any p m)
+  unfolding any
+  any-append p [] m = refl
+  any-append p (x ∷ l) m = go (p x) (any-append p l m)
+    where
+      go : (b : Bool) → any p (l ++ m) ≡ (any p l || any p m) → (b || any p (l ++ m)) ≡ ((b || any p l) || any p m)
+      go true h = refl
+      go false h = h
+
+  pub filter-append : (p : A → Bool) (l m : List A) → filter p (l ++ m) ≡ filter p l ++ filter p m
+  unfolding filter
+  filter-append p [] m = refl
+  filter-append p (x ∷ l) m = go (p x) (filter-append p l m)
+    where
+      go : (b : Bool) → filter p (l ++ m) ≡ filter p l ++ filter p m → cond b (x ∷ filter p (l ++ m)) (filter p (l ++ m)) ≡ cond b (x ∷ filter p l) (filter p l) ++ filter p m
+      go true h = ap (λ t. x ∷ t) h
+      go false h = h
+
+-- a filtered list, one member later
+pub filter-more : (p : ℕ → Bool) (l : List ℕ) (x : ℕ) → filter p (l ++ (x ∷ [])) ≡ filter p l ++ cond (p x) (x ∷ []) []
+unfolding filter
+filter-more p l x = filter-append p l (x ∷ [])
+
+pub last-more : (d : ℕ) (l : List ℕ) (x : ℕ) → last d (l ++ (x ∷ [])) ≡ x
+unfolding last
+last-more d [] x = refl
+last-more d (y ∷ ys) x = last-more y ys x
+
+pub init-more : (l : List ℕ) (x : ℕ) → init (l ++ (x ∷ [])) ≡ l
+unfolding init
+init-more [] x = refl
+init-more (y ∷ []) x = refl
+init-more (y ∷ z ∷ l) x = ap (λ (m : List ℕ). y ∷ m) (init-more (z ∷ l) x)
+
+-- one more cell is tested
+pub any-more : (p : ℕ → Bool) (k : ℕ) → any p (upto (k + 1)) ≡ (any p (upto k) || p k)
+unfolding any
+any-more p k = ap (any p) (upto-more k) ∙ any-append p (upto k) (k ∷ []) ∙ ap (λ (b : Bool). any p (upto k) || b) (or-false (p k))
+
+-- one more cell is counted
+pub count-hit : (p : ℕ → Bool) (k : ℕ) → p k ≡ true → length (filter p (upto (k + 1))) ≡ length (filter p (upto k)) + 1
+unfolding filter
+count-hit p k h = ap (λ (l : List ℕ). length (filter p l)) (upto-more k) ∙ ap length (filter-append p (upto k) (k ∷ [])) ∙ length-append (filter p (upto k)) (filter p (k ∷ [])) ∙ rw h refl
+
+pub count-miss : (p : ℕ → Bool) (k : ℕ) → p k ≡ false → length (filter p (upto (k + 1))) ≡ length (filter p (upto k))
+unfolding filter
+count-miss p k h = ap (λ (l : List ℕ). length (filter p l)) (upto-more k) ∙ ap length (filter-append p (upto k) (k ∷ [])) ∙ length-append (filter p (upto k)) (filter p (k ∷ [])) ∙ rw h (add-zero (length (filter p (upto k))))
+
+-- ---- tests that agree on a list's members
+
+module _ (p q : ℕ → Bool) where
+  pub any-agree : (l : List ℕ) → ((x : ℕ) → List·Memᴰ x l → p x ≡ q x) → any p l ≡ any q l
+  unfolding any
+  any-agree [] h = refl
+  any-agree (x ∷ l) h = rw (h x (List·Memᴰ·head refl), any-agree l (λ y m. h y (List·Memᴰ·tail m))) refl
+
+  pub filter-agree : (l : List ℕ) → ((x : ℕ) → List·Memᴰ x l → p x ≡ q x) → filter p l ≡ filter q l
+  unfolding filter
+  filter-agree [] h = refl
+  filter-agree (x ∷ l) h = rw (h x (List·Memᴰ·head refl), filter-agree l (λ y m. h y (List·Memᴰ·tail m))) refl
+
+  pub filter-upto : (n : ℕ) → ((x : ℕ) → x < n → p x ≡ q x) → filter p (upto n) ≡ filter q (upto n)
+  filter-upto n h = filter-agree (upto n) (λ x m. h x (upto-mem n m))

@@ -1,0 +1,58 @@
+-- Laws of the cells of a board.
+-- Assumes nothing.
+use Prim.Native.Nat.{ℕ, suc, _≤_, _<_}
+use mathlib.Core.Logic.{_⊎_, inl, inr}
+use mathlib.Core.Path.{_≡_}
+use mathlib.Core.Bool.{So}
+use mathlib.Core.List.{List}
+use native.Mathlib.Omega.{arith}
+use native.Mathlib.Decide.{ℕ-discrete, decLt}
+use lib.Dec.{eqb}
+use lib.ListN.{length, getD, List·getD-eq-default}
+use borrow.Author.Tests.{eqb-true, eq-eqb}
+use Rattle.grid.specs.Grid.{Grid, size}
+use Rattle.grid.specs.Cells.{empty, square, undecided}
+
+-- a value for each cell of the grid: 0 empty, 1 square, 2 undecided
+pub record ValidCells (g : Grid) (cells : List ℕ) : Type 0 where
+  pub long : length cells ≡ size g
+  pub three : (i : ℕ) → getD cells i 0 ≤ 2
+
+module _ (cells : List ℕ) (i : ℕ) where
+  -- a cell is one of three
+  pub sq-not-em : So (square cells i) → ¬ So (empty cells i)
+  unfolding square empty
+  sq-not-em s z = omega (arith, eqb-true)
+
+  pub sq-not-un : So (square cells i) → ¬ So (undecided cells i)
+  unfolding square undecided
+  sq-not-un s z = omega (arith, eqb-true)
+
+  pub un-not-em : So (undecided cells i) → ¬ So (empty cells i)
+  unfolding empty undecided
+  un-not-em s z = omega (arith, eqb-true)
+
+  pub cell-cases : getD cells i 0 ≤ 2 → So (empty cells i) ⊎ So (square cells i) ⊎ So (undecided cells i)
+  unfolding empty square undecided
+  cell-cases h = go (ℕ-discrete (getD cells i 0) 0) (ℕ-discrete (getD cells i 0) 1)
+    where
+      go : Dec (getD cells i 0 ≡ 0) → Dec (getD cells i 0 ≡ 1) → So (eqb (getD cells i 0) 0) ⊎ So (eqb (getD cells i 0) 1) ⊎ So (eqb (getD cells i 0) 2)
+      go (yes e) _ = inl (eq-eqb _ _ e)
+      go (no h₀) (yes e) = inr (inl (eq-eqb _ _ e))
+      go (no h₀) (no h₁) = inr (inr (eq-eqb (getD cells i 0) 2 (omega arith)))
+
+  in-range : (v : ℕ) → getD cells i 0 ≡ suc v → i < length cells
+  in-range v e = go (decLt i (length cells))
+    where
+      go : Dec (i < length cells) → i < length cells
+      go (yes h) = h
+      go (no h) = absurd (omega (arith, e, List·getD-eq-default cells 0 {n = i} (omega arith)))
+
+  -- squares and undecided cells lie on the board
+  pub sq-below : So (square cells i) → i < length cells
+  unfolding square
+  sq-below s = in-range 0 (eqb-true _ _ s)
+
+  pub un-below : So (undecided cells i) → i < length cells
+  unfolding undecided
+  un-below s = in-range 1 (eqb-true _ _ s)

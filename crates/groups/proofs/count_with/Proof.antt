@@ -1,0 +1,17 @@
+-- One more, or not.
+-- Assumes nothing.
+use borrow.Author.Needs.{needs}
+use Rattle.groups.proofs.count_with.Statement.{statement}
+use Rattle.groups.proofs.count_with.Tie as tie
+
+add-result : tie.Need-add-result
+add-result c = search needs
+
+returns : tie.Need-returns
+returns c = rw (c .if1 .taken)
+
+returns-2 : tie.Need-returns-2
+returns-2 c = rw (c .if1 .left)
+
+pub count-with-spec : {M : Type 1} → statement M
+count-with-spec = tie.close (tie.spec add-result returns returns-2)

@@ -1,0 +1,26 @@
+-- The bytes behind the last literal are unchanged, and all of them where there is none.
+-- Assumes nothing.
+use Prim.Native.Nat.{ℕ, _*_}
+use mathlib.Core.Path.{_≡_, refl, ap, _∙_}
+use mathlib.Core.List.{List, map}
+use mathlib.Core.Option.{none, some}
+use lib.ListN.{length, drop, length-map}
+use lib.Seq.{drop-at}
+use Rattle.record.specs.Record.{Outcome, ok, refused}
+use Rattle.kinds.specs.Kinds.{word}
+use Rattle.literals.specs.Literals.{Found}
+use Rattle.host.specs.Host.{bytesOf, outputAfter}
+use Rattle.host.proofs.OutputLaws.{bytes-length}
+
+-- how many literals an outcome has
+abbrev pub literalCount : Outcome Found → ℕ
+literalCount (refused k) = 0
+literalCount (ok none) = 0
+literalCount (ok (some r)) = length r
+
+pub behind-unchanged : (o : Outcome Found) (output : List ℕ) → drop (2 * literalCount o) (outputAfter o output) ≡ drop (2 * literalCount o) output
+unfolding outputAfter
+behind-unchanged (refused k) output = refl
+behind-unchanged (ok none) output = refl
+behind-unchanged (ok (some r)) output =
+    drop-at (bytesOf (map word r)) (drop (2 * length r) output) (2 * length r) (bytes-length (map word r) ∙ ap (λ (n : ℕ). 2 * n) (length-map r word))

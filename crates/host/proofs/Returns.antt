@@ -1,0 +1,271 @@
+-- What the host call can return: a count from 0 to 3 × H × W + 1, or a negated refusal of 1 to 5, 7, 9, 11 and 12. Never 6, 8 or 10.
+-- Assumes nothing.
+use Prim.Native.Nat.{ℕ, zero, suc, _+_, _*_, _/_, _%_, _≤_, _<_}
+use native.Mathlib.Omega.{arith}
+use mathlib.Core.Path.{_≡_, refl, sym, _∙_}
+use mathlib.Core.Bool.{Bool, true, false, cond, _&&_, _||_, not, false≢true}
+use mathlib.Core.List.{List, [], _∷_, _++_, List·Memᴰ, List·Memᴰ·head, List·Memᴰ·tail, Memᴰ·cast}
+use mathlib.Core.Option.{none, some}
+use lib.Dec.{eqb, leb, ltb}
+use lib.IntN.{ℤ, pos, negℤ}
+use lib.ListN.{length}
+use borrow.Author.Tests.{ltb-true, leb-false, eqb-true, eq-eqb, not-true}
+use Rattle.grid.specs.Lists.{all, member}
+use Rattle.grid.specs.Grid.{Grid, size, up, down, left, right}
+use Rattle.grid.proofs.ListLaws.{all-mem, and-true}
+use Rattle.record.specs.Record.{Outcome, ok, refused, _>>=_, unless, Puzzle, number, field, cellCodes, there, stepFrom, stepCells, arrowAt, filler, arrowsAt, readRecord}
+use Rattle.record.specs.Valid.{Valid}
+use Rattle.record.proofs.RecordLaws.{record-valid}
+use Rattle.record.proofs.WriteLaws.{size-le}
+use Rattle.grid.specs.Cells.{Literal}
+use Rattle.board.specs.Board.{decide, refusal, decided, cellsAfter, enough}
+use Rattle.board.proofs.Standing.{Standing, none, after-standing, standing-calls, standing-low}
+use Rattle.literals.specs.Literals.{Found}
+use Rattle.reasons.specs.Reasons.{findReason, findOn}
+use Rattle.reasons.proofs.NonEmpty.{reason-some}
+use Rattle.reasons.proofs.ReasonLaws.{found-length}
+use Rattle.reasons.proofs.OnMachine.{on-machine}
+use Rattle.host.specs.Host.{acceptOr, decideBytes, hostFinds, returned}
+
+-- the refusals of the record and of the decisions
+abbrev pub refusals : List ℕ
+refusals = 1 ∷ 2 ∷ 3 ∷ 4 ∷ 5 ∷ 7 ∷ 9 ∷ 12 ∷ []
+
+-- a list of bytes, as a slice of u8 holds them
+abbrev pub Bytes : List ℕ → Type 0
+Bytes l = (x : ℕ) → List·Memᴰ x l → x < 256
+
+-- the numbers that the call can return for the record s
+pub data Returns (s : List ℕ) : ℤ → Type 0 where
+  negated-refusal : {k : ℕ} → List·Memᴰ k (11 ∷ refusals) → Returns s (negℤ (pos k))
+  literal-count : {n : ℕ} (p : Puzzle) → readRecord s ≡ ok p → n ≤ 3 * size (p .grid) + 1 → Returns s (pos n)
+
+-- a refusal of the list, or a value with the property
+pub data Possible (ks : List ℕ) {A : Type 0} (P : A → Type 0) : Outcome A → Type 0 where
+  refusal-of : {k : ℕ} → List·Memᴰ k ks → Possible ks P (refused k)
+  value-of : {a : A} → P a → Possible ks P (ok a)
+
+-- what can be found on a grid: none, or a reason of 1 to 3 × H × W + 1 literals, each a cell's index with a value
+pub data FoundOn (g : Grid) : Found → Type 0 where
+  no-reason : FoundOn g none
+  some-reason : {r : List Literal} → 0 < length r → length r ≤ 3 * size g + 1 → ((l : Literal) → List·Memᴰ l r → (l .0 < size g) × (l .1 ≤ 1)) → FoundOn g (some r)
+
+-- what can be found with the record s, which is accepted
+pub record FoundWith (s : List ℕ) (f : Found) : Type 0 where
+  pub puzzle : Puzzle
+  pub reads : readRecord s ≡ ok puzzle
+  pub few : size (puzzle .grid) ≤ 1024
+  pub found : FoundOn (puzzle .grid) f
+
+-- ---- an outcome step by step
+
+-- any value
+abbrev Any : {A : Type 0} → A → Type 0
+Any a = Unit {0}
+
+-- a test that computes without being opened
+abbrev pub among : ℕ → List ℕ → Bool
+among k [] = false
+among k (j ∷ js) = eqb k j || among k js
+
+pub listed : (k : ℕ) (ks : List ℕ) → among k ks ≡ true → List·Memᴰ k ks
+listed k [] e = absurd (false≢true e)
+listed k (j ∷ js) e = go (eqb k j) refl (λ (f : among k js ≡ true). listed k js f) e
+  where
+    go : (t : Bool) → eqb k j ≡ t → (among k js ≡ true → List·Memᴰ k js) → (t || among k js) ≡ true → List·Memᴰ k (j ∷ js)
+    go true q rest e = List·Memᴰ·head (eqb-true k j q)
+    go false q rest e = List·Memᴰ·tail (rest e)
+
+pub in-list : {k : ℕ} {ks : List ℕ} → List·Memᴰ k ks → among k ks ≡ true
+in-list {k} (List·Memᴰ·head {x = j} e) = rw (eq-eqb k j e) refl
+in-list {k} (List·Memᴰ·tail {x = j} {xs = js} m) = go (eqb k j) (in-list m)
+  where
+    go : (t : Bool) → among k js ≡ true → (t || among k js) ≡ true
+    go true e = refl
+    go false e = e
+
+module _ {ks : List ℕ} {A : Type 0} where
+  then-possible : {B : Type 0} {P : A → Type 0} {Q : B → Type 0} {o : Outcome A} {f : A → Outcome B} → Possible ks P o → ((a : A) → P a → Possible ks Q (f a)) → Possible ks Q (o >>= f)
+  unfolding _>>=_
+  then-possible (refusal-of m) h = refusal-of m
+  then-possible (value-of {a} p) h = h a p
+
+  -- the value is that of the outcome
+  itself : {P : A → Type 0} {o : Outcome A} → Possible ks P o → Possible ks (λ a. o ≡ ok a) o
+  itself (refusal-of m) = refusal-of m
+  itself (value-of p) = value-of refl
+
+  -- a longer list, a weaker property
+  pub possible-more : {P Q : A → Type 0} {js : List ℕ} {o : Outcome A} → ((k : ℕ) → List·Memᴰ k ks → List·Memᴰ k js) → ((a : A) → P a → Q a) → Possible ks P o → Possible js Q o
+  possible-more h q (refusal-of m) = refusal-of (h _ m)
+  possible-more h q (value-of p) = value-of (q _ p)
+
+unless-possible : {ks : List ℕ} (t : Bool) (k : ℕ) → (t ≡ false → List·Memᴰ k ks) → Possible ks Any (unless t k)
+unfolding unless
+unless-possible true k m = value-of tt
+unless-possible false k m = refusal-of (m refl)
+
+-- ---- the record: 1 to 5
+
+field-possible : (s : List ℕ) (at k : ℕ) → Possible refusals Any (field s at k)
+unfolding field
+field-possible s at k = go (leb (at + k) (8 * length s))
+  where
+    go : (t : Bool) → Possible refusals Any (cond t (ok (number s at k)) (refused 1))
+    go true = value-of tt
+    go false = refusal-of (listed 1 refusals refl)
+
+codes-possible : (s : List ℕ) (at n : ℕ) → Possible refusals Any (cellCodes s at n)
+unfolding cellCodes
+codes-possible s at zero = value-of tt
+codes-possible s at (suc n) =
+    then-possible (field-possible s at 2) λ c _. then-possible (unless-possible (ltb c 3) 2 (λ _. listed 2 refusals refl)) λ _ _.
+    then-possible (codes-possible s (at + 2) n) λ cs _. value-of tt
+
+there-possible : (l : List ℕ) → Possible refusals Any (there l)
+unfolding there
+there-possible [] = refusal-of (listed 3 refusals refl)
+there-possible (j ∷ js) = value-of tt
+
+step-possible : (g : Grid) (i d : ℕ) → Possible refusals Any (stepFrom g i d)
+unfolding stepFrom
+step-possible g i zero = there-possible (up g i)
+step-possible g i (suc zero) = there-possible (down g i)
+step-possible g i (suc (suc zero)) = there-possible (left g i)
+step-possible g i (suc (suc (suc d))) = there-possible (right g i)
+
+steps-possible : (s : List ℕ) (g : Grid) (used : List ℕ) (i at k : ℕ) → Possible refusals Any (stepCells s g used i at k)
+unfolding stepCells
+steps-possible s g used i at zero = value-of tt
+steps-possible s g used i at (suc k) =
+    then-possible (field-possible s at 2) λ d _. then-possible (step-possible g i d) λ j _. then-possible (unless-possible (not (member j used)) 4 (λ _. listed 4 refusals refl)) λ _ _.
+    then-possible (steps-possible s g (j ∷ used) j (at + 2) k) λ js _. value-of tt
+
+arrow-possible : (s : List ℕ) (g : Grid) (used : List ℕ) (at : ℕ) → Possible refusals Any (arrowAt s g used at)
+unfolding arrowAt
+arrow-possible s g used at =
+    then-possible (field-possible s at 5) λ y _. then-possible (field-possible s (at + 5) 5) λ x _. then-possible (field-possible s (at + 10) 10) λ k _.
+    then-possible (unless-possible (ltb y (g .height) && ltb x (g .width)) 3 (λ _. listed 3 refusals refl)) λ _ _.
+    then-possible (unless-possible (not (member (y * g .width + x) used)) 4 (λ _. listed 4 refusals refl)) λ _ _.
+    then-possible (steps-possible s g ((y * g .width + x) ∷ used) (y * g .width + x) (at + 20) k) λ js _. value-of tt
+
+arrows-possible : (s : List ℕ) (g : Grid) (used : List ℕ) (at m : ℕ) → Possible refusals Any (arrowsAt s g used at m)
+unfolding arrowsAt
+arrows-possible s g used at zero = then-possible (unless-possible (filler s at) 5 (λ _. listed 5 refusals refl)) λ _ _. value-of tt
+arrows-possible s g used at (suc m) =
+    then-possible (arrow-possible s g used at) λ a _. then-possible (arrows-possible s g (a ++ used) (at + 18 + 2 * length a) m) λ rest _. value-of tt
+
+read-possible : (s : List ℕ) → Possible refusals Any (readRecord s)
+unfolding readRecord
+read-possible s =
+    then-possible (field-possible s 0 5) λ h _. then-possible (field-possible s 5 5) λ w _. then-possible (field-possible s 10 11) λ m _.
+    let g : Grid = record { height = h + 1; width = w + 1 } in
+    then-possible (codes-possible s 21 (size g)) λ cs _. then-possible (arrows-possible s g [] (21 + 2 * size g) m) λ rest _. value-of tt
+
+-- ---- the decisions: 12, 7, 9, and 8 only for a value that two bytes don't have
+
+module _ {ks : List ℕ} (has : (k : ℕ) → List·Memᴰ k refusals → List·Memᴰ k ks) where
+  accept-possible : {P : List Literal → Type 0} (k : ℕ) {o : Outcome (List Literal)} → (0 < k → List·Memᴰ k ks) → Possible ks P o → Possible ks P (acceptOr k o)
+  unfolding acceptOr
+  accept-possible zero m p = p
+  accept-possible (suc k) m p = refusal-of (m (omega arith))
+
+  -- 8 is due to a value above 1 alone
+  decide-refusal : (g : Grid) (i v : ℕ) (ds : List Literal) → (1 < v → List·Memᴰ 8 ks) → 0 < refusal g (decide i v) ds → List·Memᴰ (refusal g (decide i v) ds) ks
+  unfolding refusal
+  decide-refusal g i v ds eight = go (ltb i (size g)) (leb v 1) refl (decided ds i)
+    where
+      go : (a b : Bool) → leb v 1 ≡ b → (c : Bool) → 0 < cond a (cond b (cond c 9 0) 8) 7 → List·Memᴰ (cond a (cond b (cond c 9 0) 8) 7) ks
+      go true true e true p = has 9 (listed 9 refusals refl)
+      go true true e false p = absurd (omega arith)
+      go true false e c p = eight (leb-false v 1 e)
+      go false b e c p = has 7 (listed 7 refusals refl)
+
+  decide-possible : (g : Grid) (bytes : List ℕ) → ((a b : ℕ) → List·Memᴰ a bytes → List·Memᴰ b bytes → 1 < (a * 256 + b) / 32768 → List·Memᴰ 8 ks)
+      → {ds : List Literal} → Standing g ds → Possible ks (Standing g) (decideBytes g ds bytes)
+  unfolding decideBytes
+  decide-possible g [] eight s = value-of s
+  decide-possible g (a ∷ []) eight s = refusal-of (has 12 (listed 12 refusals refl))
+  decide-possible g (a ∷ b ∷ rest) eight {ds} s = go (eqb ((a * 256 + b) % 32768 / 1024) 0)
+      (accept-possible (refusal g (decide ((a * 256 + b) % 1024) ((a * 256 + b) / 32768)) ds)
+      (decide-refusal g ((a * 256 + b) % 1024) ((a * 256 + b) / 32768) ds (eight a b (List·Memᴰ·head refl) (List·Memᴰ·tail (List·Memᴰ·head refl))))
+      (decide-possible g rest (λ c d p q. eight c d (List·Memᴰ·tail (List·Memᴰ·tail p)) (List·Memᴰ·tail (List·Memᴰ·tail q)))
+      (after-standing g (decide ((a * 256 + b) % 1024) ((a * 256 + b) / 32768)) s)))
+    where
+      go : (t : Bool) {o : Outcome (List Literal)} → Possible ks (Standing g) o → Possible ks (Standing g) (cond t o (refused 12))
+      go true h = h
+      go false h = refusal-of (has 12 (listed 12 refusals refl))
+
+-- ---- the call
+
+-- a record has at most 1,024 cells
+pub few-cells : (s : List ℕ) (p : Puzzle) → readRecord s ≡ ok p → size (p .grid) ≤ 1024
+few-cells s p e = let v : Valid p = record-valid s e in size-le (p .grid) (v .high .0) (v .high .1)
+
+found-with : (s : List ℕ) (p : Puzzle) → readRecord s ≡ ok p → {ds : List Literal} → Standing (p .grid) ds → FoundWith s (findOn p ds)
+found-with s p e {ds} st = record { puzzle = p; reads = e; few = few-cells s p e; found = go (findOn p ds) refl }
+  where
+    go : (f : Found) → findOn p ds ≡ f → FoundOn (p .grid) f
+    go none q = no-reason
+    go (some r) q =
+        let cells = cellsAfter (p .grid) ds in
+        let q′ : findReason p (cellsAfter (p .grid) ds) ≡ some r = unfold findOn in q in
+        let c = standing-calls (p .grid) st in
+        some-reason {r = r} (reason-some p cells r q′) (found-length s p e cells r q′)
+        (λ l m. standing-low st l (rw (c .1) at (on-machine s p e (c .0) (c .0) .stands r (rw (c .1) q) l m)))
+
+-- what the call can find, where the list has 11 if the output may be too short, and 8 if a value may be above 1
+pub host-possible : {ks : List ℕ} → ((k : ℕ) → List·Memᴰ k refusals → List·Memᴰ k ks) → (s decisions : List ℕ) (k : ℕ)
+    → ((p : Puzzle) → readRecord s ≡ ok p → k < 2 * (3 * size (p .grid) + 1) → List·Memᴰ 11 ks)
+    → ((a b : ℕ) → List·Memᴰ a decisions → List·Memᴰ b decisions → 1 < (a * 256 + b) / 32768 → List·Memᴰ 8 ks)
+    → Possible ks (FoundWith s) (hostFinds s decisions k)
+unfolding hostFinds enough
+host-possible has s decisions k eleven eight =
+    then-possible (itself (possible-more has (λ p _. tt {0}) (read-possible s))) λ p e.
+    then-possible (unless-possible (leb (2 * (3 * size (p .grid) + 1)) k) 11 (λ f. eleven p e (leb-false (2 * (3 * size (p .grid) + 1)) k f))) λ _ _.
+    then-possible (decide-possible has (p .grid) decisions eight none) λ ds st. value-of (found-with s p e st)
+
+-- two bytes have no value above 1
+pub byte-value : {bytes : List ℕ} → Bytes bytes → (a b : ℕ) → List·Memᴰ a bytes → List·Memᴰ b bytes → 1 < (a * 256 + b) / 32768 → ⊥
+byte-value low a b p q h = omega (arith, low a p, low b q)
+
+-- every number that it returns is one of them
+pub host-returns : (s decisions : List ℕ) (k : ℕ) → Bytes decisions → Returns s (returned (hostFinds s decisions k))
+unfolding returned
+host-returns s decisions k low =
+    go (host-possible (λ _ m. List·Memᴰ·tail m) s decisions k (λ _ _ _. List·Memᴰ·head refl) (λ a b p q h. absurd (byte-value low a b p q h)))
+  where
+    counted : {f : Found} (p : Puzzle) → readRecord s ≡ ok p → FoundOn (p .grid) f → Returns s (returned (ok f))
+    counted p e no-reason = literal-count {n = 0} p e (omega arith)
+    counted p e (some-reason full few each) = literal-count p e few
+
+    go : {o : Outcome Found} → Possible (11 ∷ refusals) (FoundWith s) o → Returns s (returned o)
+    go (refusal-of m) = negated-refusal m
+    go (value-of f) = counted (f .puzzle) (f .reads) (f .found)
+
+-- two numbers with one negation are the same
+negated-same : (j n : ℕ) → negℤ (pos j) ≡ negℤ (pos n) → j ≡ n
+negated-same zero zero e = refl
+negated-same zero (suc n) e = let z : _≡_ {A = ℕ} 0 1 = cc in absurd (omega arith)
+negated-same (suc j) zero e = let z : _≡_ {A = ℕ} 0 1 = cc in absurd (omega arith)
+negated-same (suc j) (suc n) e = cc
+
+-- a count is no negated number
+not-count : (n c : ℕ) → 0 < n → pos c ≡ negℤ (pos n) → ⊥
+not-count zero c h e = omega arith
+not-count (suc n) c h e = let z : _≡_ {A = ℕ} 0 1 = cc in omega arith
+
+-- 6, 8 and 10 are no refusals of the call
+other : (n : ℕ) → List·Memᴰ n (6 ∷ 8 ∷ 10 ∷ []) → (0 < n) × (among n (11 ∷ refusals) ≡ false)
+unfolding all
+other n m =
+    let t = and-true (ltb 0 n) (not (among n (11 ∷ refusals))) (all-mem (λ j. ltb 0 j && not (among j (11 ∷ refusals))) (6 ∷ 8 ∷ 10 ∷ []) refl n m) in
+    (ltb-true 0 n (t .0), not-true (among n (11 ∷ refusals)) (t .1))
+
+-- so it never returns the negated 6, 8 or 10
+pub never-returned : (s decisions : List ℕ) (k : ℕ) → Bytes decisions → (n : ℕ) → List·Memᴰ n (6 ∷ 8 ∷ 10 ∷ []) → returned (hostFinds s decisions k) ≡ negℤ (pos n) → ⊥
+never-returned s decisions k low n o e = go (host-returns s decisions k low) e
+  where
+    go : {z : ℤ} → Returns s z → z ≡ negℤ (pos n) → ⊥
+    go (negated-refusal {k = j} m) q = false≢true (sym (other n o .1) ∙ in-list (Memᴰ·cast (sym (negated-same j n q)) m))
+    go (literal-count {n = c} p r h) q = not-count n c (other n o .0) q

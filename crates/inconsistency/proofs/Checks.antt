@@ -1,0 +1,125 @@
+-- What the searches for reasons 1 and 2 found, as an answer and a lent buffer.
+-- Assumes nothing.
+use Prim.Native.Nat.{ℕ, suc, _*_, _≤_, _<_}
+use native.Mathlib.Omega.{arith}
+use mathlib.Core.Bool.{true, false}
+use mathlib.Core.Path.{_≡_, refl, subst, _∙_}
+use mathlib.Core.List.{List, List·Memᴰ}
+use lib.ListN.{length, getD, take}
+use lib.Seq.{take-suc}
+use Rattle.grid.specs.Lists.{last}
+use Rattle.grid.specs.Grid.{size}
+use Rattle.grid.specs.Side.{sized}
+use Rattle.grid.proofs.SideLaws.{area}
+use Rattle.grid.proofs.ListLaws.{flatMap-mem}
+use Rattle.grid.proofs.AppendLaws.{last-more}
+use Rattle.record.specs.Record.{Puzzle}
+use Rattle.record.specs.Problem.{arrowCells}
+use Rattle.groups.specs.Groups.{marksOf, maskOf, labelArray, counts}
+use Rattle.groups.specs.Arrows.{onArrow, Line, linesOf}
+use Rattle.groups.proofs.MarkLaws.{arrow-marks}
+use Rattle.groups.proofs.LabelLaws.{labels-potential, labels-blocks}
+use Rattle.kinds.specs.Inside.{puzzleWith, Held}
+use Rattle.kinds.specs.Kinds.{view}
+use Rattle.literals.specs.declared.Finding.{Finding}
+use Rattle.literals.specs.declared.Finding.the-variants.{Nothing, Reason, Refused}
+use Rattle.literals.specs.Literals.{Found}
+use Rattle.units.specs.Units.{reason1, reason2}
+use Rattle.growth.specs.Growth.{reason34}
+use Rattle.inconsistency.specs.Reasons.{findReason}
+use Rattle.units.specs.Arrays.{PotentialArrays, BlockArrays, Listed}
+use Rattle.inconsistency.specs.Arrays.{ArrowArrays, Ready}
+use Rattle.literals.specs.Buffer.{FoundAs, Fit}
+use Rattle.growth.specs.Pairs.{Whole, viewOn}
+use Rattle.literals.proofs.Findings.{nothing-found, not-refused, found-first, found-next}
+use Rattle.units.proofs.Checks.{sized-size}
+
+pub last-taken : (l : List ℕ) (k : ℕ) → k < length l → last 0 (take (suc k) l) ≡ getD l k 0
+last-taken l k h = rw (take-suc l k 0 h) (last-more 0 (take k l) (getD l k 0))
+
+pub last-none : (l : List ℕ) → last 0 (take 0 l) ≡ 0
+unfolding last
+last-none l = refl
+
+-- ---- the arrays of a board
+
+module _ (h w : ℕ) (tall : h ≤ 32) (wide : w ≤ 32) {arrows ends : List ℕ} {number total : ℕ} (d : ArrowArrays (h * w) arrows ends number total) where
+  -- the marks of the cells in the array are those of the arrow cells
+  pub marks-are : marksOf (take total arrows) ≡ maskOf (sized h w) (onArrow (linesOf arrows ends number))
+  unfolding arrowCells
+  marks-are = arrow-marks (sized h w) (linesOf arrows ends number) (take total arrows) (rw (← sized-size h w) (area h w tall wide)) (d .cells-are) inside
+    where
+      inside : (i : ℕ) → List·Memᴰ i (take total arrows) → i < size (sized h w)
+      inside i m =
+          let r = flatMap-mem (λ (a : List ℕ). a) (linesOf arrows ends number) (rw (d .cells-are) at m) in
+          rw (← sized-size h w) (d .inside (r .0) (r .1) i (r .2))
+
+  -- the cells in the array are a line of arrows
+  pub line-is : Line arrows total
+  line-is = record { long = d .places .long; within = d .within; cells = λ k h. d .places .cells k }
+
+  pub listed-is : {onarrow : List ℕ} → onarrow ≡ marksOf (take total arrows) → Listed arrows total onarrow
+  listed-is m = record { line = line-is; marks = m }
+
+  -- the potential groups and the blocks that were labelled
+  pub potentials-held : (cells : List ℕ) {labels onarrow : List ℕ} → labels ≡ labelArray (sized h w) (counts true (take (h * w) cells)) → onarrow ≡ marksOf (take total arrows)
+      → PotentialArrays (puzzleWith (sized h w) (linesOf arrows ends number)) (take (h * w) cells) labels onarrow
+  potentials-held cells l m = record {
+    groups-are = l ∙ labels-potential (sized h w) (take (h * w) cells) (rw (← sized-size h w) (area h w tall wide));
+    arrows-are = m ∙ marks-are;
+  }
+
+  pub blocks-held : (cells : List ℕ) {labels onarrow : List ℕ} → labels ≡ labelArray (sized h w) (counts false (take (h * w) cells)) → onarrow ≡ marksOf (take total arrows)
+      → BlockArrays (puzzleWith (sized h w) (linesOf arrows ends number)) (take (h * w) cells) labels onarrow
+  blocks-held cells l m = record {
+    blocks-are = l ∙ labels-blocks (sized h w) (take (h * w) cells) (rw (← sized-size h w) (area h w tall wide));
+    arrows-are = m ∙ marks-are;
+  }
+
+-- a board that is ready, with its kinds
+pub whole-of : {h w : ℕ} {cells arrows ends blocks arrowed kinds owners : List ℕ} {number : ℕ} → Ready h w cells arrows ends number blocks arrowed
+    → Held (viewOn h w (linesOf arrows ends number) cells) kinds owners → Whole h w cells arrows ends kinds owners number
+whole-of r k = record {
+  held = k;
+  places = r .drawn .places;
+  many = r .drawn .many;
+  ends-long = omega (arith, r .drawn .many, r .drawn .ends-long);
+  ends-low = r .drawn .ends-low;
+  ends-rise = r .drawn .ends-rise;
+  inside = r .drawn .inside;
+  few = r .drawn .few;
+}
+
+-- ---- one search after another
+
+-- an answer that is nothing leaves the buffer, and none is a refusal
+pub same-after : (f : Found) {a b : List ℕ} {r : Finding} → FoundAs f a b r → r ≡ Nothing → b ≡ a
+same-after f {a} {b} x e = nothing-found f (subst (FoundAs f a b) e x) .1
+
+pub never-refused : (f : Found) {a b : List ℕ} {r : Finding} {k : ℕ} → FoundAs f a b r → r ≡ Refused k → ⊥
+never-refused f {a} {b} x e = not-refused f (subst (FoundAs f a b) e x)
+
+-- the buffer is as long as it was
+pub fit-after : {h w : ℕ} {a b : List ℕ} → Fit h w a → b ≡ a → Fit h w b
+fit-after f e = record { tall = f .tall; wide = f .wide; room = rw e (f .room) }
+
+module _ (p : Puzzle) (cells : List ℕ) {a b : List ℕ} {r : Finding} (x : FoundAs (reason1 p cells) a b r) where
+  -- reason 1 applies
+  pub first-found : {k : ℕ} → r ≡ Reason k → FoundAs (findReason p cells) a b (Reason k)
+  unfolding findReason
+  first-found e = found-first (reason1 p cells) _ (subst (FoundAs (reason1 p cells) a b) e x)
+
+  module _ (e : r ≡ Nothing) {c : List ℕ} {q : Finding} (y : FoundAs (reason2 p cells) b c q) where
+    -- reason 2 applies
+    pub second-found : {k : ℕ} → q ≡ Reason k → FoundAs (findReason p cells) a c (Reason k)
+    unfolding findReason
+    second-found d =
+        found-next (reason1 p cells) _ (subst (FoundAs (reason1 p cells) a b) e x)
+        (found-first (reason2 p cells) _ (subst (FoundAs (reason2 p cells) b c) d y))
+
+    -- neither applies
+    pub rest-found : q ≡ Nothing → {t : List ℕ} {r′ : Finding} → FoundAs (reason34 (view p cells)) c t r′ → FoundAs (findReason p cells) a t r′
+    unfolding findReason
+    rest-found d z =
+        found-next (reason1 p cells) _ (subst (FoundAs (reason1 p cells) a b) e x)
+        (found-next (reason2 p cells) _ (subst (FoundAs (reason2 p cells) b c) d y) z)

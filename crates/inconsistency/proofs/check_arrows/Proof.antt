@@ -1,0 +1,52 @@
+-- `inconsistency::check_arrows` meets its contract: the kinds are those of the board, the cells of each owner are linked and counted, and the search goes on from there.
+-- Assumes nothing.
+use mathlib.Core.Path.{refl}
+use Rattle.grid.proofs.SideLaws.{area}
+use Rattle.groups.specs.Arrows.{linesOf}
+use Rattle.inconsistency.proofs.Checks.{whole-of}
+use borrow.Author.Needs.{needs}
+use Rattle.inconsistency.proofs.check_arrows.Statement.{statement}
+use Rattle.inconsistency.proofs.check_arrows.Tie as tie
+
+compute-board-info-detailed-requires : tie.Need-compute-board-info-detailed-requires
+compute-board-info-detailed-requires c κs = let s = c .before .before .before in (record { tall = s .pre .0 .tall; wide = s .pre .0 .wide }, refl, refl)
+
+mul-chain-cells : tie.Need-mul-chain-cells
+mul-chain-cells c = search needs
+
+chain-cells-requires : tie.Need-chain-cells-requires
+chain-cells-requires c κs = let s = c .before .before .before .before .before .before .before in (area (s .args .h) (s .args .w) (s .pre .0 .tall) (s .pre .0 .wide), refl, refl)
+
+mul-count-cells : tie.Need-mul-count-cells
+mul-count-cells c = search needs
+
+count-cells-requires : tie.Need-count-cells-requires
+count-cells-requires c κs = let s = c .before .before .before .before .before .before .before .before .before .before in (area (s .args .h) (s .args .w) (s .pre .0 .tall) (s .pre .0 .wide), refl)
+
+search-pairs-requires : tie.Need-search-pairs-requires
+search-pairs-requires c κs =
+    let s = c .before .before .before .before .before .before .before .before .before .before .before .before .before .before .before .before .before in (
+      s .pre .0,
+      whole-of (s .pre .1)
+          (c .before .before .before .before .before .before .before .before .before .before .before .before .before .compute-board-info-detailed .ensures (linesOf (s .args .arrows .now) (s .args .ends .now) (s .args .number)) (s .pre .1 .held)),
+      record { chains = c .before .before .before .before .before .before .before .before .before .chain-cells .ensures; counts = c .before .before .before .before .before .before .count-cells .ensures },
+    )
+
+same-length : tie.Need-same-length
+same-length c = search needs
+
+returns : tie.Need-returns
+returns c = search needs
+
+pub check-arrows-spec : {M : Type 1} → statement M
+check-arrows-spec =
+    tie.close
+    (tie.spec
+    compute-board-info-detailed-requires
+    mul-chain-cells
+    chain-cells-requires
+    mul-count-cells
+    count-cells-requires
+    search-pairs-requires
+    same-length
+    returns)

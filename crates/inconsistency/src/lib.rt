@@ -1,0 +1,132 @@
+// The first reason that applies, on the arrays of a board.
+use literals::Finding;
+ghost use mathlib.Core.Path.{_≡_};
+ghost use Prim.Native.Nat.{_*_, _≤_};
+ghost use lib.ListN.{length, take};
+ghost use Rattle.grid.specs.Lists.{last};
+ghost use Rattle.grid.specs.Side.{sized};
+ghost use Rattle.growth.specs.Growth.{reason34};
+ghost use Rattle.inconsistency.specs.Reasons.{findReason};
+ghost use Rattle.groups.specs.Arrows.{linesOf};
+ghost use Rattle.inconsistency.specs.Arrays.{ArrowArrays, Ready};
+ghost use Rattle.literals.specs.Buffer.{Fit, FoundAs};
+ghost use Rattle.growth.specs.Pairs.{viewOn};
+ghost use Rattle.kinds.specs.Inside.{puzzleWith};
+
+// How many cells the arrows have together: the end of the last one.
+fn arrow_total(ends: &[u16; 1024], number: usize) -> usize
+    requires { ⌜ (number ≤ 1024) × (length (now ends) ≡ 1024) ⌝ }
+    ensures { λ r. ⌜ r ≡ last 0 (take number (now (ends .entry))) ⌝ }
+{
+    if number == 0 {
+        return 0;
+    }
+    grid::wide(ends[number - 1])
+}
+
+// Reasons 3 and 4, if one applies.
+fn check_arrows(
+    cells: &[u8; 1024],
+    arrows: &[u16; 1024],
+    ends: &[u16; 1024],
+    number: usize,
+    blocks: &[u16; 1024],
+    arrowed: &[u8; 1024],
+    h: usize,
+    w: usize,
+    buffer: &mut [u16],
+) -> Finding
+    requires { ⌜ Fit h w (now buffer) × Ready h w (now cells) (now arrows) (now ends) number (now blocks) (now arrowed) ⌝ }
+    ensures { λ r. ⌜ FoundAs (reason34 (viewOn h w (linesOf (now (arrows .entry)) (now (ends .entry)) number) (now (cells .entry)))) (now (buffer .entry)) (now (buffer .exit)) r ⌝ }
+{
+    let mut kinds = [0u8; 1024];
+    let mut owners = [1024u16; 1024];
+    kinds::compute_board_info_detailed(cells, blocks, arrowed, h, w, &mut kinds, &mut owners);
+    let mut head = [1024u16; 1024];
+    let mut next = [1024u16; 1024];
+    let mut sizes = [0u16; 1024];
+    reach::chain_cells(&owners, h * w, &mut head, &mut next);
+    near::count_cells(&owners, h * w, &mut sizes);
+    pairs::search_pairs(
+        cells,
+        arrows,
+        ends,
+        number,
+        &kinds,
+        &owners,
+        &head,
+        &next,
+        &sizes,
+        h,
+        w,
+        buffer,
+    )
+}
+
+// The first reason that applies, on the arrays of a board that is known to be well formed: for `find`, which has tested its board, and
+// for a caller that has opened the board itself.
+pub fn find_inconsistency<'a>(
+    cells: &'a [u8; 1024],
+    arrows: &'a [u16; 1024],
+    ends: &'a [u16; 1024],
+    number: usize,
+    h: usize,
+    w: usize,
+    buffer: &mut [u16],
+) -> Finding
+    requires { ⌜ Fit h w (now buffer) × ArrowArrays (h * w) (now arrows) (now ends) number (last 0 (take number (now ends))) ⌝ }
+    ensures { λ r. ⌜ FoundAs (findReason (puzzleWith (sized h w) (linesOf (now (arrows .entry)) (now (ends .entry)) number)) (take (h * w) (now (cells .entry)))) (now (buffer .entry)) (now (buffer .exit)) r ⌝ }
+{
+    let mut onarrow = [0u8; 1024];
+    let mut labels = [0u16; 1024];
+    let total = arrow_total(ends, number);
+    groups::mark_arrow_cells(arrows, total, &mut onarrow);
+    groups::compute_connected_components(cells, true, h, w, &mut labels);
+    let first = units::check_potential_groups(
+        cells,
+        arrows,
+        total,
+        &labels,
+        &onarrow,
+        h,
+        w,
+        buffer,
+    );
+    match first {
+        Finding::Nothing => {}
+        Finding::Reason(count) => {
+            return Finding::Reason(count);
+        }
+        Finding::Refused(k) => {
+            return Finding::Refused(k);
+        }
+    }
+    groups::compute_connected_components(cells, false, h, w, &mut labels);
+    let mut arrowed = [0u8; 1024];
+    let second = paths::check_blocks(
+        cells,
+        arrows,
+        total,
+        &labels,
+        &onarrow,
+        &mut arrowed,
+        h,
+        w,
+        buffer,
+    );
+    match second {
+        Finding::Nothing => check_arrows(
+            cells,
+            arrows,
+            ends,
+            number,
+            &labels,
+            &arrowed,
+            h,
+            w,
+            buffer,
+        ),
+        Finding::Reason(count) => Finding::Reason(count),
+        Finding::Refused(k) => Finding::Refused(k),
+    }
+}

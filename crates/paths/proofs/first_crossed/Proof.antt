@@ -1,0 +1,103 @@
+use mathlib.Core.Logic.{⊎-elim}
+use mathlib.Core.Path.{_≡_, refl, sym, _∙_}
+use mathlib.Core.Bool.{Bool, true, false, _&&_, not}
+use mathlib.Core.List.{List}
+use Prim.Native.Nat.{ℕ, _-_, _≤_}
+use native.Mathlib.Omega.{arith}
+use lib.Dec.{eqb}
+use lib.ListN.{getD}
+use borrow.Author.Needs.{needs}
+use borrow.Author.Tests.{eq-eqb, ne-eqb}
+use Rattle.grid.specs.Lists.{range, upto}
+use Rattle.units.specs.Arrays.{firstName}
+use Rattle.units.proofs.Ranks.{first-start, first-hit, first-miss, first-end}
+use Rattle.paths.proofs.first_crossed.Statement.{statement}
+use Rattle.paths.proofs.first_crossed.Tie as tie
+
+-- f names a block that has a second arrow cell
+abbrev test : List ℕ → List ℕ → ℕ → Bool
+test blocks second f = eqb (getD blocks f 0) f && not (eqb (getD second f 0) 1024)
+
+module _ (blocks second : List ℕ) (f : ℕ) where
+  crossed : getD blocks f 0 ≡ f → (getD second f 0 ≡ 1024 → ⊥) → test blocks second f ≡ true
+  crossed e h = rw (eq-eqb (getD blocks f 0) f e, ne-eqb (getD second f 0) 1024 h) refl
+
+  alone : getD blocks f 0 ≡ f → getD second f 0 ≡ 1024 → test blocks second f ≡ false
+  alone e h = rw (eq-eqb (getD blocks f 0) f e, eq-eqb (getD second f 0) 1024 h) refl
+
+  unnamed : (getD blocks f 0 ≡ f → ⊥) → test blocks second f ≡ false
+  unnamed h = rw (ne-eqb (getD blocks f 0) f h) refl
+
+abbrev Inv-loop : tie.InvT-loop
+Inv-loop blocks second n f₀ f = (f ≤ n) × (firstName (test blocks second) (upto n) ≡ firstName (test blocks second) (range f (n - f)))
+
+abbrev μ-loop : tie.MeasureT-loop
+μ-loop blocks second n f₀ f = n - f
+
+loop-holds : tie.Need-loop-holds Inv-loop μ-loop
+loop-holds c = (omega arith, first-start (test (c .args .blocks .now) (c .args .second .now)) (c .args .n))
+
+mul-wide : tie.Need-mul-wide Inv-loop μ-loop
+mul-wide c = search needs
+
+element-copy-out-wide : tie.Need-element-copy-out-wide Inv-loop μ-loop
+element-copy-out-wide c = search needs
+
+wide-requires : tie.Need-wide-requires Inv-loop μ-loop
+wide-requires c κs = tt
+
+mul-if2 : tie.Need-mul-if2 Inv-loop μ-loop
+mul-if2 c = search needs
+
+element-copy-out-if2 : tie.Need-element-copy-out-if2 Inv-loop μ-loop
+element-copy-out-if2 c = search needs
+
+returns : tie.Need-returns Inv-loop μ-loop
+returns c =
+    let a = c .before .before .before .before .before .before .before .args in
+    let s = c .before .before .before .before .before .before .loop in
+    let t = test (a .blocks .now) (a .second .now) in
+    let own : getD (a .blocks .now) (s .f) 0 ≡ s .f = sym (c .before .before .before .wide .ensures) ∙ c .before .before .if1 .taken in
+    sym (s .inv .1 ∙ first-hit t (a .n) (s .f) (c .before .before .before .before .before .loop-test .taken) (crossed (a .blocks .now) (a .second .now) (s .f) own (c .if2 .taken)))
+
+add-f : tie.Need-add-f Inv-loop μ-loop
+add-f c = search needs
+
+loop-less : tie.Need-loop-less Inv-loop μ-loop
+loop-less c = search needs
+
+loop-again : tie.Need-loop-again Inv-loop μ-loop
+loop-again c =
+    let a = c .before .before .before .before .before .args in
+    let s = c .before .before .before .before .loop in
+    let t = test (a .blocks .now) (a .second .now) in
+    let e = c .before .wide .ensures in
+    let no : t (s .f) ≡ false = ⊎-elim
+    (λ w. alone (a .blocks .now) (a .second .now) (s .f) (sym e ∙ w .0 .taken) (w .2 .left))
+    (λ w. unnamed (a .blocks .now) (a .second .now) (s .f) (λ z. w .left (e ∙ z)))
+    (c .if1 .came) in
+    (omega (arith, c .before .before .before .loop-test .taken), s .inv .1 ∙ first-miss t (a .n) (s .f) (c .before .before .before .loop-test .taken) no)
+
+returns-2 : tie.Need-returns-2 Inv-loop μ-loop
+returns-2 c =
+    let a = c .before .before .args in
+    let s = c .before .loop in
+    sym (s .inv .1 ∙ first-end (test (a .blocks .now) (a .second .now)) (a .n) (s .f) (c .loop-test .left))
+
+pub first-crossed-spec : {M : Type 1} → statement M
+first-crossed-spec =
+    tie.close
+    (tie.spec
+    Inv-loop
+    μ-loop
+    loop-holds
+    mul-wide
+    element-copy-out-wide
+    wide-requires
+    mul-if2
+    element-copy-out-if2
+    returns
+    add-f
+    loop-less
+    loop-again
+    returns-2)

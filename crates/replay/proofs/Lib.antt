@@ -1,0 +1,2 @@
+mod ListLaws
+mod TallyLaws

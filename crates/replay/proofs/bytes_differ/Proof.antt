@@ -1,0 +1,80 @@
+-- `replay::bytes_differ` compares each byte with what is said for its place.
+-- Assumes nothing.
+use borrow.Author.Needs.{needs}
+use Prim.Native.Nat.{_-_}
+use lib.ListN.{length, drop}
+use native.Mathlib.Omega.{arith}
+use mathlib.Core.Path.{_≡_, refl, sym, _∙_}
+use Rattle.replay.specs.Lists.{byteIn, differs}
+use Rattle.replay.proofs.ListLaws.{same, another, none}
+use Rattle.replay.proofs.bytes_differ.Statement.{statement}
+use Rattle.replay.proofs.bytes_differ.Tie as tie
+
+abbrev Inv-loop : tie.InvT-loop
+Inv-loop list at n bytes from other i₀ i =
+    differs (drop i bytes) (byteIn list at n from other) i ≡ differs bytes (byteIn list at n from other) 0
+
+abbrev μ-loop : tie.MeasureT-loop
+μ-loop list at n bytes from other i₀ i = length bytes - i
+
+loop-holds : tie.Need-loop-holds Inv-loop μ-loop
+loop-holds c = refl
+
+shared-slice-read-wide : tie.Need-shared-slice-read-wide Inv-loop μ-loop
+shared-slice-read-wide c = search needs
+
+wide-requires : tie.Need-wide-requires Inv-loop μ-loop
+wide-requires c κs = search needs
+
+byte-in-requires : tie.Need-byte-in-requires Inv-loop μ-loop
+byte-in-requires c κs = search needs
+
+returns : tie.Need-returns Inv-loop μ-loop
+returns c =
+    let s = c .before .before .before .before .before .before .before .before in
+    let t = c .before .before .before .before .before .loop in
+    let l = s .args .bytes .now in
+    let said = byteIn (s .args .list .now) (s .args .at) (s .args .n) (s .args .from) (s .args .other) in
+    another l said (differs l said 0) (t .i) (omega arith)
+    (λ e. c .if1 .taken (c .before .before .wide .ensures .0 ∙ (e ∙ sym (c .before .byte-in .ensures))))
+    (t .inv)
+
+add-i : tie.Need-add-i Inv-loop μ-loop
+add-i c = search needs
+
+loop-less : tie.Need-loop-less Inv-loop μ-loop
+loop-less c = search needs
+
+loop-again : tie.Need-loop-again Inv-loop μ-loop
+loop-again c =
+    let s = c .before .before .before .before .before .before .before .before in
+    let t = c .before .before .before .before .before .loop in
+    let l = s .args .bytes .now in
+    let said = byteIn (s .args .list .now) (s .args .at) (s .args .n) (s .args .from) (s .args .other) in
+    same l said (differs l said 0) (t .i) (omega arith)
+    (sym (c .before .before .wide .ensures .0) ∙ (c .if1 .left ∙ c .before .byte-in .ensures))
+    (t .inv)
+
+returns-2 : tie.Need-returns-2 Inv-loop μ-loop
+returns-2 c =
+    let s = c .before .before .before .before in
+    let t = c .before .loop in
+    let l = s .args .bytes .now in
+    let said = byteIn (s .args .list .now) (s .args .at) (s .args .n) (s .args .from) (s .args .other) in
+    none l said (differs l said 0) (t .i) (omega arith) (t .inv)
+
+pub bytes-differ-spec : {M : Type 1} → statement M
+bytes-differ-spec =
+    tie.close
+    (tie.spec
+    Inv-loop
+    μ-loop
+    loop-holds
+    shared-slice-read-wide
+    wide-requires
+    byte-in-requires
+    returns
+    add-i
+    loop-less
+    loop-again
+    returns-2)

@@ -1,0 +1,28 @@
+-- `replay::literal_in` is what stands at a place.
+-- Assumes nothing.
+use borrow.Author.Tests.{le-leb, lt-leb}
+use Rattle.replay.specs.Lists.{literalIn}
+use borrow.Author.Needs.{needs}
+use Rattle.replay.proofs.literal_in.Statement.{statement}
+use Rattle.replay.proofs.literal_in.Tie as tie
+
+returns : tie.Need-returns
+unfolding literalIn
+returns c = simp (le-leb _ _ (c .if1 .taken))
+
+mul-number-at : tie.Need-mul-number-at
+mul-number-at c = search needs
+
+add-number-at : tie.Need-add-number-at
+add-number-at c = search needs
+
+number-at-requires : tie.Need-number-at-requires
+number-at-requires c κs = search needs
+
+returns-2 : tie.Need-returns-2
+unfolding literalIn
+returns-2 c = simp (lt-leb _ _ (c .before .if1 .left)) (c .number-at .ensures .0)
+
+pub literal-in-spec : {M : Type 1} → statement M
+literal-in-spec =
+    tie.close (tie.spec returns mul-number-at add-number-at number-at-requires returns-2)
