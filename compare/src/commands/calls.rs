@@ -23,7 +23,7 @@ pub fn run(seed: u64, count: usize) -> Outcome {
     repeatedly("calls", seed, count, |random| {
         let goal = any_board(random);
         let wanted = random.between(1, 20 + 2 * goal.decisions.len().min(100));
-        let calls = calls(random, &goal, wanted, true);
+        let calls = calls(random, &goal, wanted);
         compare(&goal, &calls, &mut counts)
     })?;
     println!(

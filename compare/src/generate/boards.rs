@@ -39,6 +39,13 @@ pub fn board_of_puzzle(random: &mut Random, puzzle: Puzzle) -> Decided {
     }
 }
 
+/// A board with every cell decided.
+pub fn full_board(random: &mut Random, size: Size) -> Decided {
+    let puzzle = puzzle_of_size(random, size);
+    let cells = full(random, size);
+    decided(random, puzzle, &cells)
+}
+
 /// Arrows that leave room for blocks beside them.
 fn puzzle_with_room(random: &mut Random, size: Size) -> Puzzle {
     let style = random.pick(&[

@@ -19,8 +19,8 @@ pub enum Call {
     Cells,
 }
 
-/// Calls that work towards a board, with detours. `finds` says whether find is among them.
-pub fn calls(random: &mut Random, goal: &Decided, wanted: usize, finds: bool) -> Vec<Call> {
+/// Calls that work towards a board, with detours.
+pub fn calls(random: &mut Random, goal: &Decided, wanted: usize) -> Vec<Call> {
     let cells = goal.puzzle.size.cells();
     let mut waiting = goal.decisions.clone();
     waiting.reverse();
@@ -45,7 +45,7 @@ pub fn calls(random: &mut Random, goal: &Decided, wanted: usize, finds: bool) ->
                 value: random.below(2) as u8,
             },
             72..=81 => refused_decide(random, cells),
-            82..=96 if finds => Call::Find {
+            82..=96 => Call::Find {
                 buffer: buffer(random, most_literals(goal.puzzle.size)),
             },
             // a look at a large board is long, so it is rare
@@ -53,11 +53,9 @@ pub fn calls(random: &mut Random, goal: &Decided, wanted: usize, finds: bool) ->
             _ => continue,
         });
     }
-    if finds {
-        calls.push(Call::Find {
-            buffer: most_literals(goal.puzzle.size),
-        });
-    }
+    calls.push(Call::Find {
+        buffer: most_literals(goal.puzzle.size),
+    });
     if random.percent(25) {
         // all is taken back, and once more
         calls.extend([Call::Undo].repeat(standing.len() + 1));

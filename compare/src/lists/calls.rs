@@ -1,10 +1,10 @@
-//! `boards.list` and `calls.list`: lists of calls on one board.
+//! `calls.list`: lists of calls on one board.
 
 use super::numbers::cell_number;
 use super::strip::strip;
 use super::List;
 use crate::answers::{by_original, by_reading, Answer};
-use crate::generate::boards::{any_board, board_of_size, Decided};
+use crate::generate::boards::{any_board, board_of_size, full_board, Decided};
 use crate::generate::calls::{calls, Call};
 use crate::generate::puzzles::square;
 use crate::original::Original;
@@ -12,7 +12,9 @@ use crate::progress::facts;
 use crate::random::Random;
 use crate::reading::board::Board;
 use crate::reading::grid::Size;
+use crate::reading::reasons::most_literals;
 use crate::reading::record::encode;
+use crate::reading::Literal;
 
 const FORMAT: [&str; 8] = [
     "Entries to the end of the file: u16 record length, the record, u16 number of calls, the calls.",
@@ -25,58 +27,49 @@ const FORMAT: [&str; 8] = [
     "Each entry starts on a fresh board of its record.",
 ];
 
-/// Decide, undo and cells only.
-pub fn boards(seed: u64) -> Result<List, String> {
-    let what = "Lists of decide and undo on one board, without find.";
-    call_lists("boards.list", 150_000, seed, what, false)
-}
-
-/// Decide, undo, find and cells.
-pub fn calls_with_finds(seed: u64) -> Result<List, String> {
+pub fn call_lists(seed: u64) -> Result<List, String> {
     let what = "Lists of decide, undo and find on one board.";
-    call_lists("calls.list", 400_000, seed, what, true)
-}
-
-fn call_lists(
-    name: &'static str,
-    limit: usize,
-    seed: u64,
-    what: &str,
-    finds: bool,
-) -> Result<List, String> {
-    let mut list = List::of_the_original(name, limit, seed, what);
+    let mut list = List::of_the_original("calls.list", 400_000, seed, what);
     list.line("Its panics are refusals 9 and 10, and 7; it has no counterpart to 8 and 11.");
     list.lines(&FORMAT);
     let fresh = Decided {
         puzzle: strip(),
         decisions: Vec::new(),
     };
-    add_entry(&mut list, &fresh, &leaf_calls(finds))?;
-    let mut random = Random::new(seed ^ u64::from(finds));
+    add_entry(&mut list, &fresh, &leaf_calls())?;
+    let mut random = Random::new(seed);
     for goal in goals(&mut random) {
         let wanted = length(&mut random, &goal);
-        let calls = calls(&mut random, &goal, wanted, finds);
+        let calls = calls(&mut random, &goal, wanted);
         add_entry(&mut list, &goal, &calls)?;
     }
+    let largest = full_board(&mut random, square(32));
+    add_entry(&mut list, &largest, &there_and_back(&largest))?;
     Ok(list)
 }
 
-/// The document's leaves on S: refusals 7 to 10, and with finds its reasons and refusal 11.
-fn leaf_calls(finds: bool) -> Vec<Call> {
+/// The document's leaves on S: refusals 7 to 11, and its reasons.
+fn leaf_calls() -> Vec<Call> {
     let decide = |index, value| Call::Decide { index, value };
-    let mut calls = vec![
-        decide(3, 1),
-        decide(0, 1),
-        decide(0, 0),
-        decide(1, 2),
-        Call::Cells,
-    ];
-    if finds {
-        let find = |buffer| Call::Find { buffer };
-        calls.extend([find(9), find(10), decide(1, 1), find(10), Call::Undo]);
-        calls.extend([decide(2, 1), find(10), Call::Undo]);
-    }
+    let find = |buffer| Call::Find { buffer };
+    let mut calls = vec![decide(3, 1), decide(0, 1), decide(0, 0), decide(1, 2)];
+    calls.extend([Call::Cells, find(9), find(10)]);
+    calls.extend([decide(1, 1), find(10), Call::Undo]);
+    calls.extend([decide(2, 1), find(10), Call::Undo]);
     calls.extend([Call::Undo, Call::Undo, Call::Cells]);
+    calls
+}
+
+/// All decisions in turn, the first once more, and all taken back, and once more.
+fn there_and_back(goal: &Decided) -> Vec<Call> {
+    let decide = |&(index, value): &Literal| Call::Decide { index, value };
+    let find = Call::Find {
+        buffer: most_literals(goal.puzzle.size),
+    };
+    let mut calls: Vec<Call> = goal.decisions.iter().map(decide).collect();
+    calls.extend([calls[0], Call::Cells, find]);
+    calls.extend([Call::Undo].repeat(goal.decisions.len() + 1));
+    calls.extend([Call::Cells, find]);
     calls
 }
 

@@ -26,10 +26,9 @@ pub fn run(seed: u64, folder: &str) -> Outcome {
     fs::create_dir_all(folder).map_err(|error| format!("{folder}: {error}"))?;
     let lists = [
         records::records(seed),
-        calls::boards(seed)?,
         groups::groups(seed)?,
         finds::finds(seed)?,
-        calls::calls_with_finds(seed)?,
+        calls::call_lists(seed)?,
         hosts::hosts(seed)?,
         inputs::inputs(seed)?,
     ];

@@ -22,9 +22,8 @@ use std::path::Path;
 type Check = fn(&mut Reader) -> bool;
 
 /// Each list with the number of rounds before its entries; the reading takes no account of them.
-const LISTS: [(&str, usize, Check); 7] = [
+const LISTS: [(&str, usize, Check); 6] = [
     ("records.list", 0, record),
-    ("boards.list", 0, calls),
     ("groups.list", 2, groups),
     ("finds.list", 1, finds),
     ("calls.list", 0, calls),

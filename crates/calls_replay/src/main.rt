@@ -1,16 +1,19 @@
-// Replays lists of calls from standard input: each call is made, and what it answers, leaves and writes is compared with what the
-// list says. A find writes to a lent part of a longer buffer; nothing behind its literals may be written, nor anything by a refused one.
+// Replays lists of calls from standard input: each call is made, decide and undo by value and on a lent board, and what it answers, leaves
+// and writes is compared with what the list says. Then come boards that no list of calls could leave, which every call must refuse.
 //
 // A list has a head of lines that begin with `#`, an empty line, and entries to its end: u16 length, that many bytes of record, u16 number
 // of calls, and the calls: u8 kind, and for 0 (decide) u16 index, u8 value, u8 refusal; for 1 (undo) u8 refusal; for 2 (find) u16 length of the
 // buffer, u8 refusal, and where that is 0 u16 number of literals (0 for no reason) and the u16 literals; for 3 (cells) a state for
 // each cell. A u16 has its high byte first; a refusal is 0 for none.
+mod boards;
+mod damaged;
+mod finds;
+
 use board::Board;
 use board::Decided;
-use literals::Finding;
 use replay::Run;
 use replay::Tally;
-ghost use Prim.Native.Nat.{_≤_, _<_};
+ghost use Prim.Native.Nat.{_<_};
 ghost use lib.ListN.{length};
 
 // What a call left: the board, whether something differed, and where the call ends in the list, far behind it where the list ends
@@ -21,40 +24,19 @@ struct Step {
     end: usize,
 }
 
-// The step that a call with this answer makes.
-fn answered(d: Decided, expected: usize, end: usize) -> Step {
+// The step of a call whose answer by value is d, and on a lent board l.
+fn answered(d: Decided, l: Decided, expected: usize, end: usize) -> Step {
     let answer = d.answer;
     let board = d.board;
+    let lent_answer = l.answer;
+    let lent = l.board;
     Step {
         board,
-        differs: replay::number(answer) != expected,
+        differs: replay::number(answer) != expected
+            || replay::number(lent_answer) != expected
+            || boards::boards_differ(lent, board),
         end,
     }
-}
-
-// Whether an answer is not this refusal, or, where that is 0, not the one for this many literals, 0 for no reason.
-fn finding_differs(found: Finding, refusal: usize, count: usize) -> bool {
-    match found {
-        Finding::Nothing => refusal != 0 || count != 0,
-        Finding::Reason(n) => refusal != 0 || n == 0 || n != count,
-        Finding::Refused(k) => refusal == 0 || replay::wide(k) != refusal,
-    }
-}
-
-// Whether find on the board, with size places lent, differs from this refusal and the literals of the list from at on.
-fn find_differs(
-    list: &[u8],
-    at: usize,
-    count: usize,
-    board: Board,
-    size: usize,
-    refusal: usize,
-) -> bool
-    requires { ⌜ (at ≤ length (now list)) × (size ≤ 4096) ⌝ }
-{
-    let mut buffer = replay::fresh_buffer();
-    let found = reasons::find(board, &mut buffer[..size]);
-    finding_differs(found, refusal, count) || replay::literals_differ(list, at, count, &buffer)
 }
 
 // The step of a call that the list ends inside of, or that is of no kind.
@@ -73,8 +55,11 @@ fn make_decide(list: &[u8], at: usize, b: Board) -> Step
     if list.len() < at + 5 {
         return broken(b);
     }
+    let index = replay::number_at(list, at + 1);
+    let value = list[at + 3];
     answered(
-        b.decide(replay::number_at(list, at + 1), list[at + 3]),
+        b.decide(index, value),
+        boards::decide_lent(b, index, value),
         replay::wide(list[at + 4]),
         at + 5,
     )
@@ -87,7 +72,12 @@ fn make_undo(list: &[u8], at: usize, b: Board) -> Step
     if list.len() < at + 2 {
         return broken(b);
     }
-    answered(b.undo(), replay::wide(list[at + 1]), at + 2)
+    answered(
+        b.undo(),
+        boards::undo_lent(b),
+        replay::wide(list[at + 1]),
+        at + 2,
+    )
 }
 
 // Makes the find at at. A refused one has no literals.
@@ -105,7 +95,7 @@ fn make_find(list: &[u8], at: usize, b: Board) -> Step
     if refusal != 0 {
         return Step {
             board: b,
-            differs: find_differs(list, at + 4, 0, b, size, refusal),
+            differs: finds::find_differs(list, at + 4, 0, b, size, refusal),
             end: at + 4,
         };
     }
@@ -116,7 +106,7 @@ fn make_find(list: &[u8], at: usize, b: Board) -> Step
     }
     Step {
         board: b,
-        differs: find_differs(list, at + 6, count, b, size, 0),
+        differs: finds::find_differs(list, at + 6, count, b, size, 0),
         end,
     }
 }
@@ -200,4 +190,5 @@ fn main() {
     let mut space = replay::room();
     let n = io::read_full(0, &mut space);
     go_through(&space[..n]).print(b" lists, ", b" calls, ");
+    damaged::print();
 }

@@ -1,11 +1,11 @@
--- `calls_replay::find_differs` is safe: the lent part is as long as is said.
+-- `calls_replay::finds::find_differs` is safe: the lent part is as long as is said.
 -- Assumes nothing.
 use borrow.Author.Needs.{needs}
 use mathlib.Core.Path.{sym}
 use native.Mathlib.Omega.{arith}
 use lib.Seq.{length-take-le}
-use Rattle.calls_replay.proofs.find_differs.Statement.{statement}
-use Rattle.calls_replay.proofs.find_differs.Tie as tie
+use Rattle.calls_replay.proofs.finds.find_differs.Statement.{statement}
+use Rattle.calls_replay.proofs.finds.find_differs.Tie as tie
 
 fresh-buffer-requires : tie.Need-fresh-buffer-requires
 fresh-buffer-requires c κs = search needs

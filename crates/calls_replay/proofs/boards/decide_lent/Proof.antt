@@ -1,4 +1,4 @@
--- `board_replay::decide_lent` meets its contract: a walk of its MIR, by hand. The board is copied to a local, which is lent for a lifetime that is made for the call of `decide_in`, and comes back at the board that the call leaves.
+-- `calls_replay::boards::decide_lent` meets its contract: a walk of its MIR, by hand. The board is copied to a local, which is lent for a lifetime that is made for the call of `decide_in`, and comes back at the board that the call leaves.
 -- All that the proof knows of `decide_in` is that it meets its contract.
 -- Assumes nothing.
 use mathlib.Core.Path.{_≡_, refl, ap, subst}
@@ -54,10 +54,10 @@ use Rattle.lent.proofs.decide_in as callee
 use Rattle.lent.proofs.decide_in.Symbol as callee-def
 use Rattle.lent.proofs.decide_in.Symbol.{name as #callee}
 use Rattle.lent.proofs.decide_in.Met as callee-thm
-use Rattle.board_replay.proofs.decide_lent.Key.{name as #self}
-use Rattle.board_replay.proofs.decide_lent as self
-use Rattle.board_replay.proofs.decide_lent.Statement as stated
-use Rattle.board_replay.proofs.decide_lent.Code as code
+use Rattle.calls_replay.proofs.boards.decide_lent.Key.{name as #self}
+use Rattle.calls_replay.proofs.boards.decide_lent as self
+use Rattle.calls_replay.proofs.boards.decide_lent.Statement as stated
+use Rattle.calls_replay.proofs.boards.decide_lent.Code as code
 
 abbrev stayed : Stays (self.ended .signature .params) (self.ended .kept)
 stayed = (stay-none (λ _. B.the-row) yes, (stay-none (λ _. usize) yes, (stay-none (λ _. u8) yes, tt)))

@@ -1,9 +1,9 @@
--- `board_replay::words_differ` is safe and ends.
+-- `calls_replay::boards::words_differ` is safe and ends.
 -- Assumes nothing.
 use borrow.Author.Needs.{needs}
 use Prim.Native.Nat.{_-_}
-use Rattle.board_replay.proofs.words_differ.Statement.{statement}
-use Rattle.board_replay.proofs.words_differ.Tie as tie
+use Rattle.calls_replay.proofs.boards.words_differ.Statement.{statement}
+use Rattle.calls_replay.proofs.boards.words_differ.Tie as tie
 
 abbrev Inv-loop : tie.InvT-loop
 Inv-loop a b i₀ i = Unit {0}

@@ -1,11 +1,11 @@
--- `board_replay::damages` is safe and ends.
+-- `calls_replay::damaged::count_accepted` is safe and ends.
 -- Assumes nothing.
 use borrow.Author.Needs.{needs}
 use Prim.Native.Nat.{_-_, _≤_}
 use native.Mathlib.Omega.{arith}
 use mathlib.Core.Logic.{⊎-elim}
-use Rattle.board_replay.proofs.damages.Statement.{statement}
-use Rattle.board_replay.proofs.damages.Tie as tie
+use Rattle.calls_replay.proofs.damaged.count_accepted.Statement.{statement}
+use Rattle.calls_replay.proofs.damaged.count_accepted.Tie as tie
 
 abbrev Inv-loop : tie.InvT-loop
 Inv-loop b count₀ k₀ count k = count ≤ k
@@ -16,14 +16,8 @@ abbrev μ-loop : tie.MeasureT-loop
 loop-holds : tie.Need-loop-holds Inv-loop μ-loop
 loop-holds c = search needs
 
-damaged-problem-requires : tie.Need-damaged-problem-requires Inv-loop μ-loop
-damaged-problem-requires c κs = search needs
-
-with-problem-requires : tie.Need-with-problem-requires Inv-loop μ-loop
-with-problem-requires c κs = search needs
-
-damaged-states-requires : tie.Need-damaged-states-requires Inv-loop μ-loop
-damaged-states-requires c κs = search needs
+damaged-requires : tie.Need-damaged-requires Inv-loop μ-loop
+damaged-requires c κs = search needs
 
 accepted-requires : tie.Need-accepted-requires Inv-loop μ-loop
 accepted-requires c κs = search needs
@@ -38,21 +32,19 @@ loop-less : tie.Need-loop-less Inv-loop μ-loop
 loop-less c = search needs
 
 loop-again : tie.Need-loop-again Inv-loop μ-loop
-loop-again c = ⊎-elim (λ w. omega arith) (λ w. omega arith) (c .if2 .came)
+loop-again c = ⊎-elim (λ w. omega arith) (λ w. omega arith) (c .if1 .came)
 
 returns : tie.Need-returns Inv-loop μ-loop
 returns c = search needs
 
-pub damages-spec : {M : Type 1} → statement M
-damages-spec =
+pub count-accepted-spec : {M : Type 1} → statement M
+count-accepted-spec =
     tie.close
     (tie.spec
     Inv-loop
     μ-loop
     loop-holds
-    damaged-problem-requires
-    with-problem-requires
-    damaged-states-requires
+    damaged-requires
     accepted-requires
     add-count
     add-k

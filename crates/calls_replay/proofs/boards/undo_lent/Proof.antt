@@ -1,4 +1,4 @@
--- `board_replay::undo_lent` meets its contract: a walk of its MIR, by hand. The board is copied to a local, which is lent for a lifetime that is made for the call of `undo_in`, and comes back at the board that the call leaves.
+-- `calls_replay::boards::undo_lent` meets its contract: a walk of its MIR, by hand. The board is copied to a local, which is lent for a lifetime that is made for the call of `undo_in`, and comes back at the board that the call leaves.
 -- All that the proof knows of `undo_in` is that it meets its contract.
 -- Assumes nothing.
 use mathlib.Core.Path.{_≡_, refl, ap, subst}
@@ -52,10 +52,10 @@ use Rattle.lent.proofs.undo_in as callee
 use Rattle.lent.proofs.undo_in.Symbol as callee-def
 use Rattle.lent.proofs.undo_in.Symbol.{name as #callee}
 use Rattle.lent.proofs.undo_in.Met as callee-thm
-use Rattle.board_replay.proofs.undo_lent.Key.{name as #self}
-use Rattle.board_replay.proofs.undo_lent as self
-use Rattle.board_replay.proofs.undo_lent.Statement as stated
-use Rattle.board_replay.proofs.undo_lent.Code as code
+use Rattle.calls_replay.proofs.boards.undo_lent.Key.{name as #self}
+use Rattle.calls_replay.proofs.boards.undo_lent as self
+use Rattle.calls_replay.proofs.boards.undo_lent.Statement as stated
+use Rattle.calls_replay.proofs.boards.undo_lent.Code as code
 
 abbrev stayed : Stays (self.ended .signature .params) (self.ended .kept)
 stayed = (stay-none (λ _. B.the-row) yes, tt)

@@ -1,0 +1,142 @@
+// Boards that no list of calls could leave: strip S with cell 0 square, damaged one field at a time. Each call must refuse each of them
+// with 6, and leave it and a lent buffer as they were.
+use super::boards;
+use super::finds;
+use board::Board;
+use board::Decided;
+use finished::Verdict;
+use libc::STDOUT_FILENO;
+use record::Problem;
+
+// How many damages there are.
+const DAMAGES: usize = 32;
+
+// How many of them are to the problem; the others are to what is decided.
+const TO_PROBLEM: usize = 20;
+
+// Whether an answer is not refusal 6 with the board b unchanged.
+fn taken(d: Decided, b: Board) -> bool {
+    let answer = d.answer;
+    let board = d.board;
+    replay::number(answer) != 6 || boards::boards_differ(board, b)
+}
+
+// Whether a verdict is not refusal 6.
+fn judged(verdict: Verdict) -> bool {
+    match verdict {
+        Verdict::Yes => true,
+        Verdict::No => true,
+        Verdict::Refused(k) => k != 6,
+    }
+}
+
+// Whether some call on the board is not refused with 6, or changes the board or a lent buffer. A find whose buffer is too short is among
+// them: 6 comes before 11.
+fn accepted(b: Board) -> bool {
+    taken(b.decide(1, 1), b)
+        || taken(b.undo(), b)
+        || taken(boards::decide_lent(b, 1, 1), b)
+        || taken(boards::undo_lent(b), b)
+        || taken(b.decide_all(b""), b)
+        || taken(b.decide_all(b"\x80\x01"), b)
+        || finds::find_differs(b"", 0, 0, b, 4096, 6)
+        || finds::find_differs(b"", 0, 0, b, 0, 6)
+        || judged(finished::finished(b))
+}
+
+fn with_problem(b: Board, problem: Problem) -> Board {
+    let cells = b.cells;
+    let order = b.order;
+    Board {
+        problem,
+        cells,
+        order,
+        decided: b.decided,
+    }
+}
+
+// The k-th damage to a problem: sizes, codes, arrow cells, ends, count, and what stands behind them.
+fn damaged_problem(q: Problem, k: usize) -> Problem {
+    let mut p = q;
+    match k {
+        0 => p.height = 0,
+        1 => p.height = 33,
+        2 => p.width = 0,
+        3 => p.width = 33,
+        4 => p.cells[0] = 3,
+        5 => p.cells[3] = 1,
+        6 => p.cells[1023] = 1,
+        7 => p.arrows[2] = 3,
+        8 => p.arrows[1] = 0,
+        9 => {
+            p.arrows[0] = 2;
+            p.arrows[2] = 1;
+            p.arrows[1] = 0;
+        }
+        10 => p.arrows[3] = 1,
+        11 => p.arrows[1023] = 1,
+        12 => p.ends[0] = 0,
+        13 => p.ends[0] = 2,
+        14 => p.ends[0] = 1025,
+        15 => p.ends[1] = 1,
+        16 => p.ends[1023] = 1,
+        17 => p.count = 0,
+        18 => p.count = 2,
+        _ => p.count = 1025,
+    }
+    p
+}
+
+// The k-th damage to what is decided on a board: states, order, count, and what stands behind them.
+fn damaged_decisions(board: Board, k: usize) -> Board {
+    let mut b = board;
+    match k {
+        0 => b.cells[0] = 2,
+        1 => b.cells[1] = 1,
+        2 => b.cells[2] = 3,
+        3 => b.cells[3] = 1,
+        4 => b.cells[1023] = 0,
+        5 => b.order[0] = 1,
+        6 => b.order[0] = 3,
+        7 => b.order[1] = 1,
+        8 => b.order[1023] = 1,
+        9 => b.decided = 0,
+        10 => b.decided = 2,
+        _ => b.decided = 1025,
+    }
+    b
+}
+
+// The k-th damaged board.
+fn damaged(b: Board, k: usize) -> Board {
+    if k < TO_PROBLEM {
+        let q = b.problem;
+        return with_problem(b, damaged_problem(q, k));
+    }
+    damaged_decisions(b, k - TO_PROBLEM)
+}
+
+// How many of the damaged boards are accepted.
+fn count_accepted(b: Board) -> usize {
+    let mut count = 0;
+    let mut k = 0;
+    while k < DAMAGES {
+        if accepted(damaged(b, k)) {
+            count += 1;
+        }
+        k += 1;
+    }
+    count
+}
+
+// Prints how many damaged boards there are and how many of them are accepted.
+pub fn print() {
+    let o = Board::open(b"\x00\x80\x08\x00\x00\x05\xE0");
+    let fresh = o.board;
+    let d = fresh.decide(0, 1);
+    let b = d.board;
+    io::print_decimal(STDOUT_FILENO, DAMAGES as u64);
+    io::write_all(STDOUT_FILENO, b" damaged boards, ");
+    io::print_decimal(STDOUT_FILENO, count_accepted(b) as u64);
+    io::write_all(STDOUT_FILENO, b" accepted\n");
+}

@@ -1,0 +1,31 @@
+// Find with a lent part of a longer buffer, held against what is expected of it: nothing behind its literals may be written, nor anything
+// by a refused one.
+use board::Board;
+use literals::Finding;
+ghost use Prim.Native.Nat.{_≤_};
+ghost use lib.ListN.{length};
+
+// Whether an answer is not this refusal, or, where that is 0, not the one for this many literals, 0 for no reason.
+fn finding_differs(found: Finding, refusal: usize, count: usize) -> bool {
+    match found {
+        Finding::Nothing => refusal != 0 || count != 0,
+        Finding::Reason(n) => refusal != 0 || n == 0 || n != count,
+        Finding::Refused(k) => refusal == 0 || replay::wide(k) != refusal,
+    }
+}
+
+// Whether find on the board, with size places lent, differs from this refusal and the literals of the list from at on.
+pub fn find_differs(
+    list: &[u8],
+    at: usize,
+    count: usize,
+    board: Board,
+    size: usize,
+    refusal: usize,
+) -> bool
+    requires { ⌜ (at ≤ length (now list)) × (size ≤ 4096) ⌝ }
+{
+    let mut buffer = replay::fresh_buffer();
+    let found = reasons::find(board, &mut buffer[..size]);
+    finding_differs(found, refusal, count) || replay::literals_differ(list, at, count, &buffer)
+}
