@@ -5,7 +5,7 @@ use crate::reading::groups::Groups;
 use crate::reading::kinds::Kind;
 
 /// Where a cell is in no group.
-const NO_NAME: usize = 65_535;
+const NO_NAME: usize = 1_024;
 
 pub fn cell_number(cell: Cell) -> u8 {
     match cell {

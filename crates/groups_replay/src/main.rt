@@ -6,7 +6,7 @@
 // length, that many bytes of record, u16 number of decisions, and the decisions, u16 each. Then for each cell a u16 name of its potential
 // group; for each cell a u16 name of its block; for each cell a u8 kind; for each cell a u16 name of its owner. Then the u16 number of arrow
 // blocks, and for each by rising name: u16 name, u16 size of its reach, for each cell a u8 mark of its reach, u16 number of literals of its
-// fence, and the literals, u16 each. A u16 has its high byte first; where there is no group, the name is 65535.
+// fence, and the literals, u16 each. A u16 has its high byte first; where there is no group, the name is 1024.
 use board::Board;
 use replay::Run;
 use replay::Tally;
@@ -22,39 +22,16 @@ struct Rounds {
     kinds: usize,
 }
 
-fn no_marks() -> [u8; 1024] {
-    [0; 1024]
-}
-
-fn no_names() -> [u16; 1024] {
-    [0; 1024]
-}
-
-// The name at at as the arrays have it, with 1024 for none.
-fn name_at(list: &[u8], at: usize) -> usize {
-    let name = replay::number_at(list, at);
-    if name == 65535 {
-        return 1024;
-    }
-    name
-}
-
-// Whether the names in the array differ from the n names of the list from at on, with 1024 behind them.
-fn names_differ(list: &[u8], at: usize, n: usize, names: &[u16; 1024]) -> bool
-    requires { ⌜ at + 2 * n ≤ length (now list) ⌝ }
+fn no_marks() -> [u8; 1024]
+    ensures { λ r. ⌜ r ≡ replicate 1024 0 ⌝ }
 {
-    let mut i = 0;
-    while i < 1024 {
-        let mut name = 1024;
-        if i < n {
-            name = name_at(list, at + 2 * i);
-        }
-        if replay::wider(names[i]) != name {
-            return true;
-        }
-        i += 1;
-    }
-    false
+    [0; 1024]
+}
+
+fn no_names() -> [u16; 1024]
+    ensures { λ r. ⌜ r ≡ replicate 1024 0 ⌝ }
+{
+    [0; 1024]
 }
 
 // Whether the reach and the fence of the arrow block f differ from those that the list has at at and at fence, with so many literals.
@@ -155,7 +132,7 @@ fn arrow_total(ends: &[u16; 1024], count: usize) -> usize {
     if 1024 < count {
         return 0;
     }
-    replay::wider(ends[count - 1])
+    grid::wide(ends[count - 1])
 }
 
 // Whether the first total places hold indices of cells.
@@ -253,7 +230,7 @@ fn potential_groups_differ(
 {
     let mut names = no_names();
     label_in_rounds(rounds.labels, cells, true, h, w, &mut names);
-    rounds.labels == 0 || rounds.kinds == 0 || names_differ(list, at, n, &names)
+    rounds.labels == 0 || rounds.kinds == 0 || replay::names_differ(list, at, n, &names)
 }
 
 // Whether the names of the blocks, the kinds or the owners differ from those that the list has at at.
@@ -267,9 +244,9 @@ fn kinds_differ(
 ) -> bool
     requires { ⌜ (at + 5 * n ≤ length (now list)) × (n ≤ 1024) ⌝ }
 {
-    names_differ(list, at, n, blocks)
+    replay::names_differ(list, at, n, blocks)
         || replay::cells_differ(list, at + 2 * n, n, kinds, 0)
-        || names_differ(list, at + 3 * n, n, owners)
+        || replay::names_differ(list, at + 3 * n, n, owners)
 }
 
 // Computes kinds and owners, and compares them, the blocks and the arrow blocks with those that the list has at at.

@@ -9,11 +9,11 @@ use replay::Run;
 use replay::Tally;
 ghost use mathlib.Core.Path.{_≡_};
 ghost use Prim.Native.Nat.{_+_, _≤_, _<_};
-ghost use lib.ListN.{length};
+ghost use lib.ListN.{length, replicate};
 
 // A record that is far too long.
 fn zeros() -> [u8; 131072]
-    ensures { λ r. ⌜ 131072 ≡ length r ⌝ }
+    ensures { λ r. ⌜ r ≡ replicate 131072 0 ⌝ }
 {
     [0; 131072]
 }
@@ -48,41 +48,16 @@ fn problem_end(list: &[u8], at: usize) -> usize
     arrows_end(list, arrows + 2, replay::number_at(list, arrows))
 }
 
-// Whether something but zeros stands in the array from place from on.
-fn tail_differs(numbers: &[u16; 1024], from: usize) -> bool {
-    let mut i = from;
-    while i < 1024 {
-        if numbers[i] != 0 {
-            return true;
-        }
-        i += 1;
-    }
-    false
-}
-
-// Whether the n cells of an arrow in the list, from at on, differ from those in the line from place from on.
-fn arrow_differs(list: &[u8], at: usize, n: usize, line: &[u16; 1024], from: usize) -> bool
-    requires { ⌜ (at ≤ length (now list) + 2) × (from + n ≤ 1024) ⌝ }
+// Whether something but zeros stands among the numbers from place from on.
+fn tail_differs(numbers: &[u16], from: usize) -> bool
+    requires { ⌜ from ≤ length (now numbers) ⌝ }
 {
-    let mut i = 0;
-    while i < n {
-        if replay::wider(line[from + i]) != replay::number_at(list, at + 2 * i) {
-            return true;
-        }
-        i += 1;
-    }
-    false
+    replay::numbers_differ(b"", 0, 0, &numbers[from..], 0)
 }
 
-// Whether the arrows of the list, from start on, differ from those in the arrays, with zeros behind them.
-fn arrows_differ(
-    list: &[u8],
-    start: usize,
-    arrows: usize,
-    line: &[u16; 1024],
-    ends: &[u16; 1024],
-) -> bool
-    requires { ⌜ arrows ≤ 1024 ⌝ }
+// Whether the arrows of the list, from start on, differ from those in the two arrays, with zeros behind them.
+fn arrows_differ(list: &[u8], start: usize, arrows: usize, line: &[u16], ends: &[u16]) -> bool
+    requires { ⌜ (arrows ≤ 1024) × (length (now line) ≡ 1024) × (length (now ends) ≡ 1024) ⌝ }
 {
     let mut at = start;
     let mut end = 0;
@@ -91,15 +66,19 @@ fn arrows_differ(
         if list.len() < at {
             return true;
         }
+        if list.len() - at < 2 {
+            return true;
+        }
         let n = replay::number_at(list, at);
-        if 1024 < end + n {
+        let next = end + n;
+        if 1024 < next {
             return true;
         }
-        if arrow_differs(list, at + 2, n, line, end) {
+        if replay::numbers_differ(list, at + 2, n, &line[end..next], 0) {
             return true;
         }
-        end += n;
-        if replay::wider(ends[i]) != end {
+        end = next;
+        if grid::wide(ends[i]) != end {
             return true;
         }
         at = at + 2 + 2 * n;

@@ -28,9 +28,9 @@ dataStart (b ∷ rest) = cond (eqb b 35) (dataFrom rest 1 b) 0
 unfoldable pub byteIn : List ℕ → ℕ → ℕ → ℕ → ℕ → ℕ → ℕ
 byteIn l at n from other i = cond (ltb i from) other (cond (leb n (i - from)) other (getD l (at + (i - from)) 0))
 
--- what stands at place i of a buffer after the n numbers of a list from at on were written to its first places
-unfoldable pub literalIn : List ℕ → ℕ → ℕ → ℕ → ℕ
-literalIn l at n i = cond (leb n i) 65535 (numberAt l (at + 2 * i))
+-- what stands at place i where the n numbers of a list from at on stand in the first places, and another number behind them
+unfoldable pub numberIn : List ℕ → ℕ → ℕ → ℕ → ℕ → ℕ
+numberIn l at n behind i = cond (leb n i) behind (numberAt l (at + 2 * i))
 
 -- whether one of the numbers is not the one that is said for its place, from place i on
 unfoldable pub differs : List ℕ → (ℕ → ℕ) → ℕ → Bool

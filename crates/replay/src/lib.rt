@@ -7,10 +7,10 @@ use record::Answer;
 ghost use Prim.Native.Nat.{_≤_, _<_};
 ghost use mathlib.Core.Path.{_≡_};
 ghost use mathlib.Core.Bool.{cond};
-ghost use lib.ListN.{length, getD};
+ghost use lib.ListN.{length, getD, replicate};
 ghost use Rattle.record.specs.Problem.{numberOf};
 ghost use Rattle.replay.specs.Tallies.{sumOf, brokenRun, runOf, thenOf, alsoOf, emptyTally, tallyOf, withOf};
-ghost use Rattle.replay.specs.Lists.{areaOf, numberAt, dataStart, byteIn, literalIn, differs};
+ghost use Rattle.replay.specs.Lists.{areaOf, numberAt, dataStart, byteIn, numberIn, differs};
 
 // What an entry counted, and where it ends in the list, far behind it where the list ends inside the entry.
 pub struct Run {
@@ -30,14 +30,14 @@ pub struct Tally {
 
 // Zeros: room for the longest list.
 pub fn room() -> [u8; 524288]
-    ensures { λ r. ⌜ 524288 ≡ length r ⌝ }
+    ensures { λ r. ⌜ r ≡ replicate 524288 0 ⌝ }
 {
     [0; 524288]
 }
 
 // A number that is no literal stands in every place of a fresh buffer.
 pub fn fresh_buffer() -> [u16; 4096]
-    ensures { λ r. ⌜ 4096 ≡ length r ⌝ }
+    ensures { λ r. ⌜ r ≡ replicate 4096 65535 ⌝ }
 {
     [65535; 4096]
 }
@@ -45,13 +45,6 @@ pub fn fresh_buffer() -> [u16; 4096]
 // A byte as a number.
 pub fn wide(x: u8) -> usize
     ensures { λ r. ⌜ (r ≡ x) × (r < 256) ⌝ }
-{
-    x as usize
-}
-
-// A u16 as a number.
-pub fn wider(x: u16) -> usize
-    ensures { λ r. ⌜ (r ≡ x) × (r < 65536) ⌝ }
 {
     x as usize
 }
@@ -165,25 +158,25 @@ pub fn cells_differ(list: &[u8], at: usize, n: usize, cells: &[u8; 1024], behind
     bytes_differ(list, at, n, cells, 0, behind)
 }
 
-// What stands at place i of a buffer after the n numbers of the list from at on were written to its first places.
-fn literal_in(list: &[u8], at: usize, n: usize, i: usize) -> usize
+// What stands at place i where the n numbers of the list from at on stand in the first places, and this number behind them.
+fn number_in(list: &[u8], at: usize, n: usize, behind: u16, i: usize) -> usize
     requires { ⌜ (at ≤ length (now list)) × (i < 4611686018427387904) ⌝ }
-    ensures { λ r. ⌜ r ≡ literalIn (now (list .entry)) at n i ⌝ }
+    ensures { λ r. ⌜ r ≡ numberIn (now (list .entry)) at n behind i ⌝ }
 {
     if n <= i {
-        return 65535;
+        return grid::wide(behind);
     }
     number_at(list, at + 2 * i)
 }
 
-// Whether the numbers are not the n numbers of the list from at on, with nothing written behind them.
-fn numbers_differ(list: &[u8], at: usize, n: usize, numbers: &[u16]) -> bool
+// Whether the numbers are not the n numbers of the list from at on, with this number behind them.
+pub fn numbers_differ(list: &[u8], at: usize, n: usize, numbers: &[u16], behind: u16) -> bool
     requires { ⌜ at ≤ length (now list) ⌝ }
-    ensures { λ r. ⌜ r ≡ differs (now (numbers .entry)) (literalIn (now (list .entry)) at n) 0 ⌝ }
+    ensures { λ r. ⌜ r ≡ differs (now (numbers .entry)) (numberIn (now (list .entry)) at n behind) 0 ⌝ }
 {
     let mut i = 0;
     while i < numbers.len() {
-        if wider(numbers[i]) != literal_in(list, at, n, i) {
+        if grid::wide(numbers[i]) != number_in(list, at, n, behind, i) {
             return true;
         }
         i += 1;
@@ -191,12 +184,20 @@ fn numbers_differ(list: &[u8], at: usize, n: usize, numbers: &[u16]) -> bool
     false
 }
 
-// The same for a buffer.
+// The same for an array with a place for each cell, and 1024, which stands for none, behind its names.
+pub fn names_differ(list: &[u8], at: usize, n: usize, names: &[u16; 1024]) -> bool
+    requires { ⌜ at ≤ length (now list) ⌝ }
+    ensures { λ r. ⌜ r ≡ differs (now (names .entry)) (numberIn (now (list .entry)) at n 1024) 0 ⌝ }
+{
+    numbers_differ(list, at, n, names, 1024)
+}
+
+// The same for a buffer that was fresh, and nothing written behind its literals.
 pub fn literals_differ(list: &[u8], at: usize, n: usize, buffer: &[u16; 4096]) -> bool
     requires { ⌜ at ≤ length (now list) ⌝ }
-    ensures { λ r. ⌜ r ≡ differs (now (buffer .entry)) (literalIn (now (list .entry)) at n) 0 ⌝ }
+    ensures { λ r. ⌜ r ≡ differs (now (buffer .entry)) (numberIn (now (list .entry)) at n 65535) 0 ⌝ }
 {
-    numbers_differ(list, at, n, buffer)
+    numbers_differ(list, at, n, buffer, 65535)
 }
 
 // The sum, or the largest number where that is larger.

@@ -5,41 +5,41 @@ use Prim.Native.Nat.{_-_}
 use lib.ListN.{length, drop}
 use native.Mathlib.Omega.{arith}
 use mathlib.Core.Path.{_≡_, refl, sym, _∙_}
-use Rattle.replay.specs.Lists.{literalIn, differs}
+use Rattle.replay.specs.Lists.{numberIn, differs}
 use Rattle.replay.proofs.ListLaws.{same, another, none}
 use Rattle.replay.proofs.numbers_differ.Statement.{statement}
 use Rattle.replay.proofs.numbers_differ.Tie as tie
 
 abbrev Inv-loop : tie.InvT-loop
-Inv-loop list at n numbers i₀ i =
-    differs (drop i numbers) (literalIn list at n) i ≡ differs numbers (literalIn list at n) 0
+Inv-loop list at n numbers behind i₀ i =
+    differs (drop i numbers) (numberIn list at n behind) i ≡ differs numbers (numberIn list at n behind) 0
 
 abbrev μ-loop : tie.MeasureT-loop
-μ-loop list at n numbers i₀ i = length numbers - i
+μ-loop list at n numbers behind i₀ i = length numbers - i
 
 loop-holds : tie.Need-loop-holds Inv-loop μ-loop
 loop-holds c = refl
 
-mul-wider : tie.Need-mul-wider Inv-loop μ-loop
-mul-wider c = search needs
+mul-wide : tie.Need-mul-wide Inv-loop μ-loop
+mul-wide c = search needs
 
-shared-slice-read-wider : tie.Need-shared-slice-read-wider Inv-loop μ-loop
-shared-slice-read-wider c = search needs
+shared-slice-read-wide : tie.Need-shared-slice-read-wide Inv-loop μ-loop
+shared-slice-read-wide c = search needs
 
-wider-requires : tie.Need-wider-requires Inv-loop μ-loop
-wider-requires c κs = search needs
+wide-requires : tie.Need-wide-requires Inv-loop μ-loop
+wide-requires c κs = search needs
 
-literal-in-requires : tie.Need-literal-in-requires Inv-loop μ-loop
-literal-in-requires c κs = search needs
+number-in-requires : tie.Need-number-in-requires Inv-loop μ-loop
+number-in-requires c κs = search needs
 
 returns : tie.Need-returns Inv-loop μ-loop
 returns c =
     let s = c .before .before .before .before .before .before .before .before in
     let t = c .before .before .before .before .before .loop in
     let l = s .args .numbers .now in
-    let said = literalIn (s .args .list .now) (s .args .at) (s .args .n) in
+    let said = numberIn (s .args .list .now) (s .args .at) (s .args .n) (s .args .behind) in
     another l said (differs l said 0) (t .i) (omega arith)
-    (λ e. c .if1 .taken (c .before .before .wider .ensures .0 ∙ (e ∙ sym (c .before .literal-in .ensures))))
+    (λ e. c .if1 .taken (c .before .before .wide .ensures ∙ (e ∙ sym (c .before .number-in .ensures))))
     (t .inv)
 
 add-i : tie.Need-add-i Inv-loop μ-loop
@@ -53,9 +53,9 @@ loop-again c =
     let s = c .before .before .before .before .before .before .before .before in
     let t = c .before .before .before .before .before .loop in
     let l = s .args .numbers .now in
-    let said = literalIn (s .args .list .now) (s .args .at) (s .args .n) in
+    let said = numberIn (s .args .list .now) (s .args .at) (s .args .n) (s .args .behind) in
     same l said (differs l said 0) (t .i) (omega arith)
-    (sym (c .before .before .wider .ensures .0) ∙ (c .if1 .left ∙ c .before .literal-in .ensures))
+    (sym (c .before .before .wide .ensures) ∙ (c .if1 .left ∙ c .before .number-in .ensures))
     (t .inv)
 
 returns-2 : tie.Need-returns-2 Inv-loop μ-loop
@@ -63,7 +63,7 @@ returns-2 c =
     let s = c .before .before .before .before in
     let t = c .before .loop in
     let l = s .args .numbers .now in
-    let said = literalIn (s .args .list .now) (s .args .at) (s .args .n) in
+    let said = numberIn (s .args .list .now) (s .args .at) (s .args .n) (s .args .behind) in
     none l said (differs l said 0) (t .i) (omega arith) (t .inv)
 
 pub numbers-differ-spec : {M : Type 1} → statement M
@@ -73,10 +73,10 @@ numbers-differ-spec =
     Inv-loop
     μ-loop
     loop-holds
-    mul-wider
-    shared-slice-read-wider
-    wider-requires
-    literal-in-requires
+    mul-wide
+    shared-slice-read-wide
+    wide-requires
+    number-in-requires
     returns
     add-i
     loop-less
