@@ -24,8 +24,8 @@ struct Step {
     end: usize,
 }
 
-// The step of a call whose answer by value is d, and on a lent board l.
-fn answered(d: Decided, l: Decided, expected: usize, end: usize) -> Step {
+// The step of a call on the board b whose answer by value is d, and on a lent board l. A refused call leaves the board as it was.
+fn answered(b: Board, d: Decided, l: Decided, expected: usize, end: usize) -> Step {
     let answer = d.answer;
     let board = d.board;
     let lent_answer = l.answer;
@@ -34,7 +34,8 @@ fn answered(d: Decided, l: Decided, expected: usize, end: usize) -> Step {
         board,
         differs: replay::number(answer) != expected
             || replay::number(lent_answer) != expected
-            || boards::boards_differ(lent, board),
+            || boards::boards_differ(lent, board)
+            || expected != 0 && boards::boards_differ(board, b),
         end,
     }
 }
@@ -58,6 +59,7 @@ fn make_decide(list: &[u8], at: usize, b: Board) -> Step
     let index = replay::number_at(list, at + 1);
     let value = list[at + 3];
     answered(
+        b,
         b.decide(index, value),
         boards::decide_lent(b, index, value),
         replay::wide(list[at + 4]),
@@ -73,6 +75,7 @@ fn make_undo(list: &[u8], at: usize, b: Board) -> Step
         return broken(b);
     }
     answered(
+        b,
         b.undo(),
         boards::undo_lent(b),
         replay::wide(list[at + 1]),
