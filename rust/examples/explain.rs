@@ -10,7 +10,14 @@ fn main() {
     };
     let mut constraint = Constraint::new(&problem).expect("within the limits");
     constraint.initialize_sat(10);
-    for (index, value) in [(0, true), (4, true), (8, true), (9, true), (1, false), (5, false)] {
+    for (index, value) in [
+        (0, true),
+        (4, true),
+        (8, true),
+        (9, true),
+        (1, false),
+        (5, false),
+    ] {
         constraint.notify(index, value);
     }
     println!("so far: {:?}", constraint.find_inconsistency());

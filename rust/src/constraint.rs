@@ -1,15 +1,32 @@
 //! A constraint with the original's calls.
 
-use crate::host::{find, Literal};
+use crate::host::{decode, encode, find_bytes, literals, Literal};
 use crate::record::{Problem, Record, RecordError};
 
 /// Stands where `EvolminoConstraint` stood: the calls of cspuz_core's `SimpleCustomConstraint`, with the same signatures, the same
 /// answers in the same order, and a panic where the original panics.
+///
+/// The trait is cspuz_core's, so a solver that uses it wraps this type in one of its own and hands each call on:
+///
+/// ```ignore
+/// struct Evolmino(evolmino::Constraint);
+///
+/// impl SimpleCustomConstraint for Evolmino {
+///     fn initialize_sat(&mut self, num_inputs: usize) { self.0.initialize_sat(num_inputs) }
+///     fn notify(&mut self, index: usize, value: bool) { self.0.notify(index, value) }
+///     fn find_inconsistency(&mut self) -> Option<Vec<(usize, bool)>> { self.0.find_inconsistency() }
+///     fn undo(&mut self) { self.0.undo() }
+///     fn lazy_propagation(&self) -> bool { self.0.lazy_propagation() }
+/// }
+/// ```
 #[derive(Clone, Debug)]
 pub struct Constraint {
     record: Record,
     decided: Vec<bool>,
-    decisions: Vec<Literal>,
+    /// The decisions that stand, in order, as the exported call takes them.
+    decisions: Vec<u8>,
+    /// Room for the longest reason of this record, kept from call to call.
+    output: Vec<u8>,
 }
 
 impl Constraint {
@@ -21,10 +38,11 @@ impl Constraint {
             record,
             decided: vec![false; cells],
             decisions: vec![],
+            output: vec![0; 2 * (3 * cells + 1)],
         })
     }
 
-    /// The board is cheap to look at only once many values are decided.
+    /// `true`, as in the original: the solver asks for an inconsistency only when no further value waits to be notified.
     pub fn lazy_propagation(&self) -> bool {
         true
     }
@@ -41,8 +59,9 @@ impl Constraint {
     /// If there is no such cell, or it is decided already.
     pub fn notify(&mut self, index: usize, value: bool) {
         assert!(!self.decided[index], "cell {index} is decided already");
+        let pair = encode((index, value)).expect("a cell's index has ten bits");
         self.decided[index] = true;
-        self.decisions.push((index, value));
+        self.decisions.extend_from_slice(&pair);
     }
 
     /// The latest decision is taken back.
@@ -50,12 +69,21 @@ impl Constraint {
     /// # Panics
     /// If nothing is decided.
     pub fn undo(&mut self) {
-        let (index, _) = self.decisions.pop().expect("a decision stands");
+        let kept = self
+            .decisions
+            .len()
+            .checked_sub(2)
+            .expect("a decision stands");
+        let (index, _) = decode(&self.decisions[kept..]);
+        self.decisions.truncate(kept);
         self.decided[index] = false;
     }
 
-    /// A list of decisions that no board that meets the block rules agrees with, if the decisions that stand give one.
+    /// A list of decisions that no board that meets the block rules agrees with, if the decisions that stand give one. A decision may
+    /// stand in it twice, as in the original.
     pub fn find_inconsistency(&mut self) -> Option<Vec<Literal>> {
-        find(self.record.bytes(), &self.decisions).expect("a record of our own and decisions tested by notify are accepted")
+        let count = find_bytes(self.record.bytes(), &self.decisions, &mut self.output)
+            .expect("a record of our own and decisions tested by notify are accepted");
+        literals(&self.output, count)
     }
 }

@@ -19,7 +19,8 @@ pub type Literal = (usize, bool);
 /// The bytes that suffice for a reason on the largest grid: 2 × (3 × 32 × 32 + 1).
 const OUTPUT_LIMIT: usize = 2 * (3 * 32 * 32 + 1);
 
-/// Why there is no answer, by the number in document 01's table.
+/// Why there is no answer, by the number in README's table of refusals. The exported call never gives [`Refusal::Board`],
+/// [`Refusal::Value`] and [`Refusal::NothingDecided`]: its board is its own, and a decision has one bit of value.
 #[derive(Clone, Copy, Debug, PartialEq, Eq, Hash)]
 pub enum Refusal {
     /// 1: the record ends inside a field, or before one that is due.
@@ -70,7 +71,7 @@ impl Refusal {
         Refusal::ALL.get(place).copied()
     }
 
-    /// The number in document 01's table.
+    /// The number in README's table.
     pub fn number(self) -> u32 {
         self as u32 + 1
     }
@@ -90,7 +91,9 @@ impl fmt::Display for Refusal {
             Refusal::Decided => "the cell is decided already",
             Refusal::NothingDecided => "nothing to undo",
             Refusal::OutputShort => "the output is too short",
-            Refusal::Decision => "a decision's five bits are not zero, or a single byte is left over",
+            Refusal::Decision => {
+                "a decision's five bits are not zero, or a single byte is left over"
+            }
         };
         write!(f, "refused {}: {}", self.number(), what)
     }
@@ -100,6 +103,8 @@ impl std::error::Error for Refusal {}
 
 /// The exported call itself, on bytes: a record, decisions of two bytes each, and an output. It returns the number of literals that
 /// stand in the output's first bytes, two bytes each, 0 for none; behind them, and where it refuses, the output is unchanged.
+///
+/// It keeps nothing, takes nothing from the heap and up to about 110 kilobytes of stack.
 pub fn find_bytes(record: &[u8], decisions: &[u8], output: &mut [u8]) -> Result<usize, Refusal> {
     // Safe: each pointer comes from a slice and goes with its length; the call reads the first two, writes only the third, and
     // keeps none of them.
@@ -115,13 +120,14 @@ pub fn find_bytes(record: &[u8], decisions: &[u8], output: &mut [u8]) -> Result<
     };
     match usize::try_from(answer) {
         Ok(count) => Ok(count),
-        Err(_) => Err(Refusal::from_number(answer.unsigned_abs()).expect("a number of document 01's table")),
+        Err(_) => Err(Refusal::from_number(answer.unsigned_abs()).expect("a number of the table")),
     }
 }
 
 /// Opens the record, decides in order and finds: why no board that agrees with the decisions can be finished, or `None`.
 ///
-/// Each literal of a reason is one of the decisions. An index that doesn't fit a decision's ten bits is [`Refusal::Index`].
+/// Each literal of a reason is one of the decisions; one may stand twice. An index that doesn't fit a decision's ten bits is
+/// [`Refusal::Index`].
 pub fn find(record: &[u8], decisions: &[Literal]) -> Result<Option<Vec<Literal>>, Refusal> {
     let mut bytes = Vec::with_capacity(2 * decisions.len());
     let mut fits = decisions.len();
@@ -139,21 +145,27 @@ pub fn find(record: &[u8], decisions: &[Literal]) -> Result<Option<Vec<Literal>>
     if fits < decisions.len() {
         return Err(Refusal::Index);
     }
+    Ok(literals(&output, count))
+}
+
+/// The first `count` literals of an output, `None` where there are none.
+pub(crate) fn literals(output: &[u8], count: usize) -> Option<Vec<Literal>> {
     if count == 0 {
-        return Ok(None);
+        return None;
     }
-    Ok(Some(output[..2 * count].chunks_exact(2).map(decode).collect()))
+    Some(output[..2 * count].chunks_exact(2).map(decode).collect())
 }
 
 /// A decision as two bytes: value (1 bit), five zero bits, index (10); nothing where the index has more bits.
-fn encode((index, value): Literal) -> Option<[u8; 2]> {
+pub(crate) fn encode((index, value): Literal) -> Option<[u8; 2]> {
     if index >= 1 << 10 {
         return None;
     }
     Some(((value as u16) << 15 | index as u16).to_be_bytes())
 }
 
-fn decode(pair: &[u8]) -> Literal {
+/// The literal in two bytes.
+pub(crate) fn decode(pair: &[u8]) -> Literal {
     let word = u16::from_be_bytes([pair[0], pair[1]]);
     ((word & 0x7FFF) as usize, word >> 15 == 1)
 }

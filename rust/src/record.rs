@@ -50,7 +50,10 @@ impl fmt::Display for RecordError {
             RecordError::Arrows(n) => write!(f, "{n} arrows are more than 2,047"),
             RecordError::NoCell(a) => write!(f, "arrow {a} has no cell"),
             RecordError::OffGrid(a) => write!(f, "a cell of arrow {a} is off the grid"),
-            RecordError::Step(a) => write!(f, "two cells of arrow {a} that follow each other share no side"),
+            RecordError::Step(a) => write!(
+                f,
+                "two cells of arrow {a} that follow each other share no side"
+            ),
             RecordError::UsedTwice(a) => write!(f, "a cell of arrow {a} is used twice"),
         }
     }
@@ -58,7 +61,9 @@ impl fmt::Display for RecordError {
 
 impl std::error::Error for RecordError {}
 
-/// The record of a puzzle: its fields packed most significant bit first.
+/// The record of a puzzle, its fields packed most significant bit first: height − 1 (5 bits), width − 1 (5), number of arrows (11), each
+/// cell row by row (2: 0 plain, 1 black, 2 given square); then each arrow: start row (5), start column (5), length − 1 (10) and its steps
+/// (2 each: 0 up, 1 down, 2 left, 3 right). Zero bits fill the last byte.
 #[derive(Clone, Debug, PartialEq, Eq)]
 pub struct Record {
     bytes: Vec<u8>,

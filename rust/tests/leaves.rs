@@ -18,7 +18,10 @@ fn strip() -> Problem {
 #[test]
 fn leaves() {
     assert_eq!(find(&S, &[]), Ok(None));
-    assert_eq!(find(&S, &[(0, true), (1, true)]), Ok(Some(vec![(0, true), (1, true)])));
+    assert_eq!(
+        find(&S, &[(0, true), (1, true)]),
+        Ok(Some(vec![(0, true), (1, true)]))
+    );
     assert_eq!(
         find(&S, &[(0, true), (2, true)]),
         Ok(Some(vec![(0, true), (2, true), (0, true)]))
@@ -38,7 +41,14 @@ fn two_by_five() {
         arrows: vec![(0..5).map(|x| (0, x)).collect()],
     };
     let record = Record::new(&problem).unwrap();
-    let mut decisions = vec![(0, true), (4, true), (8, true), (9, true), (1, false), (5, false)];
+    let mut decisions = vec![
+        (0, true),
+        (4, true),
+        (8, true),
+        (9, true),
+        (1, false),
+        (5, false),
+    ];
     assert_eq!(find(record.bytes(), &decisions), Ok(None));
     decisions.push((2, false));
     assert_eq!(
@@ -72,16 +82,25 @@ fn decision_refusals() {
     assert_eq!(find(&S, &[(0, true), (4000, true)]), Err(Refusal::Index));
     assert_eq!(find(&S, &[(0, true), (0, false)]), Err(Refusal::Decided));
     let mut output = [0xFF; 20];
-    assert_eq!(find_bytes(&S, &[0x84, 0x00], &mut output), Err(Refusal::Decision));
+    assert_eq!(
+        find_bytes(&S, &[0x84, 0x00], &mut output),
+        Err(Refusal::Decision)
+    );
     assert_eq!(find_bytes(&S, &[0x80], &mut output), Err(Refusal::Decision));
-    assert_eq!(find_bytes(&S, &[], &mut output[..19]), Err(Refusal::OutputShort));
+    assert_eq!(
+        find_bytes(&S, &[], &mut output[..19]),
+        Err(Refusal::OutputShort)
+    );
     assert_eq!(output, [0xFF; 20]);
 }
 
 #[test]
 fn only_literals_are_written() {
     let mut output = [0xFF; 20];
-    assert_eq!(find_bytes(&S, &[0x80, 0x00, 0x80, 0x02], &mut output), Ok(3));
+    assert_eq!(
+        find_bytes(&S, &[0x80, 0x00, 0x80, 0x02], &mut output),
+        Ok(3)
+    );
     assert_eq!(output[..6], [0x80, 0x00, 0x80, 0x02, 0x80, 0x00]);
     assert_eq!(output[6..], [0xFF; 14]);
 }
@@ -106,6 +125,14 @@ fn records() {
         arrows: vec![],
     };
     assert_eq!(Record::new(&wide), Err(RecordError::Width(33)));
+    let tall = Problem {
+        cells: vec![vec![ProblemCell::Empty]; 33],
+        arrows: vec![],
+    };
+    assert_eq!(Record::new(&tall), Err(RecordError::Height(33)));
+    let mut many = strip();
+    many.arrows = vec![vec![(0, 0)]; 2048];
+    assert_eq!(Record::new(&many), Err(RecordError::Arrows(2048)));
     let ragged = Problem {
         cells: vec![vec![ProblemCell::Black; 2], vec![ProblemCell::Square; 3]],
         arrows: vec![],
@@ -127,14 +154,31 @@ fn constraint() {
     constraint.notify(0, true);
     assert_eq!(constraint.find_inconsistency(), None);
     constraint.notify(1, true);
-    assert_eq!(constraint.find_inconsistency(), Some(vec![(0, true), (1, true)]));
+    assert_eq!(
+        constraint.find_inconsistency(),
+        Some(vec![(0, true), (1, true)])
+    );
     constraint.undo();
     constraint.notify(1, false);
     assert_eq!(constraint.find_inconsistency(), None);
+    constraint.undo();
+    constraint.undo();
+    constraint.notify(0, true);
+    constraint.notify(2, true);
+    assert_eq!(
+        constraint.find_inconsistency(),
+        Some(vec![(0, true), (2, true), (0, true)])
+    );
 }
 
 #[test]
-#[should_panic]
+fn a_constraint_goes_from_thread_to_thread() {
+    fn goes<T: Send + Sync>(_: &T) {}
+    goes(&Constraint::new(&strip()).unwrap());
+}
+
+#[test]
+#[should_panic(expected = "decided already")]
 fn a_cell_is_decided_once() {
     let mut constraint = Constraint::new(&strip()).unwrap();
     constraint.notify(0, true);
@@ -142,7 +186,19 @@ fn a_cell_is_decided_once() {
 }
 
 #[test]
-#[should_panic]
+#[should_panic(expected = "index out of bounds")]
+fn a_cell_is_on_the_grid() {
+    Constraint::new(&strip()).unwrap().notify(3, true);
+}
+
+#[test]
+#[should_panic(expected = "left: 4")]
+fn there_are_as_many_inputs_as_cells() {
+    Constraint::new(&strip()).unwrap().initialize_sat(4);
+}
+
+#[test]
+#[should_panic(expected = "a decision stands")]
 fn nothing_to_undo() {
     Constraint::new(&strip()).unwrap().undo();
 }
