@@ -6,8 +6,17 @@
 use std::env;
 use std::path::{Path, PathBuf};
 
-const EVOLMINO: &str = "src--cspuz_rs_puzzles--src--puzzles--evolmino.rs.txt";
-const UTIL: &str = "src--cspuz_rs_puzzles--src--util.rs.txt";
+/// The files as a checkout of semiexp/cspuz_core has them, and as a folder of single files has them.
+const FILES: [[&str; 2]; 2] = [
+    [
+        "cspuz_rs_puzzles/src/puzzles/evolmino.rs",
+        "cspuz_rs_puzzles/src/util.rs",
+    ],
+    [
+        "src--cspuz_rs_puzzles--src--puzzles--evolmino.rs.txt",
+        "src--cspuz_rs_puzzles--src--util.rs.txt",
+    ],
+];
 
 fn main() {
     println!("cargo:rerun-if-changed=build.rs");
@@ -24,18 +33,19 @@ fn folder(variable: &str, default: &str) -> PathBuf {
 }
 
 fn find_original(folder: &Path) {
-    let evolmino = folder.join(EVOLMINO);
-    let util = folder.join(UTIL);
-    println!("cargo:rerun-if-changed={}", evolmino.display());
-    println!("cargo:rerun-if-changed={}", util.display());
-    if evolmino.is_file() && util.is_file() {
-        println!("cargo:rustc-cfg=original");
-        println!("cargo:rustc-env=EVOLMINO_RS={}", evolmino.display());
-        println!("cargo:rustc-env=EVOLMINO_UTIL_RS={}", util.display());
-    } else {
-        println!(
-            "cargo:warning=the original is not in {}: set EVOLMINO_ORIGINAL",
-            folder.display()
-        );
+    for files in FILES {
+        let [evolmino, util] = files.map(|file| folder.join(file));
+        println!("cargo:rerun-if-changed={}", evolmino.display());
+        println!("cargo:rerun-if-changed={}", util.display());
+        if evolmino.is_file() && util.is_file() {
+            println!("cargo:rustc-cfg=original");
+            println!("cargo:rustc-env=EVOLMINO_RS={}", evolmino.display());
+            println!("cargo:rustc-env=EVOLMINO_UTIL_RS={}", util.display());
+            return;
+        }
     }
+    println!(
+        "cargo:warning=the original is not in {}: set EVOLMINO_ORIGINAL",
+        folder.display()
+    );
 }

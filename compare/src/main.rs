@@ -58,9 +58,11 @@ compare program PATH [--seed N] [--count N]
 compare bench [--seed N] [--count ROUNDS]
 compare host [--seed N] [--count N]
 compare fuzz [--seed N] [--count N]
-compare reason < INPUT";
+compare reason < INPUT
+compare original";
 
-const NOT_AT_HAND: &str = "the original is not at hand: name the folder with its two files \
+const NOT_AT_HAND: &str =
+    "the original is not at hand: name a checkout of it, or a folder with its two files, \
                            in EVOLMINO_ORIGINAL and build again";
 
 fn main() -> ExitCode {
@@ -86,8 +88,14 @@ fn run(options: &Options) -> Outcome {
         "program" => commands::program::run(seed, count(2_000), path()?),
         "reason" => reason(),
         "fuzz" => commands::fuzz::run(seed, count(1_000_000)),
-        "finds" | "calls" | "groups" | "lists" | "bench" | "host" if !original::AT_HAND => {
+        "finds" | "calls" | "groups" | "lists" | "bench" | "host" | "original"
+            if !original::AT_HAND =>
+        {
             Err(NOT_AT_HAND.to_string())
+        }
+        "original" => {
+            println!("semiexp/cspuz_core, commit {}", original::COMMIT);
+            Ok(())
         }
         "finds" => commands::finds::run(seed, count(100_000)),
         "calls" => commands::calls::run(seed, count(20_000)),
