@@ -3,7 +3,6 @@ use board::Board;
 use literals::Finding;
 ghost use mathlib.Core.Path.{_≡_};
 ghost use Prim.Native.Nat.{_≤_};
-ghost use lib.ListN.{length};
 ghost use Rattle.finished.specs.Finished.{keeps, keepsAll};
 ghost use Rattle.finished.specs.Verdicts.{finishedOf};
 
@@ -43,13 +42,6 @@ fn all_keep_given<'a>(codes: &'a [u8; 1024], cells: &'a [u8; 1024], n: usize) ->
     good
 }
 
-// Room for the longest reason.
-fn no_literals() -> [u16; Board::LITERALS]
-    ensures { λ r. ⌜ length r ≡ 3073 ⌝ }
-{
-    [0u16; Board::LITERALS]
-}
-
 // Whether every cell is decided, black cells are empty, given squares are square and the block rules hold. On a board whose cells are all
 // decided the block rules hold exactly when find gives none. Refused: 6 a board that no list of calls could leave.
 pub fn finished(board: Board) -> Verdict
@@ -63,7 +55,7 @@ pub fn finished(board: Board) -> Verdict
     if !all_keep_given(&board.problem.cells, &board.cells, h * w) {
         return Verdict::No;
     }
-    let mut buffer = no_literals();
+    let mut buffer = reasons::no_literals();
     let finding = reasons::find(board, &mut buffer);
     match finding {
         Finding::Nothing => Verdict::Yes,

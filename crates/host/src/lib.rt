@@ -23,13 +23,6 @@ fn negated(k: u8) -> i32
     -(k as i32)
 }
 
-// Room for the longest reason.
-fn no_literals() -> [u16; Board::LITERALS]
-    ensures { λ r. ⌜ length r ≡ 3073 ⌝ }
-{
-    [0u16; Board::LITERALS]
-}
-
 // Writes the first `count` literals to the output, each as two bytes, most significant first.
 fn write_literals(literals: &[u16], count: usize, output: &mut [u8])
     requires { ⌜ (count ≤ length (now literals)) × (2 * count ≤ length (now output)) ⌝ }
@@ -60,7 +53,7 @@ fn find_on<'a>(
     ensures { λ r. ⌜ (r ≡ returned (ok (findReason (puzzleWith (sized h w) (linesOf (now (arrows .entry)) (now (ends .entry)) number)) (take (h * w) (now (cells .entry))))))
         × (now (output .exit) ≡ outputAfter (ok (findReason (puzzleWith (sized h w) (linesOf (now (arrows .entry)) (now (ends .entry)) number)) (take (h * w) (now (cells .entry))))) (now (output .entry))) ⌝ }
 {
-    let mut literals = no_literals();
+    let mut literals = reasons::no_literals();
     let found = inconsistency::find_inconsistency(cells, arrows, ends, number, h, w, &mut literals);
     match found {
         Finding::Nothing => 0,

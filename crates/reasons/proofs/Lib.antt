@@ -12,6 +12,7 @@ pub mod Sound
 pub mod OnMachine
 pub mod Demand3
 pub mod ReasonLaws
+pub mod Room
 pub mod NonEmpty
 pub mod BoardArrays
 pub mod Unchanged

@@ -2,7 +2,15 @@
 use board::Board;
 use literals::Finding;
 ghost use mathlib.Core.Path.{_≡_};
+ghost use lib.ListN.{replicate};
 ghost use Rattle.reasons.specs.Find.{findOf, bufferAfter};
+
+// A buffer with room for the longest reason, for a caller that has none.
+pub fn no_literals() -> [u16; Board::LITERALS]
+    ensures { λ r. ⌜ r ≡ replicate 3073 0 ⌝ }
+{
+    [0u16; Board::LITERALS]
+}
 
 // Why the board can't be finished: the first reason that applies, its literals written to the buffer's first places. Refused: 6 a
 // board that no list of calls could leave, 11 a buffer shorter than 3 × H × W + 1 literals.

@@ -10,6 +10,7 @@ use Rattle.grid.proofs.SideLaws.{area}
 use Rattle.record.specs.Problem.{gridOf}
 use Rattle.board.specs.Form.{wellFormed}
 use Rattle.reasons.proofs.BoardArrays.{board-sizes}
+use Rattle.reasons.proofs.Room.{room-length}
 use Rattle.finished.specs.Finished.{keepsAll}
 use Rattle.finished.proofs.VerdictLaws.{finished-ill, finished-open, finished-yes, finished-no, not-refused}
 use borrow.Author.Needs.{needs}
@@ -63,13 +64,13 @@ enum-known-finding : tie.Need-enum-known-finding
 enum-known-finding c = search needs
 
 returns-3 : tie.Need-returns-3
-returns-3 c = finished-yes (c .before .before .before .before .before .before .before .before .before .before .before .before .before .args .t1) (formed (c .before .before .before .before .before .before .before .before .before .before .before)) (keeping (c .before .before .before .before .before .before)) _ (c .before .before .before .before .before .no-literals .ensures) (sym (c .before .before .before .find .ensures .0) ∙ c .enum-told .given .1)
+returns-3 c = finished-yes (c .before .before .before .before .before .before .before .before .before .before .before .before .before .args .t1) (formed (c .before .before .before .before .before .before .before .before .before .before .before)) (keeping (c .before .before .before .before .before .before)) _ (room-length (c .before .before .before .before .before .no-literals .ensures)) (sym (c .before .before .before .find .ensures .0) ∙ c .enum-told .given .1)
 
 returns-4 : tie.Need-returns-4
-returns-4 c = finished-no (c .before .before .before .before .before .before .before .before .before .before .before .before .before .args .t1) (formed (c .before .before .before .before .before .before .before .before .before .before .before)) (keeping (c .before .before .before .before .before .before)) _ (c .before .before .before .before .before .no-literals .ensures) (sym (c .before .before .before .find .ensures .0) ∙ c .enum-told2 .given .1)
+returns-4 c = finished-no (c .before .before .before .before .before .before .before .before .before .before .before .before .before .args .t1) (formed (c .before .before .before .before .before .before .before .before .before .before .before)) (keeping (c .before .before .before .before .before .before)) _ (room-length (c .before .before .before .before .before .no-literals .ensures)) (sym (c .before .before .before .find .ensures .0) ∙ c .enum-told2 .given .1)
 
 returns-5 : tie.Need-returns-5
-returns-5 c = absurd (not-refused (c .before .before .before .before .before .before .before .before .before .before .before .before .before .before .args .t1) (formed (c .before .before .before .before .before .before .before .before .before .before .before .before)) (keeping (c .before .before .before .before .before .before .before)) _ (c .before .before .before .before .before .before .no-literals .ensures) (sym (c .before .before .before .before .find .ensures .0) ∙ c .before .finding .given .1))
+returns-5 c = absurd (not-refused (c .before .before .before .before .before .before .before .before .before .before .before .before .before .before .args .t1) (formed (c .before .before .before .before .before .before .before .before .before .before .before .before)) (keeping (c .before .before .before .before .before .before .before)) _ (room-length (c .before .before .before .before .before .before .no-literals .ensures)) (sym (c .before .before .before .before .find .ensures .0) ∙ c .before .finding .given .1))
 
 pub finished-spec : {M : Type 1} → statement M
 finished-spec =

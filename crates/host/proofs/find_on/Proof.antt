@@ -11,6 +11,7 @@ use Rattle.grid.proofs.SideLaws.{area}
 use Rattle.kinds.specs.Inside.{puzzleWith}
 use Rattle.literals.specs.Literals.{Found}
 use Rattle.reasons.specs.Reasons.{findReason}
+use Rattle.reasons.proofs.Room.{room-length}
 use Rattle.groups.specs.Arrows.{linesOf}
 use Rattle.literals.proofs.Findings.{nothing-found, not-refused}
 use Rattle.host.proofs.FoundLaws.{Literals, found-literals, few-literals, none-told, literals-told}
@@ -48,7 +49,7 @@ slice-aggregate-find-inconsistency c = search needs
 find-inconsistency-requires : tie.Need-find-inconsistency-requires
 find-inconsistency-requires c κs =
     let s = c .before .before .before in
-    (record { tall = s .pre .0; wide = s .pre .1; room = omega (arith, cells-few s, c .before .no-literals .ensures) }, s .pre .3)
+    (record { tall = s .pre .0; wide = s .pre .1; room = omega (arith, cells-few s, room-length (c .before .no-literals .ensures)) }, s .pre .3)
 
 enum-told : tie.Need-enum-told
 enum-told c = search needs
