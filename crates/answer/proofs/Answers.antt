@@ -18,7 +18,7 @@ use Rattle.text.specs.Text.{digits, line, twoWords, reasonText, literalLine, li
 use Rattle.text.specs.Told.{toldBy, countOf, toldText}
 use Rattle.text.specs.declared.Told.{Told}
 use Rattle.answer.specs.Program.{textOf, programFinds, printed}
-use Rattle.host.proofs.Returns.{refusals, Possible, refusal-of, value-of}
+use Rattle.host.specs.Returns.{refusals, Possible, refusal-of, value-of}
 use Rattle.answer.proofs.Finds.{Printable, nothing, reason, program-finds, refusal-small}
 
 -- a literal, read back from its two bytes

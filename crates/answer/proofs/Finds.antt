@@ -15,7 +15,8 @@ use Rattle.grid.proofs.ListLaws.{all-mem, and-true}
 use Rattle.record.specs.Record.{Outcome}
 use Rattle.grid.specs.Cells.{Literal}
 use Rattle.literals.specs.Literals.{Found}
-use Rattle.host.proofs.Returns.{refusals, Bytes, Possible, refusal-of, FoundOn, no-reason, some-reason, FoundWith, possible-more, listed, few-cells, host-possible, byte-value}
+use Rattle.host.specs.Returns.{refusals, Bytes, Possible, refusal-of, FoundOn, no-reason, some-reason, FoundWith}
+use Rattle.host.proofs.Returns.{possible-more, listed, few-cells, host-possible, byte-value}
 use Rattle.answer.specs.Program.{outputLimit, answerOf, inputAnswer, programFinds}
 
 -- none, or a reason of 1 to 3,073 literals, each an index below 1,024 with a value

@@ -13,7 +13,8 @@ use Rattle.grid.proofs.ListLaws.{all-mem, and-true}
 use Rattle.grid.proofs.AppendLaws.{init-more}
 use Rattle.record.specs.Record.{Outcome, refused}
 use Rattle.literals.specs.Literals.{Found}
-use Rattle.host.proofs.Returns.{refusals, Bytes, among, in-list, Possible, refusal-of, value-of}
+use Rattle.host.specs.Returns.{refusals, Bytes, Possible, refusal-of, value-of}
+use Rattle.host.proofs.Returns.{among, in-list}
 use Rattle.text.specs.Text.{digits, line, twoWords, noneText, reasonText, refusedText}
 use Rattle.answer.specs.Program.{textOf, printed}
 use Rattle.text.proofs.DigitLaws.{digits-same}

@@ -10,23 +10,24 @@ use lib.Dec.{eqb, leb}
 use lib.ListN.{length, getD, take, length-map, length-append}
 use lib.Seq.{length-take-le, getD-take, ext-getD}
 use borrow.Author.Tests.{eqb-true, eq-eqb, leb-true, le-leb, ne-eqb}
-use Rattle.grid.specs.Lists.{all, any, member, upto, range, arrayOf, Distinct}
-use Rattle.grid.specs.Grid.{Grid, size, cellsOf}
-use Rattle.grid.proofs.ListLaws.{and-true, true-and, dec-so, so-false, mem-member, member-mem, all-mem, mem-all, mem-upto, upto-mem, at-mem, length-map-range}
+use Rattle.grid.specs.Lists.{all, any, member, upto, arrayOf, Distinct}
+use Rattle.grid.specs.Grid.{Grid, size}
+use Rattle.grid.proofs.ListLaws.{and-true, true-and, dec-so, so-false, mem-member, member-mem, all-mem, mem-all, mem-upto, upto-mem, at-mem}
 use Rattle.grid.proofs.ArrayLaws.{array-length, array-take, array-in}
+use Rattle.grid.proofs.GridLaws.{size-most}
 use Rattle.record.specs.Record.{Puzzle}
 use Rattle.record.specs.Valid.{Fresh, Valid}
 use Rattle.record.specs.Problem.{problemOf, puzzleOf, gridOf}
 use Rattle.record.proofs.FreshLaws.{fresh-length}
 use Rattle.form.specs.Form.{long, behind, fresh, problemFormed, shown, stated, ordered}
 use Rattle.form.proofs.ArrayTests.{behind-kept, kept-behind, fresh-is, is-fresh}
-use Rattle.form.proofs.ProblemForm.{Formed, formed-is, is-formed, formed-again, valid-formed, size-most}
+use Rattle.form.proofs.ProblemForm.{Formed, formed-is, is-formed, formed-again, valid-formed}
 use Rattle.board.specs.declared.Board.{Board}
 use Rattle.grid.specs.Cells.{Literal}
 use Rattle.board.specs.Board.{valueAt, cellsAfter, decided}
 use Rattle.board.specs.Kept.{boardOf}
 use Rattle.board.specs.Form.{wellFormed}
-use Rattle.board.proofs.Standing.{Standing, none, more, index, standing-low, standing-distinct, cell-value}
+use Rattle.board.proofs.Standing.{Standing, none, more, index, standing-low, standing-distinct, cell-value, cells-length}
 
 -- ---- decisions on listed cells
 
@@ -212,9 +213,8 @@ module _ (b : Board) (w : Whole b) where
       go false q = sym (eqb-true (getD (b .cells) i 0) 2 q)
 
   cells-are : cellsAfter g (decisionsOf b) ≡ take (size g) (b .cells)
-  unfolding cellsAfter cellsOf upto
   cells-are =
-      let len : length (map (valueAt (decisionsOf b)) (range 0 (size g))) ≡ size g = length-map-range (valueAt (decisionsOf b)) 0 (size g) in
+      let len : length (cellsAfter g (decisionsOf b)) ≡ size g = cells-length g (decisionsOf b) in
       ext-getD 0 (cellsAfter g (decisionsOf b)) (take (size g) (b .cells)) (len ∙ sym (length-take-le (size g) (b .cells) (omega (arith, most, w .cells-long)))) (λ i h.
       let h′ : i < size g = omega (arith, len) in
       cell-value g (decisionsOf b) i h′ ∙ value i h′ ∙ sym (getD-take (size g) (b .cells) i 0 h′))
@@ -264,13 +264,9 @@ module _ (p : Puzzle) (v : Valid p) {ds : List Literal} (s : Standing (p .grid) 
   grid-most : size (p .grid) ≤ 1024
   grid-most = size-most (p .grid) (v .high .0) (v .high .1)
 
-  cells-count : length (cellsAfter (p .grid) ds) ≡ size (p .grid)
-  unfolding cellsAfter cellsOf upto
-  cells-count = length-map-range (valueAt ds) 0 (size (p .grid))
-
   -- the board shows the value at each cell
   pub cell-shown : (i : ℕ) → i < size (p .grid) → getD (arrayOf 2 (cellsAfter (p .grid) ds)) i 0 ≡ valueAt ds i
-  cell-shown i h = array-in 2 (cellsAfter (p .grid) ds) 0 i (omega (arith, cells-count)) ∙ cell-value (p .grid) ds i h
+  cell-shown i h = array-in 2 (cellsAfter (p .grid) ds) 0 i (omega (arith, cells-length (p .grid) ds)) ∙ cell-value (p .grid) ds i h
 
   order-taken : take (length ds) (arrayOf 0 (map index ds)) ≡ map index ds
   order-taken = rw (← length-map ds index) (array-take 0 (map index ds))
@@ -291,11 +287,11 @@ module _ (p : Puzzle) (v : Valid p) {ds : List Literal} (s : Standing (p .grid) 
       let f = standing-fresh s in
       record {
         problem = valid-formed p v;
-        cells-long = array-length 2 (cellsAfter (p .grid) ds) (omega (arith, cells-count, grid-most));
+        cells-long = array-length 2 (cellsAfter (p .grid) ds) (omega (arith, cells-length (p .grid) ds, grid-most));
         order-long = array-length 0 (map index ds) (omega (arith, length-map ds index));
         few = n;
         once = rw order-taken (is-fresh (size (p .grid)) (f .0) (f .1));
         zeros = kept-behind 0 (length ds) (map index ds) (length-map ds index);
         states = rw order-taken (mem-all (shown (map index ds) (arrayOf 2 (cellsAfter (p .grid) ds))) (upto (size (p .grid))) (λ i m. shows i (upto-mem (size (p .grid)) m)));
-        twos = kept-behind 2 (size (p .grid)) (cellsAfter (p .grid) ds) cells-count;
+        twos = kept-behind 2 (size (p .grid)) (cellsAfter (p .grid) ds) (cells-length (p .grid) ds);
       }

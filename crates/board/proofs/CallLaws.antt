@@ -11,10 +11,12 @@ use lib.Dec.{eqb, leb, ltb}
 use lib.ListN.{length, getD, set, length-set, length-append, length-map}
 use lib.Seq.{ext-getD, getD-set-same, getD-set-other, getD-at, set-set, set-getD}
 use borrow.Author.Tests.{eqb-true, eqb-false, eq-eqb, ne-eqb, ltb-true, leb-true}
-use Rattle.grid.specs.Lists.{any, init, upto, arrayOf}
-use Rattle.grid.specs.Grid.{Grid, size, cellsOf}
-use Rattle.grid.proofs.ListLaws.{dec-so, so-false, length-map-range}
+use Rattle.grid.specs.Lists.{any, init, arrayOf}
+use Rattle.grid.specs.Grid.{Grid, size}
+use Rattle.grid.proofs.ListLaws.{dec-so, so-false}
 use Rattle.grid.proofs.ArrayLaws.{array-set, array-more, array-less, array-in}
+use Rattle.grid.proofs.GridLaws.{size-most}
+use Rattle.grid.proofs.AppendLaws.{init-more}
 use Rattle.record.specs.Record.{Puzzle, Outcome, ok, refused, readRecord}
 use Rattle.record.specs.Valid.{Valid}
 use Rattle.record.specs.Write.{writeRecord}
@@ -23,7 +25,7 @@ use Rattle.record.specs.declared.Answer.the-variants.{Done}
 use Rattle.record.proofs.RecordLaws.{record-valid}
 use Rattle.record.proofs.WriteLaws.{round-trip, written-bytes}
 use Rattle.form.specs.Form.{problemFormed, sized}
-use Rattle.form.proofs.ProblemForm.{size-most, formed-valid}
+use Rattle.form.proofs.ProblemForm.{formed-valid}
 use Rattle.board.specs.declared.Board.{Board}
 use Rattle.grid.specs.Cells.{Literal}
 use Rattle.board.specs.Board.{valueAt, cellsAfter, Call, decide, undo, find, decided, after, refusal, afterAll, SameCells, SameDecisions}
@@ -31,7 +33,7 @@ use Rattle.board.specs.Kept.{boardOf, opening, openOf, blankBoard}
 use Rattle.board.specs.Form.{wellFormed}
 use Rattle.board.specs.Decide.{area, decideRefusal, undoRefusal, placed, removed, answered, decideOf, undoOf}
 use Rattle.board.specs.Calls.{left, leftAll, Leaves, standing, AfterCalls}
-use Rattle.board.proofs.Standing.{Standing, none, more, index, init-snoc, after-standing, standing-low, cell-value, calls-standing, standing-calls, same-board}
+use Rattle.board.proofs.Standing.{Standing, none, more, index, after-standing, standing-low, cell-value, cells-length, calls-standing, standing-calls, same-board}
 use Rattle.board.proofs.BoardForm.{whole-is, is-whole, decisionsOf, whole-standing, whole-again, standing-whole, standing-length, cell-shown, value-listed, value-free}
 
 -- ---- one more decision, and one less
@@ -50,10 +52,6 @@ value-more (d ∷ ds) i v j h = go (eqb (d .0) i) refl h (dec-so (eqb (d .0) j))
     go true q k x ih = absurd (true≢false k)
     go false q k (yes e) ih = rw (e, ne-eqb i j (λ (z : i ≡ j). eqb-false (d .0) i q (eqb-true (d .0) j e ∙ sym z))) refl
     go false q k (no n) ih = rw (so-false (eqb (d .0) j) n) (ih k)
-
-cells-length : (g : Grid) (ds : List Literal) → length (cellsAfter g ds) ≡ size g
-unfolding cellsAfter cellsOf upto
-cells-length g ds = length-map-range (valueAt ds) 0 (size g)
 
 -- the cells after one more decision
 cells-more : (g : Grid) (ds : List Literal) (i v : ℕ) → i < size g → decided ds i ≡ false → set (cellsAfter g ds) i v ≡ cellsAfter g (ds ++ ((i, v) ∷ []))
@@ -156,7 +154,7 @@ module _ (p : Puzzle) (v : Valid p) where
   pub undo-left : {ds : List Literal} → Standing (p .grid) ds → undoOf (boardOf p ds) .board ≡ boardOf p (init ds)
   unfolding undoOf
   undo-left none = rw (undo-number none) (unfold answered refusal init in refl)
-  undo-left (more {ds} {i} {v = x} s l k h) = rw (undo-number (more s l k h), init-snoc ds (i, x)) (go ds (removed-less s i x l k h))
+  undo-left (more {ds} {i} {v = x} s l k h) = rw (undo-number (more s l k h), init-more ds (i, x)) (go ds (removed-less s i x l k h))
     where
       go : (es : List Literal) → removed (boardOf p (es ++ ((i, x) ∷ []))) ≡ boardOf p es
           → answered (refusal (p .grid) undo (es ++ ((i, x) ∷ []))) (boardOf p (es ++ ((i, x) ∷ []))) (removed (boardOf p (es ++ ((i, x) ∷ [])))) .board ≡ boardOf p es

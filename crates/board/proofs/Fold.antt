@@ -65,7 +65,7 @@ module _ (q : Problem) (cells order : List ℕ) (n count x y : ℕ) (rest : List
       let r = decide-done b i v w (rw e l) value d in
       (rw (eq-eqb ((x * 256 + y) % 32768 / 1024) 0 h, ← r) refl, subst (λ z. wellFormed (z .board) ≡ true) (sym r) (decide-well b w i v))
 
--- the next two bytes, the last one, none
+-- the next two bytes, the last one
 pub two-left : (l : List ℕ) (at x y : ℕ) → at + 1 < length l → x ≡ getD l at 0 → y ≡ getD l (at + 1) 0 → drop at l ≡ x ∷ y ∷ drop (at + 2) l
 two-left l at x y h ex ey =
     let a : at + 1 ≡ suc at = add-one at in
@@ -74,9 +74,6 @@ two-left l at x y h ex ey =
 
 pub one-left : (l : List ℕ) (at : ℕ) → at < length l → length l ≤ at + 1 → drop at l ≡ getD l at 0 ∷ []
 one-left l at h k = rw (drop-cons l at 0 h, drop-of-length-le l {i = suc at} (omega arith)) refl
-
-pub none-left : (l : List ℕ) (at : ℕ) → length l ≤ at → drop at l ≡ []
-none-left l at h = drop-of-length-le l {i = at} h
 
 -- ---- the whole list
 

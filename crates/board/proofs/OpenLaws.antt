@@ -7,13 +7,13 @@ use mathlib.Core.List.{List, [], _∷_, map}
 use lib.ListN.{replicate, length-replicate, replicate-append-replicate}
 use Rattle.grid.specs.Lists.{range, upto, arrayOf}
 use Rattle.grid.specs.Grid.{Grid, size, cellsOf}
+use Rattle.grid.proofs.GridLaws.{size-most}
 use Rattle.record.specs.Record.{Outcome, ok, refused, Puzzle, readRecord}
 use Rattle.record.specs.Problem.{reading, readOf}
 use Rattle.record.specs.declared.Problem.{Problem}
 use Rattle.record.specs.declared.Reading.{Reading}
 use Rattle.record.specs.declared.Answer.{Answer}
 use Rattle.record.proofs.RecordLaws.{record-valid}
-use Rattle.form.proofs.ProblemForm.{size-most}
 use Rattle.board.specs.declared.Opened.{Opened}
 use Rattle.board.specs.Board.{valueAt, cellsAfter}
 use Rattle.board.specs.Kept.{boardOf, blankBoard, opening, openOf}

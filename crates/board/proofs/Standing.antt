@@ -8,26 +8,20 @@ use mathlib.Core.Logic.{_⊎_, inl, inr, _↔_}
 use mathlib.Core.Bool.{Bool, true, false, So, cond, _&&_, not, false≢true}
 use mathlib.Core.List.{List, [], _∷_, _++_, map, map-append, List·Memᴰ, List·Memᴰ·head, List·Memᴰ·tail, List·Memᴰ·not-nil, List·Memᴰ·append-cases, List·Memᴰ·eq-of-singleton, Memᴰ·map, Memᴰ·of-map}
 use lib.Dec.{eqb, leb, ltb}
-use lib.ListN.{getD, List·getD-eq-default}
+use lib.ListN.{getD, length}
 use borrow.Author.Tests.{lt-ltb, le-leb, ltb-true, leb-true, not-true, eqb-true, eq-eqb}
 use Rattle.grid.specs.Lists.{Distinct, range, upto, init}
-use Rattle.grid.proofs.ListLaws.{and-true, dec-so, so-false, mem-any, distinct-snoc, getD-map-range, length-map-range}
+use Rattle.grid.proofs.ListLaws.{and-true, dec-so, so-false, mem-any, distinct-snoc, length-map-upto, map-upto-at, map-upto-past}
 use Rattle.grid.specs.Grid.{Grid, size, cellsOf}
 use Rattle.grid.specs.Cells.{Literal}
 use Rattle.board.specs.Board.{SameCells, SameDecisions, valueAt, cellsAfter, Call, decide, undo, find, decided, after, afterAll}
 use Rattle.grid.proofs.CellLaws.{ValidCells}
+use Rattle.grid.proofs.AppendLaws.{init-more}
 
 -- decisions one after the other, each on an undecided cell of the grid
 pub data Standing (g : Grid) : List Literal → Type 0 where
   none : Standing g []
   more : {ds : List Literal} {i v : ℕ} → Standing g ds → i < size g → v ≤ 1 → decided ds i ≡ false → Standing g (ds ++ ((i, v) ∷ []))
-
--- all but the last of one more
-pub init-snoc : (ds : List Literal) (d : Literal) → init (ds ++ (d ∷ [])) ≡ ds
-unfolding init
-init-snoc [] d = refl
-init-snoc (x ∷ []) d = refl
-init-snoc (x ∷ y ∷ ds) d = ap {B = List Literal} (λ r. x ∷ r) (init-snoc (y ∷ ds) d)
 
 -- a call keeps the decisions standing
 pub after-standing : (g : Grid) (c : Call) {ds : List Literal} → Standing g ds → Standing g (after g c ds)
@@ -41,7 +35,7 @@ after-standing g (decide i v) {ds} s = go (ltb i (size g) && leb v 1 && not (dec
         more s (ltb-true i (size g) (b .0)) (leb-true v 1 (b .1)) (not-true (decided ds i) (a .1))
     go false e = s
 after-standing g undo none = none
-after-standing g undo (more {ds} {i} {v} s h k d) = rw (init-snoc ds (i, v)) s
+after-standing g undo (more {ds} {i} {v} s h k d) = rw (init-more ds (i, v)) s
 after-standing g (find k) s = s
 
 all-standing : (g : Grid) (cs : List Call) {ds : List Literal} → Standing g ds → Standing g (afterAll g cs ds)
@@ -117,17 +111,22 @@ value-low (d ∷ ds) i h = go (eqb (d .0) i) (value-low ds i (λ e m. h e (List�
 
 -- the cell i shows the value at i
 pub cell-value : (g : Grid) (ds : List Literal) (i : ℕ) → i < size g → getD (cellsAfter g ds) i 0 ≡ valueAt ds i
-unfolding cellsAfter cellsOf upto
-cell-value g ds i l = getD-map-range (valueAt ds) 0 (size g) i 0 l ∙ ap (valueAt ds) (omega arith)
+unfolding cellsAfter cellsOf
+cell-value g ds i l = map-upto-at (valueAt ds) (size g) i 0 l
+
+-- there are as many as the grid has
+pub cells-length : (g : Grid) (ds : List Literal) → length (cellsAfter g ds) ≡ size g
+unfolding cellsAfter cellsOf
+cells-length g ds = length-map-upto (valueAt ds) (size g)
 
 -- the cells are a value for each cell of the grid
 pub cells-valid : {g : Grid} {ds : List Literal} → Standing g ds → ValidCells g (cellsAfter g ds)
-unfolding cellsAfter cellsOf upto
-cells-valid {g} {ds} s = record { long = length-map-range (valueAt ds) 0 (size g); three = λ i. go i (decLt i (size g)) }
+unfolding cellsAfter cellsOf
+cells-valid {g} {ds} s = record { long = cells-length g ds; three = λ i. go i (decLt i (size g)) }
   where
-    go : (i : ℕ) → Dec (i < size g) → getD (map (valueAt ds) (range 0 (size g))) i 0 ≤ 2
+    go : (i : ℕ) → Dec (i < size g) → getD (cellsAfter g ds) i 0 ≤ 2
     go i (yes l) = omega (arith, cell-value g ds i l, value-low ds i (λ d m. standing-low s d m .1))
-    go i (no l) = omega (arith, List·getD-eq-default (map (valueAt ds) (range 0 (size g))) 0 {n = i} (omega (arith, length-map-range (valueAt ds) 0 (size g))))
+    go i (no l) = omega (arith, map-upto-past (valueAt ds) (size g) i 0 (omega arith))
 
 -- what a cell of the grid shows, 0 or 1, is a standing decision; and the other way round
 pub cell-stands : (g : Grid) (ds : List Literal) (i v : ℕ) → i < size g → v ≤ 1 → getD (cellsAfter g ds) i 0 ≡ v → List·Memᴰ (i, v) ds

@@ -15,17 +15,18 @@ use borrow.Author.Tests.{eqb-true, eq-eqb, ne-eqb}
 use Rattle.grid.specs.Lists.{upto, any, filter, flatMap, member}
 use Rattle.grid.specs.Grid.{Grid, size, cellsOf, neighbours, touches}
 use Rattle.grid.specs.Side.{sized}
-use Rattle.grid.proofs.ListLaws.{and-true, true-and, any-mem, mem-any, upto-mem, mem-upto, filter-mem, mem-filter, member-mem, mem-member, getD-map-range}
+use Rattle.grid.proofs.ListLaws.{and-true, true-and, any-mem, mem-any, upto-mem, mem-upto}
 use Rattle.grid.proofs.GridLaws.{beside as side, on-grid, adj-sym}
-use Rattle.grid.proofs.AppendLaws.{same-test, any-agree, filter-agree}
+use Rattle.grid.proofs.AppendLaws.{same-test, any-agree, filter-agree, member-filter}
 use Rattle.record.specs.Record.{Puzzle}
 use Rattle.grid.specs.Cells.{Literal, empty, square, undecided}
 use Rattle.groups.specs.Groups.{labels}
-use Rattle.kinds.specs.Kinds.{Kind, vacant, barrier, floating, inBlock, neighbour, kindTouching, blocksTouched, kindAt, kindsOf, isIn, has, View, view, viewWith, inReach, reach, disturbing, fenceAt, fence, word, kindCode, ownerBy, reachMask}
+use Rattle.kinds.specs.Kinds.{Kind, vacant, barrier, floating, inBlock, neighbour, kindTouching, blocksTouched, kindAt, isIn, has, View, view, viewWith, inReach, reach, disturbing, fenceAt, fence, word, kindCode, ownerBy, reachMask}
 use Rattle.kinds.specs.Inside.{puzzleWith, Held}
 use Rattle.fence.specs.Inside.{litAt, Ordered, ofBlock, inDisturbing, touched, adds, addsAmong, Fenced}
-use Rattle.kinds.proofs.Filled.{mask-at, mark-test}
-use Rattle.reach.proofs.Reaches.{in-by, code-get, owner-get}
+use Rattle.kinds.proofs.Filled.{mask-test}
+use Rattle.kinds.proofs.BlockArrays.{in-by, kind-get}
+use Rattle.reach.proofs.Reaches.{code-get, owner-get}
 
 -- an undecided cell is not vacant
 touching-code : (l : List ℕ) → kindCode (kindTouching l) ≡ 0 → ⊥
@@ -138,10 +139,7 @@ module _ (p : Puzzle) (small : size (p .grid) ≤ 1024) (values K O marks : List
   marked-is : (j : ℕ) → j < size g → eqb (getD marks j 0) 1 ≡ member j R
   unfolding reachMask reach cellsOf view viewWith
   marked-is j l =
-      ap (λ (m : List ℕ). eqb (getD m j 0) 1) M ∙ ap (λ (x : ℕ). eqb x 1) (mask-at g (inReach v f) j l) ∙ mark-test (inReach v f j)
-      ∙ same-test (inReach v f j) (member j R)
-      (λ s. mem-member j R (mem-filter (inReach v f) (upto (size g)) (mem-upto (size g) l) s))
-      (λ s. filter-mem (inReach v f) (upto (size g)) (member-mem j R s) .1)
+      ap (λ (m : List ℕ). eqb (getD m j 0) 1) M ∙ mask-test g (inReach v f) j l ∙ sym (member-filter (inReach v f) (size g) j l)
 
   touched-is : (i : ℕ) → i < size g → touched marks g i ≡ touches g R i
   unfolding touched touches
@@ -151,10 +149,10 @@ module _ (p : Puzzle) (small : size (p .grid) ≤ 1024) (values K O marks : List
   value i l = getD-take (size g) values i 0 l
 
   open-code : (i : ℕ) → i < size g → getD cells i 0 ≡ 2 → getD K i 0 ≡ 0 → ⊥
-  unfolding kindsOf kindAt cellsOf upto empty square view viewWith
+  unfolding kindAt empty square view viewWith
   open-code i l e z =
       let k : kind i ≡ kindTouching (blocksTouched p cells (labels g (square cells)) i) =
-      getD-map-range (kindAt p cells (labels g (square cells))) 0 (size g) i vacant l ∙ ap (kindAt p cells (labels g (square cells))) (zero-add i) ∙ rw e in
+      kind-get p cells (labels g (square cells)) i l ∙ rw e in
       touching-code (blocksTouched p cells (labels g (square cells)) i) (sym (ap kindCode k) ∙ sym (code i l) ∙ z)
 
   -- a cell of the arrow block e, by the arrays and by the kinds

@@ -5,7 +5,7 @@ use native.Mathlib.Decide.{ℕ-discrete, decLt}
 use native.Mathlib.Omega.{arith}
 use mathlib.Core.Logic.{_⊎_, inl, inr}
 use mathlib.Core.Path.{_≡_, refl, sym, ap, _∙_}
-use mathlib.Core.Bool.{Bool, true, false, So, cond, _&&_, _||_, not, or-false, or-assoc}
+use mathlib.Core.Bool.{Bool, true, false, So, cond, _&&_, _||_, not, or-false, or-assoc, and-false, and-true as and-yes}
 use mathlib.Core.List.{List, [], _∷_, _++_, List·Memᴰ}
 use lib.Dec.{eqb, ltb}
 use lib.ListN.{length, getD}
@@ -59,16 +59,8 @@ module _ (K O : List ℕ) (e : ℕ) where
   abbrev pub upTo : ℕ → ℕ → Bool
   upTo i x = ofBlock K O e x && ltb x i
 
-  and-no : (b : Bool) → (b && false) ≡ false
-  and-no true = refl
-  and-no false = refl
-
-  and-yes : (b : Bool) → (b && true) ≡ b
-  and-yes true = refl
-  and-yes false = refl
-
   pub block-none : (x : ℕ) → upTo 0 x ≡ false
-  block-none x = rw (le-ltb x 0 (omega arith)) (and-no (ofBlock K O e x))
+  block-none x = rw (le-ltb x 0 (omega arith)) (and-false (ofBlock K O e x))
 
   pub block-more : {base part : List ℕ} {n c : ℕ} (t : ℕ → Bool) (i : ℕ) → Ordered K n base (λ x. (t x || upTo i x) || (ofBlock K O e i && eqb i x)) part c → Ordered K n base (λ x. t x || upTo (i + 1) x) part c
   block-more t i Q = ordered-same (λ x. (t x || upTo i x) || (ofBlock K O e i && eqb i x)) (λ x. t x || upTo (i + 1) x) (λ x _. by x (ℕ-discrete i x)) Q
@@ -78,8 +70,8 @@ module _ (K O : List ℕ) (e : ℕ) where
       here false b = refl
 
       by : (x : ℕ) → Dec (i ≡ x) → ((t x || (ofBlock K O e x && ltb x i)) || (ofBlock K O e i && eqb i x)) ≡ (t x || (ofBlock K O e x && ltb x (i + 1)))
-      by x (yes q) = rw (← q, le-ltb i i (omega arith), lt-ltb i (i + 1) (omega arith), eq-eqb i i refl, and-no (ofBlock K O e i), and-yes (ofBlock K O e i)) (here (t i) (ofBlock K O e i))
-      by x (no q) = rw (ne-eqb i x q, and-no (ofBlock K O e i)) (or-false _ ∙ ap (λ (b : Bool). t x || (ofBlock K O e x && b)) (low (decLt x i)))
+      by x (yes q) = rw (← q, le-ltb i i (omega arith), lt-ltb i (i + 1) (omega arith), eq-eqb i i refl, and-false (ofBlock K O e i), and-yes (ofBlock K O e i)) (here (t i) (ofBlock K O e i))
+      by x (no q) = rw (ne-eqb i x q, and-false (ofBlock K O e i)) (or-false _ ∙ ap (λ (b : Bool). t x || (ofBlock K O e x && b)) (low (decLt x i)))
         where
           low : Dec (x < i) → ltb x i ≡ ltb x (i + 1)
           low (yes h) = lt-ltb x i h ∙ sym (lt-ltb x (i + 1) (omega arith))

@@ -11,7 +11,7 @@ use lib.ListN.{length, getD, take, drop, take-append-drop, length-append}
 use lib.Seq.{getD-take, drop-drop}
 use borrow.Author.Tests.{eqb-true, eq-eqb}
 use Rattle.grid.specs.Lists.{upto, filter}
-use Rattle.grid.proofs.ListLaws.{filter-mem, mem-filter, upto-mem, mem-upto, at-mem, so-orl, so-orr, or-so, filter-length, length-range}
+use Rattle.grid.proofs.ListLaws.{filter-mem, mem-filter, upto-mem, mem-upto, at-mem, so-orl, so-orr, or-so, filter-length, length-range, map-at}
 use Rattle.grid.proofs.RisingLaws.{Rising, nil, cons, range-rising, filter-rising}
 use Rattle.grid.proofs.AppendLaws.{filter-agree}
 use Rattle.fence.specs.Inside.{key, litAt, Place, Inserted, old, new, Ordered}
@@ -113,11 +113,6 @@ module _ (f : ℕ → ℕ) where
   map-drop (suc p) [] = refl
   map-drop zero (x ∷ l) = refl
   map-drop (suc p) (x ∷ l) = map-drop p l
-
-  map-at : (l : List ℕ) (k : ℕ) → k < length l → getD (map f l) k 0 ≡ f (getD l k 0)
-  map-at [] k h = absurd (omega arith)
-  map-at (x ∷ l) zero h = refl
-  map-at (x ∷ l) (suc k) h = map-at l k (omega arith)
 
 -- what agrees from c on agrees from r on
 drop-later : (a b : List ℕ) (c r : ℕ) → c ≤ r → drop c a ≡ drop c b → drop r a ≡ drop r b

@@ -6,22 +6,23 @@ use native.Mathlib.Decide.{decLt}
 use mathlib.Core.Path.{_≡_, refl, sym, _∙_}
 use mathlib.Core.Bool.{Bool, true, false}
 use mathlib.Core.Logic.{_↔_}
-use mathlib.Core.List.{List, [], _∷_, List·Memᴰ, List·Memᴰ·head, List·Memᴰ·tail}
+use mathlib.Core.List.{List}
 use mathlib.Core.Option.{none, some}
 use lib.ListN.{length, getD, take, List·getD-eq-default}
 use lib.Seq.{getD-take, length-take-le}
 use borrow.Author.Tests.{eqb-true, le-ltb}
-use Rattle.grid.specs.Lists.{upto, all}
+use Rattle.grid.specs.Lists.{upto}
 use Rattle.grid.specs.Grid.{size}
 use Rattle.grid.proofs.ListLaws.{all-mem, mem-upto, upto-mem, so-false}
+use Rattle.grid.proofs.AppendLaws.{all-agree}
 use Rattle.record.specs.Problem.{puzzleOf, gridOf}
 use Rattle.record.proofs.LineLaws.{valid-arrows}
-use Rattle.form.proofs.ProblemForm.{formed-valid, size-most}
+use Rattle.form.proofs.ProblemForm.{formed-valid}
 use Rattle.grid.specs.Cells.{Literal, undecided}
 use Rattle.board.specs.Board.{enough}
 use Rattle.board.specs.Form.{wellFormed}
 use Rattle.board.specs.declared.Board.{Board}
-use Rattle.board.proofs.BoardForm.{whole-is}
+use Rattle.board.proofs.BoardForm.{whole-is, whole-most}
 use Rattle.groups.specs.Rules.{BlockRules, rulesTest}
 use Rattle.groups.proofs.RulesLaws.{rules-test, test-rules}
 use Rattle.kinds.proofs.Bridge.{Setting}
@@ -40,21 +41,15 @@ pub finished-ill : (b : Board) → wellFormed b ≡ false → verdicts.Refused 6
 unfolding finishedOf
 finished-ill b h = rw h refl
 
--- a test of each member, by what it says of each
-all-same : (f g : ℕ → Bool) (l : List ℕ) → ((i : ℕ) → List·Memᴰ i l → f i ≡ g i) → all f l ≡ all g l
-unfolding all
-all-same f g [] e = refl
-all-same f g (x ∷ l) e = rw (e x (List·Memᴰ·head refl), all-same f g l (λ i m. e i (List·Memᴰ·tail m))) refl
-
 module _ (b : Board) (h : wellFormed b ≡ true) where
   few : size (gridOf (b .problem)) ≤ 1024
-  few = let z = whole-is b h .problem .sizes .high in size-most (gridOf (b .problem)) (z .0) (z .1)
+  few = whole-most b (whole-is b h)
 
   -- the arrays keep the codes and the states of the board's cells
   kept-same : keepsAll (size (gridOf (b .problem))) (b .problem .cells) (b .cells) ≡ keepsAll (size (gridOf (b .problem))) (puzzleOf (b .problem) .given) (cellsOn b)
   unfolding keepsAll puzzleOf cellsOn
   kept-same =
-      all-same
+      all-agree
       (λ i. keeps (getD (b .problem .cells) i 0) (getD (b .cells) i 0))
       (λ i. keeps (getD (take (size (gridOf (b .problem))) (b .problem .cells)) i 0) (getD (take (size (gridOf (b .problem))) (b .cells)) i 0))
       (upto (size (gridOf (b .problem))))

@@ -6,26 +6,16 @@ use native.Mathlib.Numerals.{add-one}
 use native.Mathlib.Decide.{ℕ-discrete, decLt}
 use native.Mathlib.Omega.{arith}
 use mathlib.Core.Path.{_≡_, refl, sym, ap, _∙_}
-use mathlib.Core.Bool.{Bool, true, false, cond, _&&_, _||_, not, and-false}
-use mathlib.Core.List.{List, [], _∷_, _++_}
+use mathlib.Core.Bool.{Bool, true, false, cond, _&&_, _||_, not, and-false, or-comm}
+use mathlib.Core.List.{List, [], _∷_}
 use lib.Dec.{eqb, ltb}
 use lib.ListN.{length, getD, set, take, drop, length-set, drop-of-length-le}
 use lib.Seq.{drop-cons, take-suc, take-all, getD-set-same, getD-set-other}
 use borrow.Author.Tests.{eq-eqb, ne-eqb, lt-ltb, le-ltb}
 use Rattle.grid.specs.Lists.{any, member}
+use Rattle.grid.proofs.AppendLaws.{member-more}
 use Rattle.form.specs.Form.{fresh}
 use Rattle.form.specs.Inside.{Blank, Marks, RowStarts}
-
--- the members of a list with one more at its end
-member-snoc : (l : List ℕ) (x i : ℕ) → member i (l ++ (x ∷ [])) ≡ member i (x ∷ l)
-unfolding member any
-member-snoc [] x i = refl
-member-snoc (y ∷ l) x i = rw (member-snoc l x i) (go (eqb i y) (eqb i x))
-  where
-    go : (a b : Bool) → (a || (b || any (eqb i) l)) ≡ (b || (a || any (eqb i) l))
-    go true true = refl
-    go true false = refl
-    go false b = refl
 
 -- one more mark
 marks-more : {listed l : List ℕ} → Marks listed l → (i : ℕ) → i < 1024 → Marks (i ∷ listed) (set l i 1)
@@ -77,15 +67,15 @@ module _ {n k : ℕ} {l marks : List ℕ} (m : Marking n l k marks) (h : k < len
       used = getD l k 0 ∷ m .used;
       marked = marks-more (m .marked) (getD l k 0) (omega arith);
       left = next ∙ rw (lt-ltb (getD l k 0) n t, go (member (getD l k 0) (m .used)) shown, add-one k) refl;
-      same = λ i. rw (add-one k, take-suc l k 0 h, member-snoc (take k l) (getD l k 0) i) (both i);
+      same = λ i. rw (add-one k, take-suc l k 0 h, member-more i (take k l) (getD l k 0)) (both i);
     }
       where
         go : (b : Bool) → getD marks (getD l k 0) 0 ≡ cond b 1 0 → not b ≡ true
         go true e = absurd (omega (arith, e, q))
         go false e = refl
 
-        both : (i : ℕ) → member i (getD l k 0 ∷ m .used) ≡ member i (getD l k 0 ∷ take k l)
-        both i = unfold member any in ap (λ (b : Bool). eqb i (getD l k 0) || b) (m .same i)
+        both : (i : ℕ) → member i (getD l k 0 ∷ m .used) ≡ (member i (take k l) || eqb i (getD l k 0))
+        both i = unfold member any in ap (λ (b : Bool). eqb i (getD l k 0) || b) (m .same i) ∙ or-comm (eqb i (getD l k 0)) (member i (take k l))
 
 -- all are marked
 pub marking-end : {n k : ℕ} {l marks : List ℕ} → Marking n l k marks → length l ≤ k → (true ≡ fresh n [] l) × Marks l marks

@@ -1,7 +1,6 @@
 -- A problem passes the test exactly when it is that of a valid puzzle.
 -- Assumes nothing.
 use Prim.Native.Nat.{ℕ, suc, _+_, _-_, _≤_, _<_}
-use native.Mathlib.Nat.{mul-le-mul}
 use native.Mathlib.Omega.{arith}
 use mathlib.Core.Logic.{_⊎_, inl, inr}
 use mathlib.Core.Path.{_≡_, refl, ap, _∙_}
@@ -15,6 +14,7 @@ use Rattle.grid.specs.Lists.{all, member, last, flatMap, arrayOf}
 use Rattle.grid.specs.Grid.{Grid, size, neighbours}
 use Rattle.grid.proofs.ListLaws.{and-true, true-and, member-mem, mem-member, all-mem, mem-all, flatMap-mem}
 use Rattle.grid.proofs.ArrayLaws.{array-length, array-take}
+use Rattle.grid.proofs.GridLaws.{size-most}
 use Rattle.record.specs.Record.{Puzzle}
 use Rattle.record.specs.Valid.{Walk, end, on, Fresh, arrow, Arrows, Valid}
 use Rattle.record.specs.Problem.{problemOf, puzzleOf, gridOf, arrowsFrom, endsFrom, arrowCells}
@@ -175,11 +175,6 @@ is-sized g s =
     true-and
     (true-and (le-leb 1 (g .height) (s .low .0)) (le-leb (g .height) 32 (s .high .0)))
     (true-and (le-leb 1 (g .width) (s .low .1)) (le-leb (g .width) 32 (s .high .1)))
-
--- a grid of at most 32 by 32 has at most 1,024 cells
-pub size-most : (g : Grid) → g .height ≤ 32 → g .width ≤ 32 → size g ≤ 1024
-unfolding size
-size-most g h w = mul-le-mul h w
 
 -- ---- the test of a problem
 

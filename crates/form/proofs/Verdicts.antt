@@ -13,12 +13,13 @@ use borrow.Author.Tests.{eq-eqb, lt-leb, le-leb}
 use Rattle.grid.specs.Lists.{all, last, upto}
 use Rattle.grid.specs.Grid.{Grid, size}
 use Rattle.grid.proofs.ListLaws.{at-mem}
+use Rattle.grid.proofs.GridLaws.{size-most}
 use Rattle.record.specs.Problem.{gridOf, arrowsFrom}
 use Rattle.record.specs.declared.Problem.{Problem}
 use Rattle.form.specs.Form.{long, behind, rises, fresh, path, sized, coded, ended, drawn, problemFormed, shown, stated, ordered}
 use Rattle.form.specs.Inside.{Blank, Below}
 use Rattle.form.proofs.ArrayTests.{fresh-is}
-use Rattle.form.proofs.ProblemForm.{sized-is, size-most}
+use Rattle.form.proofs.ProblemForm.{sized-is}
 
 -- ---- arrays
 

@@ -6,11 +6,12 @@ use native.Mathlib.Numerals.{add-one}
 use native.Mathlib.Decide.{ℕ-discrete}
 use native.Mathlib.Omega.{arith}
 use mathlib.Core.Path.{_≡_, refl, sym, ap, _∙_}
-use mathlib.Core.Bool.{Bool, true, false, So, cond, _||_, or-false, false≢true}
+use mathlib.Core.Bool.{Bool, true, false, So, cond, _&&_, _||_, or-false, false≢true}
 use mathlib.Core.List.{List, [], _∷_, _++_, List·Memᴰ, List·Memᴰ·head, List·Memᴰ·tail}
+use lib.Dec.{eqb}
 use lib.ListN.{length, getD, length-append}
-use Rattle.grid.specs.Lists.{range, upto, filter, any, init, last}
-use Rattle.grid.proofs.ListLaws.{so-false, length-range, getD-range, upto-mem}
+use Rattle.grid.specs.Lists.{range, upto, filter, any, all, init, last, member}
+use Rattle.grid.proofs.ListLaws.{so-false, length-range, getD-range, upto-mem, filter-mem, mem-filter, mem-upto, member-mem, mem-member}
 
 -- two tests that pass together are the same
 pub same-test : (a b : Bool) → (So a → So b) → (So b → So a) → a ≡ b
@@ -66,6 +67,21 @@ module _ {A : Type 0} where
       go true h = ap (λ t. x ∷ t) h
       go false h = h
 
+  pub init-more : (l : List A) (x : A) → init (l ++ (x ∷ [])) ≡ l
+  unfolding init
+  init-more [] x = refl
+  init-more (y ∷ []) x = refl
+  init-more (y ∷ z ∷ l) x = ap {B = List A} (λ m. y ∷ m) (init-more (z ∷ l) x)
+
+-- the test of membership
+pub member-append : (i : ℕ) (l m : List ℕ) → member i (l ++ m) ≡ (member i l || member i m)
+unfolding member
+member-append i l m = any-append (eqb i) l m
+
+pub member-more : (i : ℕ) (l : List ℕ) (x : ℕ) → member i (l ++ (x ∷ [])) ≡ (member i l || eqb i x)
+unfolding member any
+member-more i l x = member-append i l (x ∷ []) ∙ ap (λ (b : Bool). member i l || b) (or-false (eqb i x))
+
 -- a filtered list, one member later
 pub filter-more : (p : ℕ → Bool) (l : List ℕ) (x : ℕ) → filter p (l ++ (x ∷ [])) ≡ filter p l ++ cond (p x) (x ∷ []) []
 unfolding filter
@@ -75,12 +91,6 @@ pub last-more : (d : ℕ) (l : List ℕ) (x : ℕ) → last d (l ++ (x ∷ [])) 
 unfolding last
 last-more d [] x = refl
 last-more d (y ∷ ys) x = last-more y ys x
-
-pub init-more : (l : List ℕ) (x : ℕ) → init (l ++ (x ∷ [])) ≡ l
-unfolding init
-init-more [] x = refl
-init-more (y ∷ []) x = refl
-init-more (y ∷ z ∷ l) x = ap (λ (m : List ℕ). y ∷ m) (init-more (z ∷ l) x)
 
 -- one more cell is tested
 pub any-more : (p : ℕ → Bool) (k : ℕ) → any p (upto (k + 1)) ≡ (any p (upto k) || p k)
@@ -96,6 +106,24 @@ pub count-miss : (p : ℕ → Bool) (k : ℕ) → p k ≡ false → length (filt
 unfolding filter
 count-miss p k h = ap (λ (l : List ℕ). length (filter p l)) (upto-more k) ∙ ap length (filter-append p (upto k) (k ∷ [])) ∙ length-append (filter p (upto k)) (filter p (k ∷ [])) ∙ rw h (add-zero (length (filter p (upto k))))
 
+-- a number below n is in a filtered list exactly if it passes
+pub member-filter : (p : ℕ → Bool) (n i : ℕ) → i < n → member i (filter p (upto n)) ≡ p i
+member-filter p n i h =
+    same-test (member i (filter p (upto n))) (p i)
+    (λ s. filter-mem p (upto n) (member-mem i (filter p (upto n)) s) .1)
+    (λ s. mem-member i (filter p (upto n)) (mem-filter p (upto n) (mem-upto n h) s))
+
+-- ---- two tests, one after the other
+
+pub filter-filter : (p q : ℕ → Bool) (l : List ℕ) → filter p (filter q l) ≡ filter (λ i. q i && p i) l
+unfolding filter
+filter-filter p q [] = refl
+filter-filter p q (x ∷ xs) = go (q x) (filter-filter p q xs)
+  where
+    go : (b : Bool) → filter p (filter q xs) ≡ filter (λ i. q i && p i) xs → filter p (cond b (x ∷ filter q xs) (filter q xs)) ≡ cond (b && p x) (x ∷ filter (λ i. q i && p i) xs) (filter (λ i. q i && p i) xs)
+    go true h = ap (λ (l : List ℕ). cond (p x) (x ∷ l) l) h
+    go false h = h
+
 -- ---- tests that agree on a list's members
 
 module _ (p q : ℕ → Bool) where
@@ -103,6 +131,11 @@ module _ (p q : ℕ → Bool) where
   unfolding any
   any-agree [] h = refl
   any-agree (x ∷ l) h = rw (h x (List·Memᴰ·head refl), any-agree l (λ y m. h y (List·Memᴰ·tail m))) refl
+
+  pub all-agree : (l : List ℕ) → ((x : ℕ) → List·Memᴰ x l → p x ≡ q x) → all p l ≡ all q l
+  unfolding all
+  all-agree [] h = refl
+  all-agree (x ∷ l) h = rw (h x (List·Memᴰ·head refl), all-agree l (λ y m. h y (List·Memᴰ·tail m))) refl
 
   pub filter-agree : (l : List ℕ) → ((x : ℕ) → List·Memᴰ x l → p x ≡ q x) → filter p l ≡ filter q l
   unfolding filter

@@ -5,8 +5,17 @@ use native.Mathlib.Omega.{arith}
 use mathlib.Core.Path.{_≡_, refl, sym, _∙_, subst}
 use mathlib.Core.List.{List, [], _∷_, _++_, append-assoc}
 use lib.ListN.{length, getD, set, take, drop, replicate, length-append, length-replicate, getD-replicate, List·getD-append}
-use lib.Seq.{take-append-seam, drop-append-seam, getD-append-add, set-append-left, set-at}
+use lib.Seq.{take-append-seam, drop-append-seam, getD-append-add, getD-set-same, getD-set-other, set-append-left, set-at}
 use Rattle.grid.specs.Lists.{arrayOf}
+use Rattle.grid.proofs.AppendLaws.{by-eq}
+
+-- the entry at j after a store at q
+pub data Entry (L : List ℕ) (q v j : ℕ) : Type 0 where
+  hit : j ≡ q → getD (set L q v) j 0 ≡ v → Entry L q v j
+  miss : (j ≡ q → ⊥) → getD (set L q v) j 0 ≡ getD L j 0 → Entry L q v j
+
+pub entry-at : (L : List ℕ) (q v j : ℕ) → q < length L → Entry L q v j
+entry-at L q v j h = by-eq j q (λ e. hit e (rw e (getD-set-same L q v 0 h))) (λ ne. miss ne (getD-set-other L q j v 0 ne))
 
 module _ {A : Type 0} (d : A) where
   -- an array has 1,024 places

@@ -1,17 +1,18 @@
 -- Laws of the cells of a board.
 -- Assumes nothing.
-use Prim.Native.Nat.{ℕ, suc, _≤_, _<_}
+use Prim.Native.Nat.{ℕ, _≤_, _<_}
 use mathlib.Core.Logic.{_⊎_, inl, inr}
 use mathlib.Core.Path.{_≡_}
 use mathlib.Core.Bool.{So}
 use mathlib.Core.List.{List}
 use native.Mathlib.Omega.{arith}
-use native.Mathlib.Decide.{ℕ-discrete, decLt}
+use native.Mathlib.Decide.{ℕ-discrete}
 use lib.Dec.{eqb}
-use lib.ListN.{length, getD, List·getD-eq-default}
+use lib.ListN.{length, getD}
 use borrow.Author.Tests.{eqb-true, eq-eqb}
 use Rattle.grid.specs.Grid.{Grid, size}
 use Rattle.grid.specs.Cells.{empty, square, undecided}
+use Rattle.grid.proofs.ListLaws.{place-in}
 
 -- a value for each cell of the grid: 0 empty, 1 square, 2 undecided
 pub record ValidCells (g : Grid) (cells : List ℕ) : Type 0 where
@@ -41,18 +42,11 @@ module _ (cells : List ℕ) (i : ℕ) where
       go (no h₀) (yes e) = inr (inl (eq-eqb _ _ e))
       go (no h₀) (no h₁) = inr (inr (eq-eqb (getD cells i 0) 2 (omega arith)))
 
-  in-range : (v : ℕ) → getD cells i 0 ≡ suc v → i < length cells
-  in-range v e = go (decLt i (length cells))
-    where
-      go : Dec (i < length cells) → i < length cells
-      go (yes h) = h
-      go (no h) = absurd (omega (arith, e, List·getD-eq-default cells 0 {n = i} (omega arith)))
-
   -- squares and undecided cells lie on the board
   pub sq-below : So (square cells i) → i < length cells
   unfolding square
-  sq-below s = in-range 0 (eqb-true _ _ s)
+  sq-below s = place-in cells i (omega (arith, eqb-true (getD cells i 0) 1 s))
 
   pub un-below : So (undecided cells i) → i < length cells
   unfolding undecided
-  un-below s = in-range 1 (eqb-true _ _ s)
+  un-below s = place-in cells i (omega (arith, eqb-true (getD cells i 0) 2 s))

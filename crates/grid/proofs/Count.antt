@@ -1,4 +1,4 @@
--- How many numbers below n satisfy a decided predicate; injections.
+-- Decided predicates, and how many numbers below n satisfy one; injections.
 -- Assumes nothing.
 use Prim.Native.Nat.{ℕ, zero, suc, _+_, _≤_, _<_, zero-le}
 use mathlib.Core.Path.{_≡_, refl, sym, ap, _∙_, subst}
@@ -9,6 +9,7 @@ use mathlib.Core.Bool.{Bool, So, cond}
 use mathlib.Core.List.{_∷_}
 use lib.ListN.{length}
 use Rattle.grid.specs.Lists.{range, upto, filter}
+use Rattle.grid.specs.Count.{bump, count}
 use Rattle.grid.proofs.ListLaws.{dec-so, so-false}
 
 -- decisions
@@ -40,16 +41,6 @@ dec-some {P} d (suc n) = go (d n) (dec-some d n)
         last i l p (yes e) = h (subst P e p)
         last i l p (no ne) = k (i, omega arith, p)
 
--- counting
-abbrev pub bump : {A : Type 0} → Dec A → ℕ → ℕ
-bump (yes _) k = suc k
-bump (no _) k = k
-
--- how many numbers below n satisfy P
-abbrev pub count : {P : ℕ → Type 0} → ((i : ℕ) → Dec (P i)) → ℕ → ℕ
-count d zero = 0
-count d (suc n) = bump (d n) (count d n)
-
 -- one more where it holds
 pub bump-yes : {A : Type 0} (x : Dec A) (k : ℕ) → A → bump x k ≡ suc k
 bump-yes (yes _) k a = refl
@@ -59,7 +50,7 @@ pub bump-no : {A : Type 0} (x : Dec A) (k : ℕ) → ¬ A → bump x k ≡ k
 bump-no (yes a) k h = absurd (h a)
 bump-no (no _) k h = refl
 
-pub bump-iff : {A B : Type 0} (x : Dec A) (y : Dec B) (k : ℕ) → (A → B) → (B → A) → bump x k ≡ bump y k
+bump-iff : {A B : Type 0} (x : Dec A) (y : Dec B) (k : ℕ) → (A → B) → (B → A) → bump x k ≡ bump y k
 bump-iff (yes a) y k f g = sym (bump-yes y k (f a))
 bump-iff (no h) y k f g = sym (bump-no y k (λ b. h (g b)))
 

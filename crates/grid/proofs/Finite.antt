@@ -6,7 +6,8 @@ use mathlib.Core.Logic.{_⊎_, inl, inr, _↔_}
 use native.Mathlib.Decide.{ℕ-discrete, map-dec}
 use native.Mathlib.Omega.{arith}
 use Rattle.grid.specs.Link.{Linked, here, step, linked-end, linked-start, linked-inside}
-use Rattle.grid.proofs.Count.{dec-and, dec-or, dec-not, dec-some, count, count-except, count-inj-suc, count-le}
+use Rattle.grid.specs.Count.{count}
+use Rattle.grid.proofs.Count.{dec-and, dec-or, dec-not, dec-some, count-except, count-inj-suc, count-le}
 
 -- Near k: what is found in k rounds
 module _ (Adj : ℕ → ℕ → Type 0) (P : ℕ → Type 0) (n : ℕ) (below : (c : ℕ) → P c → c < n) (a : ℕ) (pa : P a)

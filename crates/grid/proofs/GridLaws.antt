@@ -4,7 +4,7 @@ use lib.ListN.{length}
 use native.Mathlib.Decide.{decLt, map-dec}
 use mathlib.Core.Bool.{So, Bool, true, false}
 use Prim.Native.Nat.{ℕ, _+_, _-_, _*_, _/_, _%_, _≤_, _<_}
-use native.Mathlib.Nat.{div-add-mod', mod-lt, div-lt-iff-lt-mul, mul-le-mul-right, mod-eq-of-lt, suc-mul, mod-add-mod, mod-self, mod-le, eq-zero-or-pos, mul-zero}
+use native.Mathlib.Nat.{div-add-mod', mod-lt, div-lt-iff-lt-mul, mul-le-mul, mul-le-mul-right, mod-eq-of-lt, suc-mul, mod-add-mod, mod-self, mod-le, eq-zero-or-pos, mul-zero}
 use native.Mathlib.Omega.{arith}
 use mathlib.Core.Logic.{_⊎_, inl, inr}
 use mathlib.Core.Path.{_≡_, refl, sym, ap, _∙_}
@@ -95,6 +95,11 @@ width-pos g {i} l = go (eq-zero-or-pos (g .width))
     go : (g .width ≡ 0) ⊎ (0 < g .width) → 0 < g .width
     go (inl e) = absurd (omega (arith, ap (λ (w : ℕ). g .height * w) e ∙ mul-zero (g .height)))
     go (inr h) = h
+
+-- a grid of at most 32 by 32 has at most 1,024 cells
+pub size-most : (g : Grid) → g .height ≤ 32 → g .width ≤ 32 → size g ≤ 1024
+unfolding size
+size-most g h w = mul-le-mul h w
 
 -- being neighbours is mutual
 pub beside-sym : (g : Grid) {i j : ℕ} → i < size g → Beside g i j → Beside g j i

@@ -5,6 +5,7 @@ pub mod Finite
 pub mod GridLaws
 pub mod RisingLaws
 pub mod ArrayLaws
+pub mod FilledLaws
 pub mod Signed
 pub mod SideLaws
 pub mod ShiftLaws

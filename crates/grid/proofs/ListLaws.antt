@@ -1,15 +1,16 @@
 -- Laws of the tests and lists of `Lists`.
 -- Assumes nothing.
-use lib.ListN.{length-append, length, getD}
+use lib.ListN.{length-append, length, getD, List·getD-eq-default}
 use mathlib.Core.List.{_++_, List·Memᴰ·eq-of-singleton, map, List, [], _∷_, List·Memᴰ, List·Memᴰ·head, List·Memᴰ·tail, List·Memᴰ·not-nil, List·Memᴰ·append-cases, Memᴰ·append-left, Memᴰ·append-right}
 use Prim.Native.Nat.{ℕ, zero, suc, _+_, _≤_, _<_, _-_}
-use native.Mathlib.Nat.{not-suc-le-zero}
+use native.Mathlib.Nat.{not-suc-le-zero, zero-add}
+use native.Mathlib.Decide.{decLt}
 use native.Mathlib.Omega.{arith}
 use mathlib.Core.Logic.{_⊎_, inl, inr}
 use mathlib.Core.Path.{_≡_, refl, sym, ap, _∙_, subst}
 use mathlib.Core.Bool.{Bool, true, false, So, not, Bool-discrete, cond, _&&_, _||_, true≢false, false≢true}
 use lib.Dec.{eqb}
-use borrow.Author.Tests.{eqb-true, eqb-false, eq-eqb}
+use borrow.Author.Tests.{eqb-true, eqb-false, eq-eqb, ne-eqb}
 use Rattle.grid.specs.Lists.{Distinct, init, tail, range, upto, filter, any, all, member, flatMap, once, last}
 
 -- a test passes or fails
@@ -227,6 +228,20 @@ at-mem [] k h = absurd (omega arith)
 at-mem (x ∷ xs) zero h = List·Memᴰ·head refl
 at-mem (x ∷ xs) (suc k) h = List·Memᴰ·tail (at-mem xs k (omega arith))
 
+-- an entry that is not 0 has a place
+pub place-in : (l : List ℕ) (k : ℕ) → 0 < getD l k 0 → k < length l
+place-in l k e = go (decLt k (length l))
+  where
+    go : Dec (k < length l) → k < length l
+    go (yes h) = h
+    go (no h) = absurd (omega (arith, e, List·getD-eq-default l 0 {n = k} (omega arith)))
+
+-- an entry of a map
+pub map-at : (f : ℕ → ℕ) (l : List ℕ) (k : ℕ) → k < length l → getD (map f l) k 0 ≡ f (getD l k 0)
+map-at f [] k h = absurd (omega arith)
+map-at f (x ∷ xs) zero h = refl
+map-at f (x ∷ xs) (suc k) h = map-at f xs k (omega arith)
+
 pub length-init : (l : List ℕ) → length (init l) ≡ length l - 1
 unfolding init
 length-init [] = refl
@@ -250,17 +265,30 @@ unfolding tail
 getD-tail [] k = refl
 getD-tail (x ∷ xs) k = refl
 
--- a map over a range, by positions
-pub getD-map-range : {A : Type 0} (f : ℕ → A) (a k i : ℕ) (d : A) → i < k → getD (map f (range a k)) i d ≡ f (a + i)
+-- a map over the numbers below n, by positions
+getD-map-range : {A : Type 0} (f : ℕ → A) (a k i : ℕ) (d : A) → i < k → getD (map f (range a k)) i d ≡ f (a + i)
 unfolding range
 getD-map-range f a zero i d h = absurd (omega arith)
 getD-map-range f a (suc k) zero d h = ap f (omega arith)
 getD-map-range f a (suc k) (suc i) d h = getD-map-range f (suc a) k i d (omega arith) ∙ ap f (omega arith)
 
-pub length-map-range : {A : Type 0} (f : ℕ → A) (a k : ℕ) → length (map f (range a k)) ≡ k
+length-map-range : {A : Type 0} (f : ℕ → A) (a k : ℕ) → length (map f (range a k)) ≡ k
 unfolding range
 length-map-range f a zero = refl
 length-map-range f a (suc k) = ap suc (length-map-range f (suc a) k)
+
+module _ {A : Type 0} (f : ℕ → A) (n : ℕ) where
+  pub length-map-upto : length (map f (upto n)) ≡ n
+  unfolding upto
+  length-map-upto = length-map-range f 0 n
+
+  pub map-upto-at : (i : ℕ) (d : A) → i < n → getD (map f (upto n)) i d ≡ f i
+  unfolding upto
+  map-upto-at i d h = getD-map-range f 0 n i d h ∙ ap f (zero-add i)
+
+  -- behind them
+  pub map-upto-past : (i : ℕ) (d : A) → n ≤ i → getD (map f (upto n)) i d ≡ d
+  map-upto-past i d h = List·getD-eq-default (map f (upto n)) d {n = i} (omega (arith, length-map-upto))
 
 -- what keeps members distinct
 pub distinct-filter : (p : ℕ → Bool) (l : List ℕ) → Distinct l → Distinct (filter p l)
@@ -326,3 +354,24 @@ pub flatMap-length : {B : Type 0} (f : ℕ → List B) → ((x : ℕ) → length
 unfolding flatMap
 flatMap-length f h [] = omega arith
 flatMap-length f h (x ∷ xs) = rw length-append (omega (arith, h x, flatMap-length f h xs))
+
+-- a list of distinct members is not longer than one that has them
+distinct-fits : (l m : List ℕ) → Distinct l → ((x : ℕ) → List·Memᴰ x l → List·Memᴰ x m) → length l ≤ length m
+distinct-fits [] m d s = omega arith
+distinct-fits (x ∷ xs) m d s =
+    omega (arith, distinct-fits xs (filter (λ y. not (eqb x y)) m) (d .1) rest, filter-split (eqb x) m, some (filter (eqb x) m) (mem-filter (eqb x) m (s x (List·Memᴰ·head refl)) (eq-eqb x x refl)))
+  where
+    some : (l : List ℕ) → List·Memᴰ x l → 0 < length l
+    some [] q = absurd (List·Memᴰ·not-nil q)
+    some (y ∷ ys) q = omega arith
+
+    other : (y : ℕ) → List·Memᴰ y xs → not (eqb x y) ≡ true
+    other y q = let e : eqb x y ≡ false = ne-eqb x y (λ r. d .0 (rw r q)) in rw e refl
+
+    rest : (y : ℕ) → List·Memᴰ y xs → List·Memᴰ y (filter (λ y. not (eqb x y)) m)
+    rest y q = mem-filter (λ y. not (eqb x y)) m (s y (List·Memᴰ·tail q)) (other y q)
+
+-- distinct numbers below n are at most n
+pub distinct-few : (l : List ℕ) (n : ℕ) → Distinct l → ((x : ℕ) → List·Memᴰ x l → x < n) → length l ≤ n
+unfolding upto
+distinct-few l n d s = omega (arith, distinct-fits l (upto n) d (λ x q. mem-upto n (s x q)), length-range 0 n)

@@ -2,7 +2,7 @@
 -- Assumes nothing.
 use Prim.Native.Nat.{ℕ, zero, suc, _+_, _-_, _*_, _/_, _%_, _≤_, _<_}
 use native.Mathlib.Omega.{arith}
-use native.Mathlib.Nat.{suc-mul, mul-le-mul, mul-le-mul-right, mod-lt, div-lt-iff-lt-mul}
+use native.Mathlib.Nat.{suc-mul, mul-le-mul-right, mod-lt, div-lt-iff-lt-mul}
 use native.Mathlib.Numerals.{add-one}
 use mathlib.Core.Path.{_≡_, refl, sym, ap, _∙_}
 use mathlib.Core.Logic.{_⊎_, inl, inr}
@@ -20,11 +20,12 @@ use Rattle.grid.specs.declared.Step.the-variants.{To, Outside}
 use Rattle.grid.specs.declared.Side.the-variants.{At, Off}
 use Rattle.grid.specs.Grid.{Grid, size, col, only, up, down, left, right, neighbours, Adjacent}
 use Rattle.grid.specs.Side.{sized, movedOf, placed, shiftedOf, towards, sideOf, besideOf, InGrid, InPlace}
-use Rattle.grid.proofs.GridLaws.{width-pos, on-grid, beside}
+use Rattle.grid.proofs.GridLaws.{width-pos, size-most, on-grid, beside}
 
--- a grid of at most 32 by 32 has at most 1,024 cells
+-- the cells of a grid that is given by its height and width
 pub area : (h w : ℕ) → h ≤ 32 → w ≤ 32 → h * w ≤ 1024
-area h w p q = omega (arith, mul-le-mul p q)
+unfolding size
+area h w = size-most (sized h w)
 
 -- a cell has a row and a column
 pub in-place : {h w i : ℕ} → InGrid h w i → InPlace h w (i / w) (i % w)

@@ -39,11 +39,12 @@ natAbs-small : (z : ℤ) → SFits w32 z → natAbs z < 2 ^ 64
 natAbs-small (pos n) f = omega (arith, f .sfits)
 natAbs-small (negsuc n) f = omega (arith, f .sfits)
 
--- where it leads
-not-negative : (z : ℤ) → ltZ z (pos 0) ≡ false → T (nonNeg z)
+-- a number that is not below 0
+pub not-negative : (z : ℤ) → ltZ z (pos 0) ≡ false → T (nonNeg z)
 not-negative (pos n) e = tt
 not-negative (negsuc n) e = let z : _≡_ {A = ℕ} 0 1 = cc in absurd (omega arith)
 
+-- where it leads
 no : {A : Type 0} (n : ℕ) → ltb n 0 ≡ true → A
 no n e = let h = ltb-true n 0 e in absurd (omega arith)
 

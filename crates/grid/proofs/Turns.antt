@@ -1,13 +1,12 @@
 -- A loop over the neighbours of a cell.
 -- Assumes nothing.
-use Prim.Native.Nat.{ℕ, _≤_, _<_}
+use Prim.Native.Nat.{ℕ, _<_}
 use native.Mathlib.Omega.{arith}
 use mathlib.Core.Path.{_≡_}
 use lib.ListN.{length, getD}
 use Rattle.grid.specs.Grid.{Grid, size, neighbours}
 use Rattle.grid.specs.Side.{sized, aroundOf, InGrid}
 use Rattle.grid.specs.declared.Around.{Around}
-use Rattle.grid.proofs.SideLaws.{area}
 use Rattle.grid.proofs.AroundLaws.{around-count, around-at, around-in, around-few}
 
 -- the k-th neighbour of the cell p
@@ -35,7 +34,3 @@ turn-count g p a e = rw e (around-count g p)
 pub in-size : {h w i : ℕ} → InGrid h w i → i < size (sized h w)
 unfolding size
 in-size o = o .within
-
-pub size-small : {h w : ℕ} → h ≤ 32 → w ≤ 32 → size (sized h w) ≤ 1024
-unfolding size
-size-small {h} {w} a b = area h w a b

@@ -1,4 +1,5 @@
 pub mod Lists
+pub mod Count
 pub mod Link
 pub mod Grid
 pub mod Side

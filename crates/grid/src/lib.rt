@@ -28,9 +28,9 @@ pub struct Around {
 // Up, down, left, right, each as a row and a column offset.
 const OFFSETS: [[i32; 2]; 4] = [[-1, 0], [1, 0], [0, -1], [0, 1]];
 
-// A number of an array, as an index.
+// A number of an array, as an index or a count.
 pub fn wide(x: u16) -> usize
-    ensures { λ r. ⌜ r ≡ x ⌝ }
+    ensures { λ r. ⌜ (r ≡ x) × (r < 65536) ⌝ }
 {
     x as usize
 }

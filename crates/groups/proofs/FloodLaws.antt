@@ -19,19 +19,13 @@ use Rattle.grid.specs.declared.Side.the-variants.{At}
 use Rattle.grid.proofs.GridLaws.{adj-sym}
 use Rattle.grid.proofs.SideLaws.{area, in-place, in-grid, beside-at, beside-in, towards-mem}
 use Rattle.grid.proofs.AroundLaws.{gathered, gathered-next, gathered-same, gathered-all}
+use Rattle.grid.proofs.ListLaws.{place-in}
 use Rattle.grid.proofs.AppendLaws.{by-eq}
+use Rattle.grid.proofs.ArrayLaws.{Entry, hit, miss, entry-at}
 use Rattle.groups.specs.Groups.{Joined, noGroup}
 use Rattle.groups.specs.Flood.{unlabelled, free, Marked, Only, Offered, skip, take, OfferedSide, beyond, within, Kept, same, new, Shut, Flooding, Right, none, out, some, Sofar, Spread, Ready}
 use Rattle.groups.proofs.GroupLaws.{linked-size}
 use Rattle.groups.proofs.LabelLaws.{Components}
-
--- the entry at j after a store at q
-data Entry (L : List ℕ) (q v j : ℕ) : Type 0 where
-  hit : j ≡ q → getD (set L q v) j 0 ≡ v → Entry L q v j
-  miss : (j ≡ q → ⊥) → getD (set L q v) j 0 ≡ getD L j 0 → Entry L q v j
-
-at : (L : List ℕ) (q v j : ℕ) → q < length L → Entry L q v j
-at L q v j h = by-eq j q (λ e. hit e (rw e (getD-set-same L q v 0 h))) (λ ne. miss ne (getD-set-other L q j v 0 ne))
 
 -- a label is given: one entry fewer is free
 pub free-set : (L : List ℕ) (q s : ℕ) → getD L q 0 ≡ unlabelled → (s ≡ unlabelled → ⊥) → free (set L q s) + 1 ≡ free L
@@ -50,15 +44,9 @@ unfolding free
 free-le [] = omega arith
 free-le (x ∷ xs) = omega (arith, free-le xs, one-le (eqb x unlabelled))
 
--- an entry with no label is an entry
-below-long : (L : List ℕ) (q : ℕ) → getD L q 0 ≡ unlabelled → q < length L
-below-long [] q e = absurd (omega (arith, e))
-below-long (x ∷ xs) zero e = omega arith
-below-long (x ∷ xs) (suc q) e = omega (arith, below-long xs q e)
-
 -- a label that is there stays
 set-stays : (L : List ℕ) (q s : ℕ) → s < 1024 → getD L q 0 ≡ unlabelled → (k : ℕ) → (getD L k 0 ≡ unlabelled → ⊥) → getD (set L q s) k 0 ≡ unlabelled → ⊥
-set-stays L q s small u k h = go (at L q s k (below-long L q u))
+set-stays L q s small u k h = go (entry-at L q s k (place-in L q (omega arith)))
   where
     go : Entry L q s k → getD (set L q s) k 0 ≡ unlabelled → ⊥
     go (hit e v) x = omega (arith, v, x)
@@ -80,7 +68,7 @@ module _ {q s : ℕ} {L st : List ℕ} {c : ℕ} {L′ st′ : List ℕ} {r : �
 
   pub offered-labelled : Offered q s L st c L′ st′ r → getD L′ q 0 ≡ unlabelled → ⊥
   offered-labelled (skip no-go l t e) = rw l no-go
-  offered-labelled (take u l t e) = rw l (λ x. omega (arith, x, getD-set-same L q s 0 (below-long L q u)))
+  offered-labelled (take u l t e) = rw l (λ x. omega (arith, x, getD-set-same L q s 0 (place-in L q (omega arith))))
 
   pub offered-keeps :
       {g : Grid} {p : ℕ → Bool} {L₀ : List ℕ} {i : ℕ} → Offered q s L st c L′ st′ r → (So (p q) → Joined g p s q) → Flooding g p s L₀ i L st c
@@ -100,7 +88,7 @@ module _ {q s : ℕ} {L st : List ℕ} {c : ℕ} {L′ st′ : List ℕ} {r : �
       apart x = omega (arith, x)
 
       q-in : q < length L
-      q-in = below-long L q u
+      q-in = place-in L q (omega arith)
 
       c-in : c < length st
       c-in = omega (arith, free-set L q s u apart, F .room, F .stack-long)
@@ -136,10 +124,10 @@ module _ {q s : ℕ} {L st : List ℕ} {c : ℕ} {L′ st′ : List ℕ} {r : �
         labels-long = length-set L q s ∙ F .labels-long;
         stack-long = length-set st c q ∙ F .stack-long;
         room = omega (arith, free-set L q s u apart, F .room);
-        only = λ j x. only′ j x (at L q s j q-in);
-        kept = λ j. kept′ j (F .kept j) (at L q s j q-in);
-        waiting = λ t h. waiting′ t h (at st c q t c-in);
-        done = λ j h x gone ne. done′ j h x gone ne (at L q s j q-in);
+        only = λ j x. only′ j x (entry-at L q s j q-in);
+        kept = λ j. kept′ j (F .kept j) (entry-at L q s j q-in);
+        waiting = λ t h. waiting′ t h (entry-at st c q t c-in);
+        done = λ j h x gone ne. done′ j h x gone ne (entry-at L q s j q-in);
       }
 
 -- a neighbour is an entry
@@ -313,7 +301,7 @@ pub marked-more : {p : ℕ → Bool} {i v : ℕ} {L : List ℕ} → i < 1024 →
 marked-more {p} {i} {v} {L} h e T = record { long = length-set L i v ∙ T .long; below = λ j b. below′ j b (entry j); behind = λ j b l. behind′ j b l (entry j) }
   where
     entry : (j : ℕ) → Entry L i v j
-    entry j = at L i v j (omega (arith, T .long))
+    entry j = entry-at L i v j (omega (arith, T .long))
 
     below′ : (j : ℕ) → j < i + 1 → Entry L i v j → getD (set L i v) j 0 ≡ cond (p j) unlabelled noGroup
     below′ j b (hit q x) = x ∙ e ∙ ap (λ (m : ℕ). cond (p m) unlabelled noGroup) (sym q)

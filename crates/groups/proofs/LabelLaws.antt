@@ -5,19 +5,22 @@ use native.Mathlib.Decide.{decLt}
 use native.Mathlib.Nat.{le-antisymm}
 use native.Mathlib.Omega.{arith}
 use mathlib.Core.Logic.{_⊎_, inl, inr}
-use mathlib.Core.Path.{_≡_, refl, sym, ap, _∙_}
-use mathlib.Core.Bool.{Bool, true, false, So, false≢true}
-use mathlib.Core.List.{List, map}
+use mathlib.Core.Path.{_≡_, refl, sym, _∙_}
+use mathlib.Core.Bool.{Bool, true, false, So, false≢true, cond, _&&_}
+use mathlib.Core.List.{List}
+use lib.Dec.{eqb}
 use lib.ListN.{length, getD, take}
 use lib.Seq.{ext-getD, getD-take}
+use borrow.Author.Tests.{ne-eqb}
 use Rattle.grid.specs.Link.{here, linked-end, linked-start, linked-map, linked-sym}
-use Rattle.grid.specs.Lists.{upto}
+use Rattle.grid.specs.Lists.{upto, filter}
 use Rattle.grid.specs.Grid.{Grid, size, cellsOf}
-use Rattle.grid.proofs.ListLaws.{split, so-false, getD-map-range, length-map-range}
+use Rattle.grid.proofs.ListLaws.{split, so-false}
 use Rattle.grid.proofs.GridLaws.{adj-sym}
-use Rattle.grid.proofs.ArrayLaws.{array-length, array-in, array-out}
+use Rattle.grid.proofs.AppendLaws.{filter-upto}
+use Rattle.grid.proofs.FilledLaws.{filled-at, filled-past, filled-length}
 use Rattle.grid.specs.Cells.{empty, square, potential}
-use Rattle.groups.specs.Groups.{Joined, noGroup, labelAt, labelArray, counts}
+use Rattle.groups.specs.Groups.{Joined, noGroup, labelAt, labelArray, counts, labels, group}
 use Rattle.groups.proofs.GroupLaws.{label, label-linked, linked-label, label-own, label-least, linked-size}
 
 -- every cell that passes is labelled with the least cell that is joined to it, and every other entry says that there is no group
@@ -28,18 +31,23 @@ pub record Components (g : Grid) (p : ℕ → Bool) (L : List ℕ) : Type 0 wher
   pub none : (i : ℕ) → i < 1024 → ((i < size g) × So (p i) → ⊥) → getD L i 0 ≡ noGroup
 
 module _ (g : Grid) (p : ℕ → Bool) where
-  row-length : length (map (labelAt g p) (cellsOf g)) ≡ size g
-  unfolding cellsOf upto
-  row-length = length-map-range (labelAt g p) 0 (size g)
-
-  row-at : (i : ℕ) → i < size g → getD (map (labelAt g p) (cellsOf g)) i 0 ≡ labelAt g p i
-  unfolding cellsOf upto
-  row-at i h = getD-map-range (labelAt g p) 0 (size g) i 0 h ∙ ap (labelAt g p) (omega arith)
-
   -- an entry of the grid
   pub label-at : (i : ℕ) → i < size g → getD (labelArray g p) i 0 ≡ labelAt g p i
-  unfolding labelArray
-  label-at i h = array-in noGroup (map (labelAt g p) (cellsOf g)) 0 i (rw row-length h) ∙ row-at i h
+  unfolding labelArray cellsOf
+  label-at i h = filled-at noGroup (labelAt g p) (size g) i h
+
+  -- the cells of the group named f
+  pub label-test : (i f : ℕ) → i < size g → f < 1024 → eqb (getD (labelArray g p) i 0) f ≡ (p i && eqb (label g p i) f)
+  unfolding labelAt
+  label-test i f h k = rw (label-at i h) (go (p i))
+    where
+      go : (b : Bool) → eqb (cond b (label g p i) noGroup) f ≡ (b && eqb (label g p i) f)
+      go true = refl
+      go false = ne-eqb noGroup f (λ e. omega (arith, e))
+
+  pub label-group : (f : ℕ) → f < 1024 → filter (λ i. eqb (getD (labelArray g p) i 0) f) (upto (size g)) ≡ group g p (labels g p) f
+  unfolding group cellsOf
+  label-group f k = filter-upto _ _ (size g) (λ i h. label-test i f h k)
 
   -- a cell that passes has its group's name
   pub label-in : (i : ℕ) → i < size g → So (p i) → getD (labelArray g p) i 0 ≡ label g p i
@@ -53,14 +61,14 @@ module _ (g : Grid) (p : ℕ → Bool) where
 
   -- and so has every entry behind the grid
   pub label-behind : (i : ℕ) → size g ≤ i → i < 1024 → getD (labelArray g p) i 0 ≡ noGroup
-  unfolding labelArray
-  label-behind i h k = array-out noGroup (map (labelAt g p) (cellsOf g)) 0 i (rw row-length h) k
+  unfolding labelArray cellsOf
+  label-behind i h k = filled-past noGroup (labelAt g p) (size g) i h k
 
   module _ (fits : size g ≤ 1024) where
     -- the array has 1,024 places
     pub labels-long : length (labelArray g p) ≡ 1024
-    unfolding labelArray
-    labels-long = array-length noGroup (map (labelAt g p) (cellsOf g)) (rw row-length fits)
+    unfolding labelArray cellsOf
+    labels-long = filled-length noGroup (labelAt g p) (size g) fits
 
     -- where there is no group
     pub label-none : (i : ℕ) → i < 1024 → ((i < size g) × So (p i) → ⊥) → getD (labelArray g p) i 0 ≡ noGroup

@@ -6,16 +6,16 @@ use native.Mathlib.Numerals.{add-one}
 use native.Mathlib.Omega.{arith}
 use mathlib.Core.Path.{_≡_, refl, sym, ap, _∙_}
 use mathlib.Core.Bool.{Bool, cond, _||_, or-false, or-true}
-use mathlib.Core.List.{List, [], _∷_, _++_, map, List·Memᴰ}
+use mathlib.Core.List.{List, [], _∷_, List·Memᴰ}
 use lib.Dec.{eqb}
 use lib.ListN.{length, getD, set, take, replicate, length-set, length-replicate, getD-replicate}
 use lib.Seq.{ext-getD, getD-set-same, getD-set-other, take-suc}
 use borrow.Author.Tests.{eq-eqb, ne-eqb}
-use Rattle.grid.specs.Lists.{upto, any, member, flatMap}
+use Rattle.grid.specs.Lists.{any, member, flatMap}
 use Rattle.grid.specs.Grid.{Grid, size, cellsOf}
-use Rattle.grid.proofs.ListLaws.{so-false, member-mem, getD-map-range, length-map-range}
-use Rattle.grid.proofs.ArrayLaws.{array-length, array-in, array-out}
-use Rattle.grid.proofs.AppendLaws.{any-append}
+use Rattle.grid.proofs.ListLaws.{so-false, member-mem, length-map-upto, map-upto-at}
+use Rattle.grid.proofs.FilledLaws.{filled-at, filled-past, filled-length}
+use Rattle.grid.proofs.AppendLaws.{any-append, member-more}
 use Rattle.record.specs.Problem.{arrowCells}
 use Rattle.groups.specs.Groups.{maskOf, marksOf}
 use Rattle.groups.specs.Arrows.{onArrow}
@@ -23,23 +23,18 @@ use Rattle.groups.specs.Arrows.{onArrow}
 -- ---- marks
 
 pub marks-length : (l : List ℕ) → length (marksOf l) ≡ 1024
-unfolding marksOf upto
-marks-length l = length-map-range (λ i. cond (member i l) 1 0) 0 1024
+unfolding marksOf
+marks-length l = length-map-upto (λ i. cond (member i l) 1 0) 1024
 
 pub marks-at : (l : List ℕ) (i : ℕ) → i < 1024 → getD (marksOf l) i 0 ≡ cond (member i l) 1 0
-unfolding marksOf upto
-marks-at l i h = getD-map-range (λ j. cond (member j l) 1 0) 0 1024 i 0 h ∙ ap (λ (j : ℕ). cond (member j l) 1 0) (omega arith)
+unfolding marksOf
+marks-at l i h = map-upto-at (λ j. cond (member j l) 1 0) 1024 i 0 h
 
 -- no cell is marked
 pub marks-none : replicate 1024 0 ≡ marksOf []
 unfolding member any
 marks-none = ext-getD 0 (replicate 1024 0) (marksOf []) (length-replicate {A = ℕ} 1024 0 ∙ sym (marks-length []))
     (λ i h. let k : i < 1024 = omega (arith, h, length-replicate {A = ℕ} 1024 0) in getD-replicate {A = ℕ} 1024 i 0 0 k ∙ sym (marks-at [] i k))
-
--- one more cell is listed
-member-snoc : (l : List ℕ) (x i : ℕ) → member i (l ++ (x ∷ [])) ≡ (member i l || eqb i x)
-unfolding member any
-member-snoc l x i = any-append (eqb i) l (x ∷ []) ∙ ap (λ (t : Bool). any (eqb i) l || t) (or-false (eqb i x))
 
 -- one more cell is marked
 pub marks-more : (l : List ℕ) (k : ℕ) → k < length l → getD l k 0 < 1024 → set (marksOf (take k l)) (getD l k 0) 1 ≡ marksOf (take (k + 1) l)
@@ -53,7 +48,7 @@ marks-more l k h c = ext-getD 0 (set M x 1) (marksOf (take (k + 1) l)) (length-s
     M = marksOf (take k l)
 
     more : (i : ℕ) → member i (take (k + 1) l) ≡ (member i (take k l) || eqb i x)
-    more i = rw (add-one, take-suc l k 0) (member-snoc (take k l) x i)
+    more i = rw (add-one, take-suc l k 0) (member-more i (take k l) x)
 
     at : (i : ℕ) → i < 1024 → Dec (i ≡ x) → getD (set M x 1) i 0 ≡ cond (member i (take k l) || eqb i x) 1 0
     at i s (yes e) = rw (e, eq-eqb x x refl, or-true) (getD-set-same M x 1 0 (omega (arith, marks-length (take k l))))
@@ -66,26 +61,18 @@ module _ (g : Grid) (p : ℕ → Bool) where
   abbrev entry : ℕ → ℕ
   entry i = cond (p i) 1 0
 
-  row-length : length (map entry (cellsOf g)) ≡ size g
-  unfolding cellsOf upto
-  row-length = length-map-range entry 0 (size g)
-
-  row-at : (i : ℕ) → i < size g → getD (map entry (cellsOf g)) i 0 ≡ entry i
-  unfolding cellsOf upto
-  row-at i h = getD-map-range entry 0 (size g) i 0 h ∙ ap entry (omega arith)
-
   -- an entry of the grid, and one behind it
   pub mask-at : (i : ℕ) → i < size g → getD (maskOf g p) i 0 ≡ entry i
-  unfolding maskOf
-  mask-at i h = array-in 0 (map entry (cellsOf g)) 0 i (rw row-length h) ∙ row-at i h
+  unfolding maskOf cellsOf
+  mask-at i h = filled-at 0 entry (size g) i h
 
   pub mask-behind : (i : ℕ) → size g ≤ i → i < 1024 → getD (maskOf g p) i 0 ≡ 0
-  unfolding maskOf
-  mask-behind i h k = array-out 0 (map entry (cellsOf g)) 0 i (rw row-length h) k
+  unfolding maskOf cellsOf
+  mask-behind i h k = filled-past 0 entry (size g) i h k
 
   pub mask-length : size g ≤ 1024 → length (maskOf g p) ≡ 1024
-  unfolding maskOf
-  mask-length fits = array-length 0 (map entry (cellsOf g)) (rw row-length fits)
+  unfolding maskOf cellsOf
+  mask-length fits = filled-length 0 entry (size g) fits
 
 -- the marks of cells of the grid are their mask
 pub marks-mask : (g : Grid) (p : ℕ → Bool) (l : List ℕ) → size g ≤ 1024 → ((i : ℕ) → member i l ≡ p i) → ((i : ℕ) → List·Memᴰ i l → i < size g) → marksOf l ≡ maskOf g p

@@ -8,7 +8,8 @@ use mathlib.Core.List.{List, _∷_, _++_, List·Memᴰ}
 use lib.Dec.{eqb}
 use lib.ListN.{length, getD}
 use borrow.Author.Tests.{eqb-true, eq-eqb}
-use Rattle.grid.proofs.Count.{count, length-filter}
+use Rattle.grid.specs.Count.{count}
+use Rattle.grid.proofs.Count.{length-filter}
 use Rattle.grid.proofs.Finite.{dec-linked}
 use Rattle.grid.specs.Grid.{Adjacent, Grid, size, cellsOf}
 use Rattle.grid.proofs.GridLaws.{dec-adjacent}

@@ -12,7 +12,8 @@ use lib.Dec.{eqb}
 use borrow.Author.Tests.{eqb-true, eq-eqb}
 use Rattle.grid.specs.Lists.{any}
 use Rattle.grid.proofs.ListLaws.{and-true, true-and, any-mem, mem-any, all-mem, mem-all}
-use Rattle.grid.proofs.Count.{dec-and, dec-not, dec-some, count, except, count-except, count-inj, count-inj-suc}
+use Rattle.grid.specs.Count.{count}
+use Rattle.grid.proofs.Count.{dec-and, dec-not, dec-some, except, count-except, count-inj, count-inj-suc}
 use Rattle.grid.specs.Grid.{Grid, size, row, col}
 use Rattle.grid.proofs.GridLaws.{one-place}
 use Rattle.groups.specs.Rules.{Shift, Moved, Grown, fits}

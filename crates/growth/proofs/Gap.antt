@@ -10,24 +10,12 @@ use lib.ListN.{length, getD, take, drop, length-take, drop-of-length-le}
 use lib.Seq.{slice, slice-cons, drop-drop}
 use borrow.Author.Tests.{eq-eqb, ne-eqb}
 use mathlib.Core.Option.{some}
-use Rattle.grid.proofs.Count.{count, bump-yes, bump-no, count-front}
+use Rattle.grid.specs.Count.{count}
+use Rattle.grid.proofs.Count.{bump-yes, bump-no, count-front}
 use Rattle.grid.proofs.ListLaws.{dec-so, so-false}
 use Rattle.grid.specs.Cells.{undecided}
 use Rattle.growth.specs.Growth.{mostApart}
-
--- S is a choice of positions below w that satisfy U, no two consecutive
-pub record Choice (U : ℕ → Type 0) (w : ℕ) (S : ℕ → Type 0) : Type 0 where
-  pub low : (k : ℕ) → S k → k < w
-  pub good : (k : ℕ) → S k → U k
-  pub apart : (k : ℕ) → S k → ¬ S (suc k)
-
--- g is the size of the largest choice
-pub record Most (U : ℕ → Type 0) (w g : ℕ) : Type 1 where
-  pub bound : (S : ℕ → Type 0) (d : (k : ℕ) → Dec (S k)) → Choice U w S → count d w ≤ g
-  pub some : ℕ → Type 0
-  pub some-dec : (k : ℕ) → Dec (some k)
-  pub some-choice : Choice U w some
-  pub some-size : count some-dec w ≡ g
+use Rattle.growth.specs.Gap.{Most}
 
 -- no choice is larger than mostApart
 pub most-bound : (cells is : List ℕ) (S : ℕ → Type 0) (d : (k : ℕ) → Dec (S k)) → ((k : ℕ) → k < length is → S k → So (undecided cells (getD is k 0))) → ((k : ℕ) → S k → ¬ S (suc k))

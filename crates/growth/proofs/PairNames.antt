@@ -1,19 +1,19 @@
 -- The squares of an arrow are in arrow blocks, and the arrays have their names.
 -- Assumes nothing.
-use Prim.Native.Nat.{ℕ, _+_, _*_, _≤_, _<_}
+use Prim.Native.Nat.{ℕ, _*_, _≤_, _<_}
 use native.Mathlib.Omega.{arith}
-use mathlib.Core.Path.{_≡_, refl, sym, ap, _∙_}
+use mathlib.Core.Path.{_≡_, refl, sym, _∙_}
 use mathlib.Core.Bool.{true, false}
 use mathlib.Core.List.{List}
 use lib.ListN.{getD, take}
 use lib.Seq.{getD-take}
 use borrow.Author.Tests.{eqb-true, eq-eqb}
-use Rattle.grid.specs.Lists.{upto}
 use Rattle.grid.specs.Grid.{Grid, size, cellsOf}
 use Rattle.grid.specs.Side.{sized}
 use Rattle.grid.specs.Link.{linked-end}
-use Rattle.grid.proofs.ListLaws.{true-and, mem-any, getD-map-range}
+use Rattle.grid.proofs.ListLaws.{true-and, mem-any}
 use Rattle.grid.proofs.GridLaws.{in-cells}
+use Rattle.grid.proofs.FilledLaws.{filled-at}
 use Rattle.record.specs.Record.{Puzzle}
 use Rattle.grid.specs.Cells.{empty, square}
 use Rattle.groups.specs.Groups.{labels}
@@ -21,8 +21,8 @@ use Rattle.groups.specs.Arrows.{onArrow}
 use Rattle.groups.proofs.GroupLaws.{linked-size, label-own, label-linked}
 use Rattle.kinds.specs.Kinds.{view, viewWith, vacant, inBlock, arrowBlock, kindAt, kindsOf, kindCode, ownerBy, kindArray, ownerArray}
 use Rattle.kinds.specs.Inside.{puzzleWith}
-use Rattle.growth.specs.Pairs.{NextSquare, viewOn, Scene}
-use Rattle.kinds.proofs.BlockArrays.{array-at}
+use Rattle.growth.specs.Pairs.{NextSquare, viewOn, Scene, Squares}
+use Rattle.kinds.proofs.BlockArrays.{kind-get}
 
 -- a cell of the grid, in an array and among the grid's cells
 pub square-taken : (cells : List ℕ) (n i : ℕ) → i < n → square (take n cells) i ≡ square cells i
@@ -55,17 +55,13 @@ module _ (p : Puzzle) (cells : List ℕ) (i : ℕ) (on : i < size (p .grid)) (sq
   in-arrow-block = mem-any _ (cellsOf g) (in-cells g i on) (true-and (true-and sq (eq-eqb (getD blocks i 0) (getD blocks i 0) refl)) arrow)
 
   kind-is : getD (kindsOf p cells blocks) i vacant ≡ inBlock (getD blocks i 0)
-  unfolding kindsOf kindAt cellsOf upto
-  kind-is =
-      let z : 0 + i ≡ i = omega arith in
-      getD-map-range (kindAt p cells blocks) 0 (size g) i vacant on
-      ∙ ap (kindAt p cells blocks) z
-      ∙ rw (not-empty, sq, in-arrow-block) refl
+  unfolding kindAt
+  kind-is = kind-get p cells blocks i on ∙ rw (not-empty, sq, in-arrow-block) refl
 
   -- the name of its block stands in the array
   pub owner-is : getD (ownerArray (view p cells)) i 0 ≡ getD (view p cells .blocks) i 0
-  unfolding ownerArray view viewWith ownerBy
-  owner-is = array-at g _ (λ j. ownerBy (getD (view p cells .floats) j 0) (getD (kindsOf p cells blocks) j vacant)) 0 i on ∙ rw kind-is refl
+  unfolding ownerArray view viewWith ownerBy cellsOf
+  owner-is = filled-at 1024 (λ j. ownerBy (getD (view p cells .floats) j 0) (getD (kindsOf p cells blocks) j vacant)) (size g) i on ∙ rw kind-is refl
 
   -- .. and is a cell of the grid
   pub name-inside : getD (view p cells .blocks) i 0 < size g
@@ -87,17 +83,13 @@ module _ (p : Puzzle) (cells : List ℕ) (i : ℕ) (on : i < size (p .grid)) (sq
   name-on = linked-size g (square cells) on (label-own g (square cells) i on sq)
 
   name-kind : getD (kindsOf p cells blocks) (getD blocks i 0) vacant ≡ inBlock (getD blocks i 0)
-  unfolding kindsOf kindAt cellsOf upto
-  name-kind =
-      let z : 0 + getD blocks i 0 ≡ getD blocks i 0 = omega arith in
-      getD-map-range (kindAt p cells blocks) 0 (size g) (getD blocks i 0) vacant name-on
-      ∙ ap (kindAt p cells blocks) z
-      ∙ rw (name-full, name-square, name-own, in-arrow-block) refl
+  unfolding kindAt
+  name-kind = kind-get p cells blocks (getD blocks i 0) name-on ∙ rw (name-full, name-square, name-own, in-arrow-block) refl
 
   -- .. whose number says so
   pub name-code : getD (kindArray (view p cells)) (getD (view p cells .blocks) i 0) 0 ≡ 1
-  unfolding kindArray view viewWith kindCode
-  name-code = array-at g 0 (λ j. kindCode (getD (kindsOf p cells blocks) j vacant)) 0 (getD blocks i 0) name-on ∙ rw name-kind refl
+  unfolding kindArray view viewWith kindCode cellsOf
+  name-code = filled-at 0 (λ j. kindCode (getD (kindsOf p cells blocks) j vacant)) (size g) (getD blocks i 0) name-on ∙ rw name-kind refl
 
 -- the same by a scene
 module _ {h w : ℕ} {lines : List (List ℕ)} {cells arrows kinds owners : List ℕ} {from to : ℕ} (s : Scene h w lines cells arrows kinds owners from to) where
@@ -129,3 +121,17 @@ module _ {h w : ℕ} {lines : List (List ℕ)} {cells arrows kinds owners : List
     scene-kind =
         rw (scene-owner, s .held .kind)
         (name-code (puzzleWith (sized h w) lines) (take (h * w) cells) (getD arrows k 0) (s .inside k p q) (square-taken cells (h * w) (getD arrows k 0) (s .inside k p q) ∙ sq) (s .on-arrow k p q))
+
+-- two squares of an arrow: their places hold cells, and the names of their blocks are cells of the grid
+module _ {h w : ℕ} {cells arrows kinds owners : List ℕ} {last cur : ℕ} (s : Squares h w cells arrows kinds owners last cur) where
+  pub last-cell : getD arrows last 0 < 1024
+  last-cell = s .line .places .cells last
+
+  pub cur-cell : getD arrows cur 0 < 1024
+  cur-cell = s .line .places .cells cur
+
+  pub last-name : getD owners (getD arrows last 0) 0 < h * w
+  last-name = scene-name (s .line .scene) last (omega arith) (omega (arith, s .order)) (s .first)
+
+  pub cur-name : getD owners (getD arrows cur 0) 0 < h * w
+  cur-name = scene-name (s .line .scene) cur (omega (arith, s .order)) (omega arith) (s .second)

@@ -17,8 +17,8 @@ use Rattle.record.specs.declared.Problem.{Problem}
 use Rattle.record.specs.declared.Answer.{Answer}
 use Rattle.record.specs.declared.Answer.the-variants.{Done, Refused}
 use Rattle.record.proofs.RecordLaws.{record-valid}
-use Rattle.form.proofs.ProblemForm.{size-most}
 use Rattle.grid.specs.Cells.{Literal}
+use Rattle.grid.proofs.GridLaws.{size-most}
 use Rattle.board.specs.Board.{decide, after, refusal, enough}
 use Rattle.board.specs.Form.{wellFormed}
 use Rattle.board.specs.Kept.{boardOf, opening, openOf}

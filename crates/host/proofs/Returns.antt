@@ -13,10 +13,10 @@ use borrow.Author.Tests.{ltb-true, leb-false, eqb-true, eq-eqb, not-true}
 use Rattle.grid.specs.Lists.{all, member}
 use Rattle.grid.specs.Grid.{Grid, size, up, down, left, right}
 use Rattle.grid.proofs.ListLaws.{all-mem, and-true}
+use Rattle.grid.proofs.GridLaws.{size-most}
 use Rattle.record.specs.Record.{Outcome, ok, refused, _>>=_, unless, Puzzle, number, field, cellCodes, there, stepFrom, stepCells, arrowAt, filler, arrowsAt, readRecord}
 use Rattle.record.specs.Valid.{Valid}
 use Rattle.record.proofs.RecordLaws.{record-valid}
-use Rattle.record.proofs.WriteLaws.{size-le}
 use Rattle.grid.specs.Cells.{Literal}
 use Rattle.board.specs.Board.{decide, refusal, decided, cellsAfter, enough}
 use Rattle.board.proofs.Standing.{Standing, none, after-standing, standing-calls, standing-low}
@@ -26,36 +26,7 @@ use Rattle.reasons.proofs.NonEmpty.{reason-some}
 use Rattle.reasons.proofs.ReasonLaws.{found-length}
 use Rattle.reasons.proofs.OnMachine.{on-machine}
 use Rattle.host.specs.Host.{acceptOr, decideBytes, hostFinds, returned}
-
--- the refusals of the record and of the decisions
-abbrev pub refusals : List ℕ
-refusals = 1 ∷ 2 ∷ 3 ∷ 4 ∷ 5 ∷ 7 ∷ 9 ∷ 12 ∷ []
-
--- a list of bytes, as a slice of u8 holds them
-abbrev pub Bytes : List ℕ → Type 0
-Bytes l = (x : ℕ) → List·Memᴰ x l → x < 256
-
--- the numbers that the call can return for the record s
-pub data Returns (s : List ℕ) : ℤ → Type 0 where
-  negated-refusal : {k : ℕ} → List·Memᴰ k (11 ∷ refusals) → Returns s (negℤ (pos k))
-  literal-count : {n : ℕ} (p : Puzzle) → readRecord s ≡ ok p → n ≤ 3 * size (p .grid) + 1 → Returns s (pos n)
-
--- a refusal of the list, or a value with the property
-pub data Possible (ks : List ℕ) {A : Type 0} (P : A → Type 0) : Outcome A → Type 0 where
-  refusal-of : {k : ℕ} → List·Memᴰ k ks → Possible ks P (refused k)
-  value-of : {a : A} → P a → Possible ks P (ok a)
-
--- what can be found on a grid: none, or a reason of 1 to 3 × H × W + 1 literals, each a cell's index with a value
-pub data FoundOn (g : Grid) : Found → Type 0 where
-  no-reason : FoundOn g none
-  some-reason : {r : List Literal} → 0 < length r → length r ≤ 3 * size g + 1 → ((l : Literal) → List·Memᴰ l r → (l .0 < size g) × (l .1 ≤ 1)) → FoundOn g (some r)
-
--- what can be found with the record s, which is accepted
-pub record FoundWith (s : List ℕ) (f : Found) : Type 0 where
-  pub puzzle : Puzzle
-  pub reads : readRecord s ≡ ok puzzle
-  pub few : size (puzzle .grid) ≤ 1024
-  pub found : FoundOn (puzzle .grid) f
+use Rattle.host.specs.Returns.{refusals, Bytes, Returns, negated-refusal, literal-count, Possible, refusal-of, value-of, FoundOn, no-reason, some-reason, FoundWith}
 
 -- ---- an outcome step by step
 
@@ -200,7 +171,7 @@ module _ {ks : List ℕ} (has : (k : ℕ) → List·Memᴰ k refusals → List·
 
 -- a record has at most 1,024 cells
 pub few-cells : (s : List ℕ) (p : Puzzle) → readRecord s ≡ ok p → size (p .grid) ≤ 1024
-few-cells s p e = let v : Valid p = record-valid s e in size-le (p .grid) (v .high .0) (v .high .1)
+few-cells s p e = let v : Valid p = record-valid s e in size-most (p .grid) (v .high .0) (v .high .1)
 
 found-with : (s : List ℕ) (p : Puzzle) → readRecord s ≡ ok p → {ds : List Literal} → Standing (p .grid) ds → FoundWith s (findOn p ds)
 found-with s p e {ds} st = record { puzzle = p; reads = e; few = few-cells s p e; found = go (findOn p ds) refl }

@@ -9,21 +9,22 @@ use mathlib.Core.List.{List, List·Memᴰ}
 use lib.Dec.{eqb}
 use lib.ListN.{length, getD, take}
 use lib.Seq.{getD-take, length-take-le}
-use borrow.Author.Tests.{eqb-true, eq-eqb, ne-eqb, lt-ltb}
+use borrow.Author.Tests.{eqb-true, eq-eqb, lt-ltb}
 use Rattle.grid.specs.Lists.{upto, member}
 use Rattle.grid.specs.Grid.{Grid, size, cellsOf}
 use Rattle.grid.proofs.ListLaws.{so-false, and-true, true-and, any-mem, mem-any, upto-mem, mem-upto, member-mem, mem-member, mem-at, at-mem}
 use Rattle.record.specs.Record.{Puzzle}
 use Rattle.grid.specs.Cells.{square}
-use Rattle.groups.specs.Groups.{labels, labelAt, labelArray, maskOf, marksOf}
+use Rattle.groups.specs.Groups.{labels, labelArray, maskOf, marksOf}
 use Rattle.groups.specs.Arrows.{onArrow, Line}
-use Rattle.groups.proofs.MarkLaws.{marks-at, mask-behind}
+use Rattle.groups.proofs.MarkLaws.{marks-at, mask-behind, mask-at}
+use Rattle.groups.proofs.LabelLaws.{label-test}
 use Rattle.groups.proofs.GroupLaws.{label-least}
 use Rattle.grid.specs.Link.{here}
 use Rattle.grid.proofs.AppendLaws.{same-test}
 use Rattle.kinds.specs.Kinds.{arrowBlock}
 use Rattle.kinds.specs.Inside.{Marks, nameAt, nameAmong, nameTwice}
-use Rattle.kinds.proofs.Filled.{marks-same, marks-mask, mask-at, filled-at}
+use Rattle.kinds.proofs.Filled.{marks-same, marks-mask}
 
 -- a mark that is 1
 pub mark-on : (b : Bool) → _≡_ {A = ℕ} (cond b 1 0) 1 → b ≡ true
@@ -81,12 +82,7 @@ module _ (p : Puzzle) (small : size (p .grid) ≤ 1024) (cells : List ℕ) where
   module _ {blocks line : List ℕ} {total : ℕ} {onarrow : List ℕ} (named : blocks ≡ labelArray g (square cells)) (fits : Line line total) (listed : onarrow ≡ marksOf (take total line)) (marked : onarrow ≡ maskOf g (onArrow (p .arrows))) where
     -- a cell is in the block named f
     block-test : (i f : ℕ) → i < size g → f < 1024 → eqb (getD blocks i 0) f ≡ (square cells i && eqb (label i) f)
-    unfolding labelArray labelAt cellsOf
-    block-test i f l h = ap (λ (b : List ℕ). eqb (getD b i 0) f) named ∙ ap (λ (x : ℕ). eqb x f) (filled-at 1024 (labelAt g (square cells)) (size g) i l) ∙ go (square cells i)
-      where
-        go : (b : Bool) → eqb (cond b (label i) 1024) f ≡ (b && eqb (label i) f)
-        go true = refl
-        go false = ne-eqb 1024 f (λ e. omega (arith, e))
+    block-test i f l h = ap (λ (b : List ℕ). eqb (getD b i 0) f) named ∙ label-test g (square cells) i f l h
 
     among-is : (f : ℕ) → f < 1024 → nameAmong blocks line total f ≡ arrowed f
     unfolding nameAmong arrowBlock cellsOf

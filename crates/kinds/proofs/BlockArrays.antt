@@ -1,43 +1,46 @@
 -- What stands in the arrays of a board's groups and kinds.
 -- Assumes nothing.
-use Prim.Native.Nat.{ℕ, _+_, _<_}
-use native.Mathlib.Omega.{arith}
-use mathlib.Core.Path.{_≡_, refl, ap, _∙_}
+use Prim.Native.Nat.{ℕ, _≤_, _<_}
+use mathlib.Core.Path.{_≡_, refl}
 use mathlib.Core.Bool.{_&&_}
-use mathlib.Core.List.{List, map}
+use mathlib.Core.List.{List}
 use lib.Dec.{eqb}
 use lib.ListN.{getD}
-use Rattle.grid.specs.Lists.{upto, filter, arrayOf}
-use Rattle.grid.specs.Grid.{Grid, size, cellsOf}
-use Rattle.grid.proofs.ListLaws.{getD-map-range, length-map-range}
-use Rattle.grid.proofs.ArrayLaws.{array-in}
+use Rattle.grid.specs.Lists.{upto, filter}
+use Rattle.grid.specs.Grid.{size, cellsOf}
+use Rattle.grid.proofs.ListLaws.{map-upto-at, map-upto-past}
+use Rattle.grid.proofs.FilledLaws.{filled-at}
 use Rattle.grid.proofs.AppendLaws.{filter-upto}
+use Rattle.record.specs.Record.{Puzzle}
 use Rattle.kinds.specs.Inside.{Held}
-use Rattle.kinds.specs.Kinds.{View, Kind, vacant, barrier, floating, inBlock, neighbour, isIn, has, block, kindCode, ownerBy, kindArray, ownerArray}
+use Rattle.kinds.specs.Kinds.{View, Kind, vacant, barrier, floating, inBlock, neighbour, isIn, has, block, kindCode, ownerBy, kindArray, ownerArray, kindAt, kindsOf}
 
--- an array with an entry for each cell
-pub array-at : {A : Type 0} (g : Grid) (d : A) (f : ℕ → A) (e : A) (i : ℕ) → i < size g → getD (arrayOf d (map f (cellsOf g))) i e ≡ f i
-unfolding cellsOf upto
-array-at g d f e i h =
-    let z : 0 + i ≡ i = omega arith in
-    array-in d (map f (upto (size g))) e i (omega (arith, length-map-range f 0 (size g))) ∙ getD-map-range f 0 (size g) i e h ∙ ap f z
+-- the kind of a cell of the grid, and what stands behind them
+module _ (p : Puzzle) (cells blocks : List ℕ) (i : ℕ) where
+  pub kind-get : i < size (p .grid) → getD (kindsOf p cells blocks) i vacant ≡ kindAt p cells blocks i
+  unfolding kindsOf cellsOf
+  kind-get = map-upto-at (kindAt p cells blocks) (size (p .grid)) i vacant
+
+  pub kind-past : size (p .grid) ≤ i → getD (kindsOf p cells blocks) i vacant ≡ vacant
+  unfolding kindsOf cellsOf
+  kind-past = map-upto-past (kindAt p cells blocks) (size (p .grid)) i vacant
+
+-- a cell is in the arrow block f by the numbers of its kind and its group
+pub in-by : (k : Kind) (m f : ℕ) → (eqb (kindCode k) 1 && eqb (ownerBy m k) f) ≡ isIn f k
+unfolding kindCode ownerBy isIn
+in-by vacant m f = refl
+in-by barrier m f = refl
+in-by floating m f = refl
+in-by (inBlock e) m f = refl
+in-by (neighbour e) m f = refl
 
 module _ (v : View) where
-  -- a cell is in the arrow block f by the numbers of its kind and its group
-  in-by : (f m : ℕ) (k : Kind) → (eqb (kindCode k) 1 && eqb (ownerBy m k) f) ≡ isIn f k
-  unfolding kindCode ownerBy isIn
-  in-by f m vacant = refl
-  in-by f m barrier = refl
-  in-by f m floating = refl
-  in-by f m (inBlock e) = refl
-  in-by f m (neighbour e) = refl
-
   -- is cell i in the arrow block f?
   pub block-test : (f i : ℕ) → i < size (v .grid) → (eqb (getD (kindArray v) i 0) 1 && eqb (getD (ownerArray v) i 0) f) ≡ has (isIn f) (v .kinds) i
-  unfolding kindArray ownerArray has
+  unfolding kindArray ownerArray has cellsOf
   block-test f i h =
-      rw (array-at (v .grid) 0 (λ j. kindCode (getD (v .kinds) j vacant)) 0 i h, array-at (v .grid) _ (λ j. ownerBy (getD (v .floats) j 0) (getD (v .kinds) j vacant)) 0 i h)
-      (in-by f (getD (v .floats) i 0) (getD (v .kinds) i vacant))
+      rw (filled-at 0 (λ j. kindCode (getD (v .kinds) j vacant)) (size (v .grid)) i h, filled-at 1024 (λ j. ownerBy (getD (v .floats) j 0) (getD (v .kinds) j vacant)) (size (v .grid)) i h)
+      (in-by (getD (v .kinds) i vacant) (getD (v .floats) i 0) f)
 
   -- the cells of the arrow block f
   pub block-by : (f : ℕ) (kinds owners : List ℕ) (n : ℕ) → Held v kinds owners → n ≡ size (v .grid)

@@ -8,11 +8,11 @@ use mathlib.Core.List.{List, [], _∷_, map, List·Memᴰ, List·Memᴰ·head, L
 use native.Mathlib.Omega.{arith}
 use native.Mathlib.Decide.{decLt}
 use lib.Dec.{eqb}
-use lib.ListN.{getD, List·getD-eq-default}
+use lib.ListN.{getD}
 use borrow.Author.Tests.{eqb-true, eq-eqb}
-use Rattle.grid.proofs.ListLaws.{once-one, once-nil, length-map-range, getD-map-range, filter-mem, mem-filter, mem-upto, dec-so, so-false, and-true, true-and, any-mem, mem-any, once-mem, mem-once}
+use Rattle.grid.proofs.ListLaws.{once-one, once-nil, filter-mem, mem-filter, mem-upto, dec-so, so-false, and-true, true-and, any-mem, mem-any, once-mem, mem-once}
 use Rattle.grid.proofs.GridLaws.{dec-adjacent, adj-sym}
-use Rattle.grid.specs.Lists.{upto, filter}
+use Rattle.grid.specs.Lists.{filter}
 use Rattle.grid.specs.Grid.{Grid, size, cellsOf, neighbours, Adjacent}
 use Rattle.grid.specs.Link.{linked-end, linked-start, linked-trans}
 use Rattle.record.specs.Record.{Puzzle}
@@ -26,6 +26,7 @@ use Rattle.kinds.specs.Kinds.{Kind, vacant, floating, inBlock, isFloatin
 use Rattle.kinds.specs.Meaning.{PartialBoard, Block, InArrow, Touch, Neighbour, Floating, Reach}
 use Rattle.kinds.proofs.Confine.{Decide}
 use Rattle.kinds.proofs.Decide.{all-decided, reach-decided}
+use Rattle.kinds.proofs.BlockArrays.{kind-get, kind-past}
 
 -- ---- kinds by tests
 
@@ -128,11 +129,6 @@ module _ (set : Setting) where
   abbrev pub listed : ℕ → List ℕ
   listed = blocksTouched puzzle cells (labels grid (square cells))
 
-  -- the kind of a cell of the grid
-  pub kind-get : (i : ℕ) → i < size grid → getD kinds i vacant ≡ kind i
-  unfolding kindsOf cellsOf upto
-  kind-get i l = getD-map-range kind 0 (size grid) i vacant l ∙ ap kind (omega arith)
-
   -- what a kind says of the cell
   pub kind-vacant : (i : ℕ) → kind i ≡ vacant → So (empty cells i)
   unfolding kindAt
@@ -143,16 +139,16 @@ module _ (set : Setting) where
   kind-in-block i x e = in-of (empty cells i) (square cells i) (arrowed (blockLabel i)) (blockLabel i) (listed i) x (subst (λ z. So (isIn x z)) (sym e) (eq-eqb x x refl)) .0
 
   has-so : (p : Kind → Bool) → ¬ So (p vacant) → (i : ℕ) → So (has p kinds i) → (i < size grid) × So (p (kind i))
-  unfolding has kindsOf cellsOf upto
+  unfolding has
   has-so p v i h = go (decLt i (size grid))
     where
       go : Dec (i < size grid) → (i < size grid) × So (p (kind i))
-      go (yes l) = (l, subst (λ z. So (p z)) (getD-map-range kind 0 (size grid) i vacant l ∙ ap kind (omega arith)) h)
-      go (no l) = absurd (v (subst (λ z. So (p z)) (List·getD-eq-default kinds vacant {n = i} (omega (arith, length-map-range kind 0 (size grid)))) h))
+      go (yes l) = (l, subst (λ z. So (p z)) (kind-get puzzle cells (labels grid (square cells)) i l) h)
+      go (no l) = absurd (v (subst (λ z. So (p z)) (kind-past puzzle cells (labels grid (square cells)) i (omega arith)) h))
 
   so-has : (p : Kind → Bool) (i : ℕ) → i < size grid → So (p (kind i)) → So (has p kinds i)
-  unfolding has kindsOf cellsOf upto
-  so-has p i l h = subst (λ z. So (p z)) (sym (getD-map-range kind 0 (size grid) i vacant l ∙ ap kind (omega arith))) h
+  unfolding has
+  so-has p i l h = subst (λ z. So (p z)) (sym (kind-get puzzle cells (labels grid (square cells)) i l)) h
 
   -- the law of the blocks' names
   pub block-labels : Labels grid (square cells)

@@ -13,12 +13,14 @@ use Rattle.grid.proofs.GridLaws.{adjacent-touches, adj-sym}
 use Rattle.grid.proofs.ListLaws.{filter-mem, mem-filter, mem-upto, mem-flatMap, so-false, or-so, so-orl, so-orr, and-true, true-and, so-not, any-mem, mem-any}
 use Rattle.grid.specs.Grid.{Grid, size, cellsOf, neighbours, Adjacent}
 use Rattle.grid.specs.Link.{Linked, linked-end, linked-start, linked-map}
-use Rattle.grid.proofs.Count.{count, length-filter}
+use Rattle.grid.specs.Count.{count}
+use Rattle.grid.proofs.Count.{length-filter}
 use Rattle.grid.specs.Cells.{Agrees, empty, square, undecided}
 use Rattle.grid.proofs.CellLaws.{sq-not-em}
 use Rattle.groups.specs.Groups.{labels}
 use Rattle.groups.specs.Arrows.{onArrow}
-use Rattle.kinds.proofs.Bridge.{Setting, block-labels, float-labels, decisions, boardOf, sq<, un<, blockLabel, kinds, kind, kind-get, in-blk, blk-in, beside-nbr, nbr-beside, floating-so, so-floating, in-arrowed}
+use Rattle.kinds.proofs.Bridge.{Setting, block-labels, float-labels, decisions, boardOf, sq<, un<, blockLabel, kinds, kind, in-blk, blk-in, beside-nbr, nbr-beside, floating-so, so-floating, in-arrowed}
+use Rattle.kinds.proofs.BlockArrays.{kind-get}
 use Rattle.kinds.specs.Kinds.{Kind, vacant, inBlock, isFloating, isIn, isNeighbour, kindAt, has, View, view, viewWith, block, floatNear, inReach, reach, disturbing, fenceAt, fence}
 use Rattle.kinds.specs.Meaning.{PartialBoard, Block, InArrow, Touch, Floating, Reach}
 use Rattle.kinds.proofs.Confine.{Fenced}
@@ -134,8 +136,8 @@ module _ (set : Setting) where
   pub fenced : (full : List ℕ) (a : ℕ) → So (onArrow arrows a) → So (square cells a) → Agrees full (fence v (name a)) → Fenced B (λ c. So (square full c)) a
   unfolding fence fenceAt view viewWith cellsOf disturbing square
   fenced full a ar sa ag = record {
-    out = λ r e rr ad z. out r e rr ad z (kind-get set e (adj-sym grid r e ad .0) ∙ kind-empty e z);
-    far = λ r u d x rr ru uu dd nb t dx. far r u d x rr ru uu dd nb t dx (kind-get set x (sq< set x (linked-end dx)) ∙ kind-in x (d, dd, dx));
+    out = λ r e rr ad z. out r e rr ad z (kind-get puzzle cells (labels grid (square cells)) e (adj-sym grid r e ad .0) ∙ kind-empty e z);
+    far = λ r u d x rr ru uu dd nb t dx. far r u d x rr ru uu dd nb t dx (kind-get puzzle cells (labels grid (square cells)) x (sq< set x (linked-end dx)) ∙ kind-in x (d, dd, dx));
   }
     where
       R : List ℕ

@@ -17,10 +17,12 @@ use Rattle.grid.proofs.ListLaws.{and-true, true-and, any-mem, mem-any, member-m
 use Rattle.grid.proofs.GridLaws.{adj-sym, adjacent-touches, in-cells}
 use Rattle.grid.proofs.RisingLaws.{Rising, nil, cons, cells-rising}
 use Rattle.grid.specs.Cells.{Literal, square, undecided}
+use Rattle.groups.specs.Groups.{labels}
 use Rattle.groups.specs.Arrows.{onArrow}
 use Rattle.kinds.specs.Kinds.{Kind, vacant, barrier, floating, inBlock, neighbour, isIn, has, View, view, viewWith, reach, disturbing, fenceAt, fence}
 use Rattle.kinds.specs.Meaning.{PartialBoard, InArrow, Reach, Shut, Disturbing}
-use Rattle.kinds.proofs.Bridge.{Setting, boardOf, blockLabel, kinds, kind, kind-get, kind-vacant, kind-arrow, block-labels, sq<, in-blk, blk-in}
+use Rattle.kinds.proofs.Bridge.{Setting, boardOf, blockLabel, kinds, kind, kind-vacant, kind-arrow, block-labels, sq<, in-blk, blk-in}
+use Rattle.kinds.proofs.BlockArrays.{kind-get}
 use Rattle.kinds.proofs.Fence.{v, in-reach, reach-in, kind-empty, kind-in}
 
 -- a literal's index
@@ -119,7 +121,7 @@ module _ (set : Setting) where
       of-fence i w m =
           let x = flatMap-mem (λ k. says k (getD (kinds set) k vacant)) (cellsOf grid) m in
           let l = upto-mem (size grid) (x .1) in
-          at (x .0) l (kind set (x .0)) refl (subst (λ k. List·Memᴰ (i, w) (says (x .0) k)) (kind-get set (x .0) l) (x .2))
+          at (x .0) l (kind set (x .0)) refl (subst (λ k. List·Memᴰ (i, w) (says (x .0) k)) (kind-get puzzle cells (labels grid (square cells)) (x .0) l) (x .2))
         where
           far : (x e : ℕ) → kind set x ≡ inBlock e → So (not (eqb e (name a))) → So (disturbing (v set) R e) → Disturbing B a x
           far x e k n t = go (kind-arrow set x e k)
@@ -162,7 +164,7 @@ module _ (set : Setting) where
       in-fence : (i w : ℕ) (k : Kind) → i < size grid → kind set i ≡ k → List·Memᴰ (i, w) (says i k) → List·Memᴰ (i, w) fenceOf
       unfolding fence view viewWith
       in-fence i w k l e m = mem-flatMap (λ j. says j (getD (kinds set) j vacant)) (cellsOf grid) (in-cells grid i l)
-          (subst (λ z. List·Memᴰ (i, w) (says i z)) (sym (kind-get set i l ∙ e)) m)
+          (subst (λ z. List·Memᴰ (i, w) (says i z)) (sym (kind-get puzzle cells (labels grid (square cells)) i l ∙ e)) m)
 
       shut-in : (i : ℕ) → Shut B a i → List·Memᴰ (i, 0) fenceOf
       unfolding fenceAt view viewWith

@@ -1,68 +1,23 @@
--- Arrays that are filled cell by cell, and arrays of marks that are set in any order.
+-- Arrays of marks that are set in any order, and arrays of kinds and owners that are filled cell by cell.
 -- Assumes nothing.
 use Prim.Native.Nat.{ℕ, _+_, _-_, _%_, _≤_, _<_}
-use native.Mathlib.Nat.{zero-add}
 use native.Mathlib.Decide.{ℕ-discrete, decLt}
 use native.Mathlib.Omega.{arith}
-use mathlib.Core.Bool.{Bool, true, false, cond, _&&_, _||_, or-true, or-false}
-use mathlib.Core.Path.{_≡_, refl, sym, ap, _∙_, subst}
-use mathlib.Core.List.{List, [], _∷_, _++_, map, map-append}
+use mathlib.Core.Bool.{Bool, true, false, cond, _&&_, _||_, or-true, or-false, and-false}
+use mathlib.Core.Path.{_≡_, refl, sym, ap, _∙_}
+use mathlib.Core.List.{List}
 use lib.Dec.{eqb, ltb}
 use lib.ListN.{length, getD, set, replicate, length-set, length-replicate, getD-replicate}
-use lib.Seq.{ext-getD, getD-set-same, getD-set-other, set-getD}
+use lib.Seq.{getD-set-same, getD-set-other, set-getD}
 use borrow.Author.Tests.{eq-eqb, ne-eqb, lt-ltb, le-ltb}
-use Rattle.grid.specs.Lists.{range, upto, any, arrayOf}
+use Rattle.grid.specs.Lists.{range, upto, any}
 use Rattle.grid.specs.Grid.{Grid, size, cellsOf}
-use Rattle.grid.proofs.ListLaws.{length-map-range, getD-map-range}
-use Rattle.grid.proofs.ArrayLaws.{array-length, array-in, array-out, array-more}
-use Rattle.grid.proofs.AppendLaws.{upto-more, any-more}
+use Rattle.grid.proofs.AppendLaws.{any-more}
+use Rattle.grid.proofs.FilledLaws.{filled-none, filled-more, filled-length, filled-is}
 use Rattle.groups.specs.Groups.{maskOf}
+use Rattle.groups.proofs.MarkLaws.{mask-at}
 use Rattle.kinds.specs.Kinds.{kindCode, ownerBy}
 use Rattle.kinds.specs.Inside.{Marks, nameAt, nameAmong, nameTwice, Met, kindIn, codesIn, unnamed, ownersIn}
-
--- ---- filled cell by cell: the values F of the first k cells, and d behind them
-
-module _ (d : ℕ) (F : ℕ → ℕ) where
-  pub filled-none : replicate 1024 d ≡ arrayOf d (map F (upto 0))
-  unfolding arrayOf upto range
-  filled-none = refl
-
-  upto-length : (k : ℕ) → length (map F (upto k)) ≡ k
-  unfolding upto
-  upto-length k = length-map-range F 0 k
-
-  pub filled-more : (k v : ℕ) → k < 1024 → v ≡ F k → set (arrayOf d (map F (upto k))) k v ≡ arrayOf d (map F (upto (k + 1)))
-  filled-more k v h e =
-      subst (λ (i : ℕ). set (arrayOf d (map F (upto k))) i v ≡ arrayOf d (map F (upto k) ++ (v ∷ []))) (upto-length k)
-      (array-more d (map F (upto k)) v (omega (arith, upto-length k)))
-      ∙ ap (arrayOf d) (ap (λ (x : ℕ). map F (upto k) ++ (x ∷ [])) e ∙ sym (map-append F (upto k) (k ∷ [])) ∙ ap (map F) (sym (upto-more k)))
-
-  pub filled-length : (k : ℕ) → k ≤ 1024 → length (arrayOf d (map F (upto k))) ≡ 1024
-  filled-length k h = array-length d (map F (upto k)) (omega (arith, upto-length k))
-
-  pub filled-at : (k i : ℕ) → i < k → getD (arrayOf d (map F (upto k))) i 0 ≡ F i
-  unfolding upto
-  filled-at k i h = array-in d (map F (upto k)) 0 i (omega (arith, upto-length k)) ∙ getD-map-range F 0 k i 0 h ∙ ap F (zero-add i)
-
-  pub filled-past : (k i : ℕ) → k ≤ i → i < 1024 → getD (arrayOf d (map F (upto k))) i 0 ≡ d
-  filled-past k i h l = array-out d (map F (upto k)) 0 i (omega (arith, upto-length k)) l
-
-  -- a place that holds d already
-  pub filled-skip : (k : ℕ) → k < 1024 → F k ≡ d → arrayOf d (map F (upto (k + 1))) ≡ arrayOf d (map F (upto k))
-  filled-skip k h e = sym (filled-more k d h (sym e)) ∙ ap (set (arrayOf d (map F (upto k))) k) (sym (filled-past k k (omega arith) h)) ∙ set-getD (arrayOf d (map F (upto k))) k 0
-
-  -- an array is known by its places
-  pub filled-is : (k : ℕ) (L : List ℕ) → k ≤ 1024 → length L ≡ 1024 → ((i : ℕ) → i < k → getD L i 0 ≡ F i) → ((i : ℕ) → k ≤ i → i < 1024 → getD L i 0 ≡ d) → L ≡ arrayOf d (map F (upto k))
-  filled-is k L h long front back =
-      ext-getD 0 L (arrayOf d (map F (upto k))) (long ∙ sym (filled-length k h)) (λ i l. by i (omega arith) (decLt i k))
-    where
-      by : (i : ℕ) → i < 1024 → Dec (i < k) → getD L i 0 ≡ getD (arrayOf d (map F (upto k))) i 0
-      by i l (yes m) = front i m ∙ sym (filled-at k i m)
-      by i l (no m) = back i (omega arith) l ∙ sym (filled-past k i (omega arith) l)
-
--- two fillings that agree on the cells
-pub filled-same : (d : ℕ) (F G : ℕ → ℕ) (k : ℕ) → k ≤ 1024 → ((i : ℕ) → i < k → F i ≡ G i) → arrayOf d (map F (upto k)) ≡ arrayOf d (map G (upto k))
-filled-same d F G k h e = filled-is d G k (arrayOf d (map F (upto k))) h (filled-length d F k h) (λ i l. filled-at d F k i l ∙ e i l) (filled-past d F k)
 
 -- ---- marks
 
@@ -76,12 +31,8 @@ marks-same t u e k = record { long = k .long; at = λ m h. k .at m h ∙ ap (λ 
 pub marks-set : {M : List ℕ} (t : ℕ → Bool) (q : ℕ) → q < 1024 → Marks M t → Marks (set M q 1) (λ m. t m || eqb q m)
 marks-set {M} t q h k = record { long = length-set M q 1 ∙ k .long; at = λ m l. by m l (ℕ-discrete m q) }
   where
-    or-true : (b : Bool) → _≡_ {A = ℕ} (cond (b || true) 1 0) 1
-    or-true true = refl
-    or-true false = refl
-
     by : (m : ℕ) → m < 1024 → Dec (m ≡ q) → getD (set M q 1) m 0 ≡ cond (t m || eqb q m) 1 0
-    by m l (yes e) = rw (eq-eqb q m (sym e)) (ap (λ (i : ℕ). getD (set M q 1) i 0) e ∙ getD-set-same M q 1 0 (omega (arith, k .long)) ∙ sym (or-true (t m)))
+    by m l (yes e) = rw (eq-eqb q m (sym e)) (ap (λ (i : ℕ). getD (set M q 1) i 0) e ∙ getD-set-same M q 1 0 (omega (arith, k .long)) ∙ rw (or-true (t m)))
     by m l (no ne) = rw (ne-eqb q m (λ e. ne (sym e)), or-false (t m)) (getD-set-other M q m 1 0 ne ∙ k .at m l)
 
 -- the marks of a grid's cells
@@ -89,15 +40,13 @@ pub marks-mask : (g : Grid) {M : List ℕ} (t : ℕ → Bool) → size g ≤ 102
 unfolding maskOf cellsOf
 marks-mask g {M} t h out k = filled-is 0 (λ i. cond (t i) 1 0) (size g) M h (k .long) (λ i l. k .at i (omega arith)) (λ i l m. k .at i m ∙ rw (out i l))
 
--- the mask at a cell of the grid
-pub mask-at : (g : Grid) (t : ℕ → Bool) (i : ℕ) → i < size g → getD (maskOf g t) i 0 ≡ cond (t i) 1 0
-unfolding maskOf cellsOf
-mask-at g t i h = filled-at 0 (λ i. cond (t i) 1 0) (size g) i h
-
 -- a mark is 1 exactly where the test passes
 pub mark-test : (b : Bool) → eqb (cond b 1 0) 1 ≡ b
 mark-test true = refl
 mark-test false = refl
+
+pub mask-test : (g : Grid) (t : ℕ → Bool) (i : ℕ) → i < size g → eqb (getD (maskOf g t) i 0) 1 ≡ t i
+mask-test g t i h = ap (λ (x : ℕ). eqb x 1) (mask-at g t i h) ∙ mark-test (t i)
 
 -- ---- the name at a place is marked if the place has the tag
 module _ {M : List ℕ} (t : ℕ → Bool) (has tag f : ℕ) (k : Marks M t) where
@@ -109,13 +58,7 @@ module _ {M : List ℕ} (t : ℕ → Bool) (has tag f : ℕ) (k : Marks M t) whe
   name-off h = marks-same t then (λ m l. rw (ne-eqb has tag h) (sym (or-false (t m)))) k
 
   pub name-none : 1024 ≤ f → Marks M then
-  name-none h = marks-same t then (λ m l. rw (ne-eqb f m (λ e. omega (arith, e))) (go (eqb has tag) (t m))) k
-    where
-      go : (b c : Bool) → c ≡ (c || (b && false))
-      go true true = refl
-      go true false = refl
-      go false true = refl
-      go false false = refl
+  name-none h = marks-same t then (λ m l. simp (ne-eqb f m (λ e. omega (arith, e)), and-false, or-false)) k
 
   pub name-set : has ≡ tag → f < 1024 → Marks (set M f 1) then
   name-set e h = marks-same (λ m. t m || eqb f m) then (λ m l. rw (eq-eqb has tag e)) (marks-set t f h k)

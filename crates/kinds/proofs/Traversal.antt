@@ -1,49 +1,30 @@
 -- The walks over floating groups name each by its first cell: no code is named here.
 -- Assumes nothing.
-use Prim.Native.Nat.{ℕ, zero, suc, _+_, _≤_, _<_}
+use Prim.Native.Nat.{ℕ, _+_, _≤_, _<_}
 use native.Mathlib.Decide.{decLt}
 use native.Mathlib.Omega.{arith}
 use mathlib.Core.Bool.{Bool, true, false, So, false≢true}
 use mathlib.Core.Path.{_≡_, refl, sym, _∙_}
 use mathlib.Core.Logic.{_⊎_, inl, inr}
 use mathlib.Core.List.{List, [], _∷_, _++_, List·Memᴰ, List·Memᴰ·not-nil, List·Memᴰ·append-cases, List·Memᴰ·eq-of-singleton}
-use lib.ListN.{length, getD, set, length-set}
+use lib.ListN.{getD, set, length-set}
 use lib.Seq.{getD-set-same, getD-set-other}
-use borrow.Author.Tests.{eq-eqb, ne-eqb}
 use Rattle.grid.specs.Grid.{Grid, size, neighbours, Adjacent}
 use Rattle.grid.specs.Link.{here, step, linked-end, linked-start, linked-trans, linked-sym, linked-map}
 use Rattle.grid.proofs.GridLaws.{adj-sym}
-use Rattle.grid.proofs.ListLaws.{split}
+use Rattle.grid.proofs.ListLaws.{split, place-in}
+use Rattle.grid.proofs.ArrayLaws.{Entry, hit, miss, entry-at}
 use Rattle.grid.proofs.AppendLaws.{by-eq}
 use Rattle.groups.specs.Groups.{Joined, labels}
 use Rattle.groups.proofs.GroupLaws.{label-own, label-least}
-use Rattle.kinds.specs.Inside.{unnamed, OnlyUnnamed, free, Kept, same, named, Grown, Walked, Right, none, some, Sofar}
-
--- the entry at j after a store at q
-data At (L : List ℕ) (q v j : ℕ) : Type 0 where
-  hit : j ≡ q → getD (set L q v) j 0 ≡ v → At L q v j
-  miss : (j ≡ q → ⊥) → getD (set L q v) j 0 ≡ getD L j 0 → At L q v j
-
-at : (L : List ℕ) (q v j : ℕ) → q < length L → At L q v j
-at L q v j h = by-eq j q (λ e. hit e (rw e (getD-set-same L q v 0 h))) (λ ne. miss ne (getD-set-other L q j v 0 ne))
-
--- a name is given: one entry fewer is free
-pub free-set : (L : List ℕ) (q s : ℕ) → getD L q 0 ≡ unnamed → (s ≡ unnamed → ⊥) → free (set L q s) + 1 ≡ free L
-unfolding free
-free-set [] q s e ne = absurd (omega (arith, e))
-free-set (x ∷ xs) zero s e ne = rw (ne-eqb s unnamed ne, eq-eqb x unnamed e) (omega arith)
-free-set (x ∷ xs) (suc q) s e ne = omega (arith, free-set xs q s e ne)
-
-below-long : (L : List ℕ) (q : ℕ) → getD L q 0 ≡ unnamed → q < length L
-below-long [] q e = absurd (omega (arith, e))
-below-long (x ∷ xs) zero e = omega arith
-below-long (x ∷ xs) (suc q) e = omega (arith, below-long xs q e)
+use Rattle.groups.proofs.FloodLaws.{free-set}
+use Rattle.kinds.specs.Inside.{unnamed, OnlyUnnamed, Kept, same, named, Grown, Walked, Right, none, some, Sofar}
 
 -- only cells that pass have no name, also after one has got a name
 pub only-set : {p : ℕ → Bool} (L : List ℕ) (i s : ℕ) → s < 1024 → getD L i 0 ≡ unnamed → OnlyUnnamed p L → OnlyUnnamed p (set L i s)
-only-set {p} L i s small u only j e = go (at L i s j (below-long L i u))
+only-set {p} L i s small u only j e = go (entry-at L i s j (place-in L i (omega arith)))
   where
-    go : At L i s j → So (p j)
+    go : Entry L i s j → So (p j)
     go (hit q v) = absurd (omega (arith, e, v))
     go (miss ne v) = only j (sym v ∙ e)
 
@@ -115,16 +96,16 @@ module _ {g : Grid} {p : ℕ → Bool} {s : ℕ} (small : s < 1024) where
     grown = record {
       long = G .long ∙ length-set L i s;
       fewer = omega (arith, G .fewer, free-set L i s u (λ e. omega (arith, e)));
-      kept = λ j. kept′ j (at L i s j (below-long L i u)) (G .kept j);
+      kept = λ j. kept′ j (entry-at L i s j (place-in L i (omega arith))) (G .kept j);
       done = λ j v x. by-eq j i (λ q. rw q (λ k e. Q .past k (e .1))) (λ ne. G .done j (getD-set-other L i j s 0 ne ∙ v) x);
     };
-    seed = λ _. grown-stays G i (λ e. omega (arith, e, getD-set-same L i s 0 (below-long L i u)));
+    seed = λ _. grown-stays G i (λ e. omega (arith, e, getD-set-same L i s 0 (place-in L i (omega arith))));
   }
     where
       G : Grown g p i s (set L i s) L′
       G = Q .grown
 
-      kept′ : (j : ℕ) → At L i s j → Kept g p i s (set L i s) L′ j → Kept g p i s L L′ j
+      kept′ : (j : ℕ) → Entry L i s j → Kept g p i s (set L i s) L′ j → Kept g p i s L L′ j
       kept′ j (hit e v) (same x) = named (rw e u) (x ∙ v) (rw e (here o))
       kept′ j (hit e v) (named x y q) = named (rw e u) y q
       kept′ j (miss ne v) (same x) = same (x ∙ v)

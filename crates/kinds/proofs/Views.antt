@@ -1,7 +1,6 @@
 -- The arrays that are computed hold the view of the board.
 -- Assumes nothing.
 use Prim.Native.Nat.{ℕ, _*_, _≤_, _<_}
-use native.Mathlib.Nat.{zero-add}
 use native.Mathlib.Decide.{decLt}
 use native.Mathlib.Omega.{arith}
 use mathlib.Core.Logic.{_⊎_, inl, inr}
@@ -12,19 +11,22 @@ use lib.Dec.{eqb, ltb}
 use lib.ListN.{length, getD, take, List·getD-eq-default}
 use lib.Seq.{getD-take}
 use borrow.Author.Tests.{lt-ltb, ltb-true}
-use Rattle.grid.specs.Lists.{upto, filter, once}
+use Rattle.grid.specs.Lists.{filter, once}
 use Rattle.grid.specs.Grid.{Grid, size, cellsOf, neighbours}
 use Rattle.grid.specs.Side.{sized}
 use Rattle.grid.specs.Link.{here}
-use Rattle.grid.proofs.ListLaws.{split, and-true, filter-mem, once-mem, length-map-range, getD-map-range}
+use Rattle.grid.proofs.ListLaws.{split, and-true, filter-mem, once-mem}
 use Rattle.grid.proofs.GridLaws.{beside as side, on-grid}
+use Rattle.grid.proofs.FilledLaws.{filled-at, filled-past, filled-is, filled-length, filled-same}
 use Rattle.record.specs.Record.{Puzzle}
 use Rattle.grid.specs.Cells.{empty, square}
-use Rattle.groups.specs.Groups.{labels, labelAt, labelArray}
+use Rattle.groups.specs.Groups.{labels, labelAt}
 use Rattle.groups.proofs.GroupLaws.{label-least}
+use Rattle.groups.proofs.LabelLaws.{label-at}
 use Rattle.kinds.specs.Kinds.{Kind, vacant, barrier, floating, inBlock, neighbour, isFloating, kindTouching, arrowBlock, blocksTouched, kindAt, kindsOf, has, view, viewWith, kindCode, ownerBy, kindArray, ownerArray}
 use Rattle.kinds.specs.Inside.{puzzleWith, arrowAt, arrowsAt, kindIn, codesIn, ownersIn, floats, Given, Held, unnamed, Unnamed, Sofar}
-use Rattle.kinds.proofs.Filled.{mask-at, mark-test, filled-at, filled-past, filled-is, filled-length, filled-same, owners-length}
+use Rattle.kinds.proofs.Filled.{owners-length, mask-test}
+use Rattle.kinds.proofs.BlockArrays.{kind-get, kind-past}
 use Rattle.kinds.proofs.Traversal.{sofar-labels}
 
 module _ (p : Puzzle) (small : size (p .grid) ≤ 1024) (cells blocks A : List ℕ) (given : Given p cells blocks A) where
@@ -45,13 +47,13 @@ module _ (p : Puzzle) (small : size (p .grid) ≤ 1024) (cells blocks A : List �
 
   -- what the arrays hold at a cell
   block-at : (i : ℕ) → i < size g → getD blocks i 0 ≡ cond (square cells i) (label i) 1024
-  unfolding labelArray labelAt cellsOf
-  block-at i l = ap (λ (b : List ℕ). getD b i 0) (given .named) ∙ filled-at 1024 (labelAt g (square cells)) (size g) i l
+  unfolding labelAt
+  block-at i l = ap (λ (b : List ℕ). getD b i 0) (given .named) ∙ label-at g (square cells) i l
 
   -- ---- kinds, with the marks of arrow blocks in A
 
   mark-at : (f : ℕ) → f < size g → eqb (getD A f 0) 1 ≡ arrowed f
-  mark-at f h = ap (λ (m : List ℕ). eqb (getD m f 0) 1) (given .marked) ∙ ap (λ (x : ℕ). eqb x 1) (mask-at g arrowed f h) ∙ mark-test (arrowed f)
+  mark-at f h = ap (λ (m : List ℕ). eqb (getD m f 0) 1) (given .marked) ∙ mask-test g arrowed f h
 
   -- the cell is a square of an arrow block
   abbrev inArrow : ℕ → Bool
@@ -217,15 +219,6 @@ module _ (p : Puzzle) (small : size (p .grid) ≤ 1024) (values blocks A : List 
       rw (← (getD-take (size grid) values i 0 l)) (kind-pick (empty cells i) (square cells i) _ _ _ _ (kind-square i l)
       (ap (λ (t : List ℕ). kindTouching (once t)) (arrows-at p small cells blocks A given (neighbours grid i) (λ x m. on-grid grid l (side grid i m)))))
 
-  -- the list of kinds
-  kind-get : (i : ℕ) → i < size grid → getD kinds i vacant ≡ kind i
-  unfolding kindsOf cellsOf upto
-  kind-get i l = getD-map-range kind 0 (size grid) i vacant l ∙ ap kind (zero-add i)
-
-  kind-past : (i : ℕ) → size grid ≤ i → getD kinds i vacant ≡ vacant
-  unfolding kindsOf cellsOf upto
-  kind-past i l = List·getD-eq-default kinds vacant {n = i} (omega (arith, length-map-range kind 0 (size grid)))
-
   abbrev K : List ℕ
   K = codesIn blocks A grid values (size grid)
 
@@ -255,8 +248,8 @@ module _ (p : Puzzle) (small : size (p .grid) ≤ 1024) (values blocks A : List 
   float-is i = by (decLt i (size grid))
     where
       by : Dec (i < size grid) → floats K i ≡ isFloating (getD kinds i vacant)
-      by (yes l) = float-in i l ∙ ap isFloating (sym (kind-get i l))
-      by (no l) = float-out i (omega arith) ∙ sym (ap isFloating (kind-past i (omega arith)))
+      by (yes l) = float-in i l ∙ ap isFloating (sym (kind-get p cells (labels grid (square cells)) i l))
+      by (no l) = float-out i (omega arith) ∙ sym (ap isFloating (kind-past p cells (labels grid (square cells)) i (omega arith)))
 
   float-on : (i : ℕ) → So (floats K i) → i < size grid
   float-on i h = by (decLt i (size grid))
@@ -268,7 +261,7 @@ module _ (p : Puzzle) (small : size (p .grid) ≤ 1024) (values blocks A : List 
   -- the array of kinds
   kinds-are : K ≡ kindArray (view p cells)
   unfolding kindArray view viewWith codesIn cellsOf
-  kinds-are = filled-same 0 (λ i. kindCode (kindIn blocks A grid values i)) (λ i. kindCode (getD kinds i vacant)) (size grid) small (λ i l. ap kindCode (kind-is i l ∙ sym (kind-get i l)))
+  kinds-are = filled-same 0 (λ i. kindCode (kindIn blocks A grid values i)) (λ i. kindCode (getD kinds i vacant)) (size grid) small (λ i l. ap kindCode (kind-is i l ∙ sym (kind-get p cells (labels grid (square cells)) i l)))
 
   -- the array of owners, after the walks
   owners-are : (L : List ℕ) → Sofar grid (floats K) (ownersIn blocks A grid values (size grid)) (size grid) L → L ≡ ownerArray (view p cells)
@@ -283,7 +276,7 @@ module _ (p : Puzzle) (small : size (p .grid) ≤ 1024) (values blocks A : List 
       by i l (inr h) = S .others i h ∙ owner-at i l ∙ owner-other (kind i) _ (sym (float-in i l) ∙ h)
 
       front : (i : ℕ) → i < size grid → getD L i 0 ≡ ownerBy (getD (labels grid (has isFloating kinds)) i 0) (getD kinds i vacant)
-      front i l = by i l (split (floats K i)) ∙ ap (ownerBy (getD (labels grid (has isFloating kinds)) i 0)) (sym (kind-get i l))
+      front i l = by i l (split (floats K i)) ∙ ap (ownerBy (getD (labels grid (has isFloating kinds)) i 0)) (sym (kind-get p cells (labels grid (square cells)) i l))
 
       back : (i : ℕ) → size grid ≤ i → i < 1024 → getD L i 0 ≡ 1024
       back i l h = S .others i (float-out i l) ∙ owner-past i l h

@@ -1,9 +1,9 @@
 -- What the inner functions of kinds promise each other, and the grid, marks and views that the crates above speak of.
 -- Assumes nothing.
-use Prim.Native.Nat.{ℕ, _+_, _≤_, _<_}
+use Prim.Native.Nat.{ℕ, _≤_, _<_}
 use mathlib.Core.Path.{_≡_}
 use mathlib.Core.Bool.{Bool, true, false, So, cond, _&&_, _||_}
-use mathlib.Core.List.{List, [], _∷_, map, List·Memᴰ}
+use mathlib.Core.List.{List, [], map, List·Memᴰ}
 use lib.Dec.{eqb, ltb}
 use lib.ListN.{length, getD}
 use Rattle.grid.specs.Lists.{upto, any, filter, once, arrayOf}
@@ -12,6 +12,7 @@ use Rattle.grid.specs.Side.{InGrid}
 use Rattle.record.specs.Record.{Puzzle}
 use Rattle.grid.specs.Cells.{square}
 use Rattle.groups.specs.Groups.{Joined, labels, noGroup, labelArray, maskOf}
+use Rattle.groups.specs.Flood.{unlabelled, free}
 use Rattle.kinds.specs.Kinds.{Kind, vacant, barrier, floating, inBlock, neighbour, kindTouching, arrowBlock, View, kindCode, ownerBy, kindArray, ownerArray}
 use Rattle.kinds.specs.declared.Owner.{Owner}
 use Rattle.kinds.specs.declared.Owner.the-variants.{Nobody, One, Many}
@@ -106,7 +107,7 @@ codesIn blocks arrowed g cells k = arrayOf 0 (map (λ i. kindCode (kindIn blocks
 
 -- stands for the name of a floating group that has none yet
 abbrev pub unnamed : ℕ
-unnamed = 1025
+unnamed = unlabelled
 
 -- their arrow blocks; floating groups have no name yet
 unfoldable pub ownersIn : List ℕ → List ℕ → Grid → List ℕ → ℕ → List ℕ
@@ -117,11 +118,6 @@ ownersIn blocks arrowed g cells k = arrayOf noGroup (map (λ i. ownerBy unnamed 
 -- the number of the kind is that of floating cells
 unfoldable pub floats : List ℕ → ℕ → Bool
 floats kinds j = eqb (getD kinds j 0) 4
-
--- how many cells have no name
-unfoldable pub free : List ℕ → ℕ
-free [] = 0
-free (x ∷ xs) = cond (eqb x unnamed) 1 0 + free xs
 
 module _ (g : Grid) (p : ℕ → Bool) (i name : ℕ) (L L′ : List ℕ) where
   -- the group of j is as it was, or is new, and j is joined to i

@@ -146,13 +146,6 @@ pub fn near_floats(
     total
 }
 
-// A count as a size.
-fn wide(x: u16) -> usize
-    ensures { λ r. ⌜ (r ≡ x) × (r < 65536) ⌝ }
-{
-    x as usize
-}
-
 // The size of the reach of the block f, whose floating groups are listed.
 pub fn reach_size(sizes: &[u16; 1024], groups: &[u16; 1024], count: usize, f: u16) -> usize
     requires { ⌜ (f < 1024) × Names (now groups) count ⌝ }
@@ -161,9 +154,9 @@ pub fn reach_size(sizes: &[u16; 1024], groups: &[u16; 1024], count: usize, f: u1
         → NearFloats (view (puzzleWith (sized h w) arrows) cells) f near (now (groups .entry)) count → getD kinds f 0 ≡ 1
         → r ≡ length (reach (view (puzzleWith (sized h w) arrows) cells) f)) ⌝ }
 {
-    let mut total = wide(sizes[f as usize]);
+    let mut total = grid::wide(sizes[f as usize]);
     for k in 0..count {
-        total += wide(sizes[groups[k] as usize]);
+        total += grid::wide(sizes[groups[k] as usize]);
     }
     total
 }

@@ -4,7 +4,7 @@ use Prim.Native.Nat.{ℕ, _+_, _≤_, _<_}
 use native.Mathlib.Omega.{arith}
 use mathlib.Core.Logic.{_⊎_, inl, inr}
 use mathlib.Core.Path.{_≡_, refl, sym, ap, _∙_}
-use mathlib.Core.Bool.{Bool, true, false, cond, _&&_, not}
+use mathlib.Core.Bool.{Bool, true, false, cond, _&&_, not, and-comm}
 use mathlib.Core.List.{List, [], _∷_, _++_, append-nil, List·Memᴰ, List·Memᴰ·head, List·Memᴰ·tail}
 use lib.Dec.{eqb}
 use lib.ListN.{length, getD, set, length-set, List·getD-eq-default}
@@ -13,12 +13,13 @@ use borrow.Author.Tests.{eqb-true, eqb-false, eq-eqb, ne-eqb}
 use Rattle.grid.specs.Lists.{range, upto, filter}
 use Rattle.grid.specs.Grid.{Grid, size, cellsOf}
 use Rattle.grid.proofs.ListLaws.{split, upto-mem, filter-mem}
-use Rattle.grid.proofs.AppendLaws.{filter-upto, upto-more, filter-more}
+use Rattle.grid.proofs.AppendLaws.{filter-upto, upto-more, filter-more, filter-filter}
 use Rattle.record.specs.Record.{Puzzle}
 use Rattle.grid.specs.Cells.{square}
 use Rattle.groups.specs.Groups.{Joined, labels, labelArray, maskOf, group, names}
 use Rattle.groups.specs.Arrows.{onArrow}
 use Rattle.groups.proofs.GroupLaws.{group-mem, linked-label}
+use Rattle.groups.proofs.LabelLaws.{label-test, label-group}
 use Rattle.literals.specs.Literals.{Found, orElse, firstOf}
 use Rattle.units.specs.Units.{reason2, reason2At}
 use Rattle.units.specs.Arrays.{BlockArrays, firstName}
@@ -27,8 +28,8 @@ use Rattle.units.specs.declared.Name.{Name}
 use Rattle.units.specs.declared.Name.the-variants.{At, Nobody}
 use Rattle.paths.specs.declared.Ends.{Ends}
 use Rattle.paths.specs.declared.Ends.the-variants.{Between, Nowhere}
-use Rattle.units.proofs.Ranks.{label-test, label-group, mask-test, first-upto}
-use Rattle.units.proofs.Boundary.{filter-filter}
+use Rattle.units.proofs.Ranks.{first-upto}
+use Rattle.kinds.proofs.Filled.{mask-test}
 
 -- ---- one cell is kept
 
@@ -225,18 +226,12 @@ crossing-is puzzle cells blocks onarrow n first second s e B F =
     own : (f : ℕ) → f < size g → eqb (getD blocks f 0) f ≡ q f
     own f h = ap (λ (l : List ℕ). eqb (getD l f 0) f) (B .blocks-are) ∙ label-test g p f f h (omega arith)
 
-    swap : (a b : Bool) → (a && b) ≡ (b && a)
-    swap true true = refl
-    swap true false = refl
-    swap false true = refl
-    swap false false = refl
-
     list : (f : ℕ) → f < 1024 → arrowsOf blocks onarrow n f ≡ L f
     list f h =
         ap (λ (m : ℕ). arrowsOf blocks onarrow m f) e
         ∙ filter-upto _ _ (size g) (λ i l. ap (λ (m : List ℕ). eqb (getD m i 0) 1 && eqb (getD blocks i 0) f) (B .arrows-are)
         ∙ ap (λ (m : List ℕ). eqb (getD (maskOf g (onArrow arrows)) i 0) 1 && eqb (getD m i 0) f) (B .blocks-are)
-        ∙ ap (λ (t : Bool). t && eqb (getD (labelArray g p) i 0) f) (mask-test g (onArrow arrows) i l) ∙ swap (onArrow arrows i) (eqb (getD (labelArray g p) i 0) f))
+        ∙ ap (λ (t : Bool). t && eqb (getD (labelArray g p) i 0) f) (mask-test g (onArrow arrows) i l) ∙ and-comm (onArrow arrows i) (eqb (getD (labelArray g p) i 0) f))
         ∙ sym (filter-filter (onArrow arrows) (λ i. eqb (getD (labelArray g p) i 0) f) (upto (size g)))
         ∙ ap (filter (onArrow arrows)) (label-group g p f h)
 

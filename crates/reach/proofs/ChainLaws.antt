@@ -5,7 +5,7 @@ use native.Mathlib.Decide.{ℕ-discrete, decLt}
 use native.Mathlib.Numerals.{add-one}
 use native.Mathlib.Omega.{arith}
 use mathlib.Core.Path.{_≡_, refl, sym, ap, _∙_}
-use mathlib.Core.Bool.{Bool, true, false, cond, _&&_}
+use mathlib.Core.Bool.{Bool, true, false, cond, _&&_, and-comm}
 use mathlib.Core.List.{List, [], _∷_, _++_, append-nil, List·Memᴰ, List·Memᴰ·head}
 use lib.Dec.{eqb, ltb}
 use lib.ListN.{getD, set, replicate, length-set, length-replicate, getD-replicate}
@@ -13,7 +13,7 @@ use lib.Seq.{getD-set-same, getD-set-other, set-getD}
 use borrow.Author.Tests.{eq-eqb, ne-eqb, eqb-true, lt-ltb, le-ltb}
 use Rattle.grid.specs.Lists.{range, upto, filter}
 use Rattle.grid.proofs.ListLaws.{filter-mem, range-mem}
-use Rattle.grid.proofs.AppendLaws.{filter-append, upto-more}
+use Rattle.grid.proofs.AppendLaws.{filter-append, upto-more, filter-filter, filter-agree}
 use Rattle.reach.specs.Chains.{ownedBy, cellsFrom, firstOf, firstFrom, ChainsFrom, Chains}
 
 -- ---- the cells from k on that pass a test
@@ -60,19 +60,6 @@ range-split a (suc k) m =
     let s : suc k + m ≡ suc (k + m) = omega arith in
     let y : a + suc k ≡ suc a + k = omega arith in
     rw (s, y) (ap (λ (l : List ℕ). a ∷ l) (range-split (suc a) k m))
-
--- what passes both tests
-pub filter-twice : (p q : ℕ → Bool) (l : List ℕ) → filter p (filter q l) ≡ filter (λ i. p i && q i) l
-unfolding filter
-filter-twice p q [] = refl
-filter-twice p q (x ∷ xs) = go (p x) (q x) refl (filter-twice p q xs)
-  where
-    go : (a b : Bool) → p x ≡ a → filter p (filter q xs) ≡ filter (λ i. p i && q i) xs
-        → filter p (cond b (x ∷ filter q xs) (filter q xs)) ≡ cond (a && b) (x ∷ filter (λ i. p i && q i) xs) (filter (λ i. p i && q i) xs)
-    go true true e h = rw e (ap (λ (l : List ℕ). x ∷ l) h)
-    go true false e h = h
-    go false true e h = rw e h
-    go false false e h = h
 
 -- ---- a chain is walked: i is the next cell, and k is 0 at the start and then one more than the last cell passed, so that i ≡ firstFrom owners n f k.
 -- Head has the first i (chain-head), and next of i the one that follows it (chain-next), with k at i + 1
@@ -135,7 +122,7 @@ module _ (owners : List ℕ) (n f : ℕ) where
   -- the cells of the owner f that pass a test are those of the grid that pass it and have the owner f
   pub owned-both : (p : ℕ → Bool) → filter p (cellsFrom owners n f 0) ≡ filter (λ i. p i && eqb (getD owners i 0) f) (upto n)
   unfolding cellsFrom ownedBy upto
-  owned-both p = let z : n - 0 ≡ n = omega arith in rw z (filter-twice p (λ i. eqb (getD owners i 0) f) (range 0 n))
+  owned-both p = let z : n - 0 ≡ n = omega arith in rw z (filter-filter p (λ i. eqb (getD owners i 0) f) (range 0 n) ∙ filter-agree _ _ (range 0 n) (λ i _. and-comm (eqb (getD owners i 0) f) (p i)))
 
 -- no cell is passed yet
 pub passed-none : (owners : List ℕ) (f : ℕ) → cellsUpTo owners f 0 ≡ []

@@ -6,7 +6,7 @@ use native.Mathlib.Numerals.{add-one}
 use native.Mathlib.Omega.{arith}
 use mathlib.Core.Logic.{_⊎_, inl, inr, ⊎-elim}
 use mathlib.Core.Path.{_≡_, refl, sym, ap, _∙_, subst}
-use mathlib.Core.Bool.{Bool, true, false, cond, _&&_, _||_, not, false≢true, or-false, or-assoc, or-true}
+use mathlib.Core.Bool.{Bool, true, false, cond, _&&_, _||_, false≢true, or-false, or-assoc, or-true, and-or-distrib-right, and-false}
 use mathlib.Core.List.{List, [], _∷_, _++_, List·Memᴰ, List·Memᴰ·head, List·Memᴰ·tail, List·Memᴰ·append-cases, List·Memᴰ·eq-of-singleton, List·Memᴰ·not-nil}
 use lib.Dec.{eqb, ltb}
 use lib.ListN.{length, getD, set, take, replicate, length-append, length-set, length-replicate, getD-replicate}
@@ -16,15 +16,15 @@ use Rattle.grid.specs.Lists.{range, upto, any, filter, member, Distinct}
 use Rattle.grid.specs.Grid.{Grid, neighbours}
 use Rattle.grid.specs.Side.{towards, besideOf}
 use Rattle.grid.specs.declared.Side.the-variants.{At, Off}
-use Rattle.grid.proofs.ListLaws.{mem-filter, mem-upto, length-range, filter-length, filter-split, distinct-snoc, at-mem, so-false, member-mem}
+use Rattle.grid.proofs.ListLaws.{length-range, filter-length, distinct-snoc, at-mem, so-false, member-mem, distinct-few}
 use Rattle.grid.proofs.SideLaws.{beside-at, beside-off}
 use Rattle.grid.proofs.AroundLaws.{gathered, gathered-all}
 use Rattle.grid.proofs.AppendLaws.{count-hit, count-miss, any-append, any-agree}
 use Rattle.reach.specs.Inside.{nearAt, nearAmong}
-use Rattle.reach.specs.Chains.{ownedBy, cellsFrom, firstFrom}
+use Rattle.reach.specs.Chains.{ownedBy, cellsFrom, Chains}
 use Rattle.reach.specs.Near.{Sizes, Listed, Listing, floatAmong, Names}
 use Rattle.kinds.proofs.Filled.{marks-none, marks-same, marks-set, mark-test}
-use Rattle.reach.proofs.ChainLaws.{cellsUpTo, first-low, first-in, first-owned, passed-none, passed-first, passed-all}
+use Rattle.reach.proofs.ChainWalks.{Walk, walk-start, walk-more, walk-end}
 
 -- ---- the cells of each owner are counted
 
@@ -79,27 +79,6 @@ module _ {owners sizes : List ℕ} {i : ℕ} (S : Sizes owners i sizes) where
 
   pub size-few : (f : ℕ) → f < 1024 → getD sizes f 0 ≤ i
   size-few f h = omega (arith, S .at f h, cells-few owners i f)
-
--- ---- a list without repetition is not longer than one that has its members
-
-distinct-fits : (l m : List ℕ) → Distinct l → ((x : ℕ) → List·Memᴰ x l → List·Memᴰ x m) → length l ≤ length m
-distinct-fits [] m d s = omega arith
-distinct-fits (x ∷ xs) m d s =
-    omega (arith, distinct-fits xs (filter (λ y. not (eqb x y)) m) (d .1) rest, filter-split (eqb x) m, some (filter (eqb x) m) (mem-filter (eqb x) m (s x (List·Memᴰ·head refl)) (eq-eqb x x refl)))
-  where
-    some : (l : List ℕ) → List·Memᴰ x l → 0 < length l
-    some [] q = absurd (List·Memᴰ·not-nil q)
-    some (y ∷ ys) q = omega arith
-
-    other : (y : ℕ) → List·Memᴰ y xs → not (eqb x y) ≡ true
-    other y q = let e : eqb x y ≡ false = ne-eqb x y (λ r. d .0 (rw r q)) in rw e refl
-
-    rest : (y : ℕ) → List·Memᴰ y xs → List·Memᴰ y (filter (λ y. not (eqb x y)) m)
-    rest y q = mem-filter (λ y. not (eqb x y)) m (s y (List·Memᴰ·tail q)) (other y q)
-
-distinct-few : (l : List ℕ) (n : ℕ) → Distinct l → ((x : ℕ) → List·Memᴰ x l → x < n) → length l ≤ n
-unfolding upto
-distinct-few l n d s = omega (arith, distinct-fits l (upto n) d (λ x q. mem-upto n (s x q)), length-range 0 n)
 
 -- ---- names are listed
 
@@ -202,29 +181,17 @@ module _ (kinds owners : List ℕ) {t : ℕ → Bool} {near groups : List ℕ} {
     -- it has no name
     pub float-unnamed : 1024 ≤ getD owners j 0 → Listed then near groups c
     unfolding floatAmong any
-    float-unnamed l = listed-same L then (λ m h. rw (ne-eqb (getD owners j 0) m (λ q. omega (arith, q))) (go (eqb (getD kinds j 0) 4) (t m)))
-      where
-        go : (a b : Bool) → b ≡ (b || ((a && false) || false))
-        go true true = refl
-        go true false = refl
-        go false true = refl
-        go false false = refl
+    float-unnamed l = listed-same L then (λ m h. simp (ne-eqb (getD owners j 0) m (λ q. omega (arith, q)), and-false, or-false))
 
     -- its group is listed already
     pub float-old : getD owners j 0 < 1024 → getD near (getD owners j 0) 0 ≡ 1 → Listed then near groups c
     unfolding floatAmong any
     float-old l e = listed-same L then (λ m h. go m (t m) refl (ℕ-discrete (getD owners j 0) m))
       where
-        no-more : (a b : Bool) → b ≡ (b || ((a && false) || false))
-        no-more true true = refl
-        no-more true false = refl
-        no-more false true = refl
-        no-more false false = refl
-
         go : (m : ℕ) (b : Bool) → t m ≡ b → Dec (getD owners j 0 ≡ m) → b ≡ (b || ((eqb (getD kinds j 0) 4 && eqb (getD owners j 0) m) || false))
         go m true q d = refl
         go m false q (yes s) = absurd (false≢true (sym q ∙ subst (λ x. t x ≡ true) s (mark-on L (getD owners j 0) l e)))
-        go m false q (no ne) = rw (ne-eqb (getD owners j 0) m ne) (no-more (eqb (getD kinds j 0) 4) false)
+        go m false q (no ne) = simp (ne-eqb (getD owners j 0) m ne, and-false)
 
     -- its group is new
     pub float-new : getD kinds j 0 ≡ 4 → getD owners j 0 < 1024 → (getD near (getD owners j 0) 0 ≡ 1 → ⊥) → Listed then (set near (getD owners j 0) 1) (set groups c (getD owners j 0)) (c + 1)
@@ -276,44 +243,34 @@ any-filter p q (x ∷ xs) = go (q x) (any-filter p q xs)
     go true h = ap (λ (d : Bool). p x || d) h
     go false h = h
 
--- the walk is at cell i, or at its end: the floating groups that touch the cells passed are listed
-pub record Walk (kinds owners : List ℕ) (g : Grid) (n f i : ℕ) (near groups : List ℕ) (c : ℕ) : Type 0 where
-  from : ℕ
-  low : from ≤ n
-  next : i ≡ firstFrom owners n f from
-  pub so-far : Listed (nearIn kinds owners g (cellsUpTo owners f from)) near groups c
+-- amid the walk along the chain of f: the floating groups that touch the cells passed are listed, and i is the next cell
+pub record Nearby (kinds owners : List ℕ) (g : Grid) (n f i : ℕ) (near groups : List ℕ) (c : ℕ) : Type 0 where
+  pub passed : List ℕ
+  pub walk : Walk owners n f passed i
+  pub so-far : Listed (nearIn kinds owners g passed) near groups c
 
-module _ (kinds owners : List ℕ) (g : Grid) (n f : ℕ) where
-  pub walk-none : {i : ℕ} {groups : List ℕ} → i ≡ firstFrom owners n f 0 → length groups ≡ 1024 → Walk kinds owners g n f i (replicate 1024 0) groups 0
+module _ (kinds : List ℕ) {owners head next : List ℕ} (g : Grid) {n : ℕ} (C : Chains owners head next n) (f : ℕ) (small : f < 1024) where
+  pub nearby-none : {groups : List ℕ} → length groups ≡ 1024 → Nearby kinds owners g n f (getD head f 0) (replicate 1024 0) groups 0
   unfolding nearIn any
-  walk-none e long = record { from = 0; low = omega arith; next = e; so-far = listed-same (listed-none long) _ (λ m h. sym (ap (λ (l : List ℕ). any (λ i. eqb (getD kinds i 0) 2 && floatAmong kinds owners (neighbours g i) m) l) (passed-none owners f))) }
+  nearby-none long = record { passed = []; walk = walk-start C f small; so-far = listed-none long }
 
-  module _ {i : ℕ} {near groups : List ℕ} {c : ℕ} (W : Walk kinds owners g n f i near groups c) where
-    -- the cell is one of the grid
-    pub walk-in : i < 1024 → i < n
-    walk-in h = first-in owners n f (W .from) i (W .next) h
-
-    pub walk-owned : i < 1024 → getD owners i 0 ≡ f
-    walk-owned h = first-owned owners n f (W .from) i (W .next) h
-
-    -- it is passed
-    pub walk-more : {i′ : ℕ} {near′ groups′ : List ℕ} {c′ : ℕ} → i < 1024 → i′ ≡ firstFrom owners n f (i + 1)
-        → Listed (λ m. nearIn kinds owners g (cellsUpTo owners f (W .from)) m || (eqb (getD kinds i 0) 2 && floatAmong kinds owners (neighbours g i) m)) near′ groups′ c′ → Walk kinds owners g n f i′ near′ groups′ c′
+  module _ {i : ℕ} {near groups : List ℕ} {c : ℕ} (W : Nearby kinds owners g n f i near groups c) where
+    -- the cell is passed
+    pub nearby-more : {near′ groups′ : List ℕ} {c′ : ℕ} → i < 1024
+        → Listed (λ m. nearIn kinds owners g (W .passed) m || (eqb (getD kinds i 0) 2 && floatAmong kinds owners (neighbours g i) m)) near′ groups′ c′ → Nearby kinds owners g n f (getD next i 0) near′ groups′ c′
     unfolding nearIn any
-    walk-more h e L = record {
-      from = i + 1;
-      low = omega (arith, walk-in h);
-      next = e;
-      so-far = listed-same L _ (λ m _. ap (λ (b : Bool). nearIn kinds owners g (cellsUpTo owners f (W .from)) m || b) (sym (or-false (eqb (getD kinds i 0) 2 && floatAmong kinds owners (neighbours g i) m)))
-          ∙ sym (any-append (λ i. eqb (getD kinds i 0) 2 && floatAmong kinds owners (neighbours g i) m) (cellsUpTo owners f (W .from)) (i ∷ []))
-          ∙ ap (λ (l : List ℕ). nearIn kinds owners g l m) (sym (passed-first owners n f (W .from) i (W .next) h)));
+    nearby-more h L = record {
+      passed = W .passed ++ (i ∷ []);
+      walk = walk-more C f small (W .walk) h;
+      so-far = listed-same L _ (λ m _. ap (λ (b : Bool). nearIn kinds owners g (W .passed) m || b) (sym (or-false (eqb (getD kinds i 0) 2 && floatAmong kinds owners (neighbours g i) m)))
+          ∙ sym (any-append (λ i. eqb (getD kinds i 0) 2 && floatAmong kinds owners (neighbours g i) m) (W .passed) (i ∷ [])));
     }
 
     -- all cells are passed
-    pub walk-end : n ≤ 1024 → 1024 ≤ i → Listed (nearAmong kinds owners g f n) near groups c
+    pub nearby-end : 1024 ≤ i → Listed (nearAmong kinds owners g f n) near groups c
     unfolding nearIn nearAmong nearAt floatAmong ownedBy
-    walk-end small h = listed-same (W .so-far) _ (λ m _.
-        ap (λ (l : List ℕ). nearIn kinds owners g l m) (passed-all owners n f (W .from) i small (W .low) (W .next) h ∙ cells-are owners n f)
+    nearby-end h = listed-same (W .so-far) _ (λ m _.
+        ap (λ (l : List ℕ). nearIn kinds owners g l m) (walk-end C f small (W .walk) h ∙ cells-are owners n f)
         ∙ any-filter (λ i. eqb (getD kinds i 0) 2 && floatAmong kinds owners (neighbours g i) m) (ownedBy owners f) (upto n)
         ∙ any-agree _ _ (upto n) (λ i _. swap (eqb (getD owners i 0) f) (eqb (getD kinds i 0) 2) _))
       where
@@ -322,14 +279,6 @@ module _ (kinds owners : List ℕ) (g : Grid) (n f : ℕ) where
         swap true false d = refl
         swap false true d = refl
         swap false false d = refl
-
--- a walk goes on to a cell behind, or ends
-pub walk-on : (owners : List ℕ) (n f i i′ : ℕ) → i < 1024 → i′ ≡ firstFrom owners n f (i + 1) → 1024 - i′ < 1024 - i
-walk-on owners n f i i′ h e = go (decLt i′ 1024)
-  where
-    go : Dec (i′ < 1024) → 1024 - i′ < 1024 - i
-    go (yes l) = omega (arith, first-low owners n f (i + 1) i′ e l)
-    go (no l) = omega arith
 
 -- ---- sums and tests over the cells of several owners
 
@@ -393,14 +342,8 @@ module _ (owners : List ℕ) (n : ℕ) where
   unfolding any member ownedBy
   any-owners p [] l = none-owned p l
   any-owners p (m ∷ ms) l =
-      any-agree _ _ l (λ i _. share (eqb (getD owners i 0) m) (member (getD owners i 0) ms) (p i)) ∙ any-or (λ i. ownedBy owners m i && p i) (λ i. ownedIn owners ms i && p i) l
+      any-agree _ _ l (λ i _. and-or-distrib-right (eqb (getD owners i 0) m) (member (getD owners i 0) ms) (p i)) ∙ any-or (λ i. ownedBy owners m i && p i) (λ i. ownedIn owners ms i && p i) l
       ∙ ap (λ (b : Bool). b || any (λ i. ownedIn owners ms i && p i) l) (sym (any-filter p (ownedBy owners m) l)) ∙ ap (λ (b : Bool). any p (filter (ownedBy owners m) l) || b) (any-owners p ms l)
-    where
-      share : (a b d : Bool) → ((a || b) && d) ≡ ((a && d) || (b && d))
-      share true b true = refl
-      share true true false = refl
-      share true false false = refl
-      share false b d = refl
 
   -- a test on the cells of several owners
   pub any-owned : (p : ℕ → Bool) (ms : List ℕ) → any p (filter (ownedIn owners ms) (upto n)) ≡ any (λ m. any p (cellsFrom owners n m 0)) ms

@@ -1,7 +1,6 @@
 -- The reach of a block is its own cells and those of the floating groups listed for it.
 -- Assumes nothing.
 use Prim.Native.Nat.{ℕ, _+_, _*_, _≤_, _<_}
-use native.Mathlib.Nat.{zero-add}
 use native.Mathlib.Decide.{decLt}
 use native.Mathlib.Omega.{arith}
 use mathlib.Core.Path.{_≡_, refl, sym, ap, _∙_, subst}
@@ -14,21 +13,24 @@ use Rattle.grid.specs.Lists.{upto, any, filter, member}
 use Rattle.grid.specs.Grid.{Grid, size, cellsOf, neighbours}
 use Rattle.grid.specs.Side.{sized}
 use Rattle.grid.specs.Link.{linked-end}
-use Rattle.grid.proofs.ListLaws.{so-false, and-true, any-mem, upto-mem, filter-mem, once-mem, getD-map-range, member-mem, mem-member}
+use Rattle.grid.proofs.ListLaws.{so-false, and-true, any-mem, upto-mem, filter-mem, once-mem, member-mem, mem-member}
 use Rattle.grid.proofs.GridLaws.{beside as side, on-grid}
 use Rattle.grid.proofs.SideLaws.{area}
 use Rattle.grid.proofs.AppendLaws.{same-test, filter-agree}
+use Rattle.grid.proofs.FilledLaws.{filled-past, filled-length}
 use Rattle.record.specs.Record.{Puzzle}
 use Rattle.grid.specs.Cells.{empty, square}
 use Rattle.groups.specs.Groups.{labels, maskOf}
+use Rattle.groups.proofs.MarkLaws.{mask-at}
 use Rattle.groups.proofs.GroupLaws.{label-own, label-linked, linked-size}
-use Rattle.kinds.specs.Kinds.{Kind, vacant, barrier, floating, inBlock, neighbour, isFloating, isIn, isNeighbour, has, arrowBlock, blocksTouched, kindAt, kindsOf, View, view, viewWith, floatNear, inReach, reach, kindCode, ownerBy, kindArray}
+use Rattle.kinds.specs.Kinds.{Kind, vacant, barrier, floating, inBlock, neighbour, isFloating, isIn, isNeighbour, has, arrowBlock, blocksTouched, kindAt, View, view, viewWith, floatNear, inReach, reach, kindCode, ownerBy, kindArray}
 use Rattle.kinds.specs.Inside.{Limits, puzzleWith, Held, Marks}
 use Rattle.reach.specs.Inside.{nearAmong, reachesAt}
 use Rattle.reach.specs.Chains.{cellsFrom}
 use Rattle.reach.specs.Near.{Sizes, Listed, NearFloats}
 use Rattle.kinds.proofs.Bridge.{in-of, beside-of}
-use Rattle.kinds.proofs.Filled.{marks-same, mask-at, filled-past, filled-length}
+use Rattle.kinds.proofs.BlockArrays.{kind-get}
+use Rattle.kinds.proofs.Filled.{marks-same}
 use Rattle.reach.proofs.Reaches.{code-get, owner-get, near-is, near-out, groups-are, reaches-is}
 use Rattle.reach.proofs.NearLaws.{listed-same, total, total-same, ownedIn, any-owned, length-owned}
 
@@ -74,33 +76,29 @@ module _ (p : Puzzle) (small : size (p .grid) ≤ 1024) (cells K O : List ℕ) (
   abbrev listed : ℕ → List ℕ
   listed = blocksTouched p cells (labels g (square cells))
 
-  kind-get : (i : ℕ) → i < size g → kind i ≡ kindAt p cells (labels g (square cells)) i
-  unfolding view viewWith kindsOf cellsOf upto
-  kind-get i l = getD-map-range (kindAt p cells (labels g (square cells))) 0 (size g) i vacant l ∙ ap (kindAt p cells (labels g (square cells))) (zero-add i)
-
   -- the name of an arrow block is no floating cell
   arrow-name : (j : ℕ) → j < size g → So (square cells j) → So (arrowed (label j)) → isFloating (kind (label j)) ≡ false
-  unfolding kindAt isFloating
+  unfolding kindAt isFloating view viewWith
   arrow-name j l s a =
       let r = label-own g (square cells) j l s in
       let own : label (label j) ≡ label j = sym (label-linked g (square cells) j (label j) l r) in
       let end : square cells (label j) ≡ true = linked-end r in
-      ap isFloating (kind-get (label j) (linked-size g (square cells) l r)) ∙ rw (end, own, a) (go (empty cells (label j)))
+      ap isFloating (kind-get p cells (labels g (square cells)) (label j) (linked-size g (square cells) l r)) ∙ rw (end, own, a) (go (empty cells (label j)))
     where
       go : (e : Bool) → isFloating (cond e vacant (inBlock (label j))) ≡ false
       go true = refl
       go false = refl
 
   in-name : (i e : ℕ) → i < size g → So (isIn e (kind i)) → isFloating (kind e) ≡ false
-  unfolding kindAt
+  unfolding kindAt view viewWith
   in-name i e l h =
-      let q = in-of (empty cells i) (square cells i) (arrowed (label i)) (label i) (listed i) e (subst (λ k. So (isIn e k)) (kind-get i l) h) in
+      let q = in-of (empty cells i) (square cells i) (arrowed (label i)) (label i) (listed i) e (subst (λ k. So (isIn e k)) (kind-get p cells (labels g (square cells)) i l) h) in
       subst (λ x. isFloating (kind x) ≡ false) (q .2) (arrow-name i l (q .0) (q .1))
 
   beside-name : (i e : ℕ) → i < size g → So (isNeighbour e (kind i)) → isFloating (kind e) ≡ false
-  unfolding kindAt blocksTouched
+  unfolding kindAt blocksTouched view viewWith
   beside-name i e l h =
-      let q = beside-of (empty cells i) (square cells i) (arrowed (label i)) (label i) (listed i) e (subst (λ k. So (isNeighbour e k)) (kind-get i l) h) in
+      let q = beside-of (empty cells i) (square cells i) (arrowed (label i)) (label i) (listed i) e (subst (λ k. So (isNeighbour e k)) (kind-get p cells (labels g (square cells)) i l) h) in
       let m : List·Memᴰ e (listed i) = subst (List·Memᴰ e) (sym (q .2)) (List·Memᴰ·head refl) in
       let r = Memᴰ·of-map label _ (once-mem _ m) in
       let t = filter-mem (λ j. square cells j && arrowed (label j)) (neighbours g i) (r .1) in
@@ -126,10 +124,6 @@ module _ (p : Puzzle) (small : size (p .grid) ≤ 1024) (cells K O : List ℕ) (
     near-marks : Marks near (nearAmong K O g f (size g))
     unfolding view viewWith
     near-marks = marks-same (floatNear v f) _ (λ m _. sym (near-is p small cells K O H f m)) (subst (λ (l : List ℕ). Marks l (floatNear v f)) (sym (N .marked)) (mask-marks g (floatNear v f) small (near-out p small cells K O H f)))
-
-    -- the test of the reach, by the marks of the floating groups
-    reached-by : (i : ℕ) → i < size g → reachesAt K O near f i ≡ inReach v f i
-    reached-by i l = reaches-is p small cells K O H f near near-marks i l
 
     abbrev gs : List ℕ
     gs = take c groups
@@ -219,7 +213,7 @@ module _ (h w : ℕ) (limits : Limits h w) (arrows : List (List ℕ)) (cells K O
   -- the test of the reach, by the marks of the floating groups
   pub reached-is : (i : ℕ) → i < h * w → reachesAt K O near f i ≡ inReach (view (puzzleWith (sized h w) arrows) cells) f i
   unfolding size
-  reached-is i l = reached-by (puzzleWith (sized h w) arrows) small cells K O H f near groups c N i l
+  reached-is i l = let p = puzzleWith (sized h w) arrows in reaches-is p small cells K O H f near (near-marks p small cells K O H f near groups c N) i l
 
   -- f is the name of an arrow block: its reach is its own cells and those of the listed groups
   pub reach-any : getD K f 0 ≡ 1 → (q : ℕ → Bool)

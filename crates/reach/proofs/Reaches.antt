@@ -15,23 +15,16 @@ use Rattle.grid.specs.Link.{here}
 use Rattle.grid.proofs.ListLaws.{so-false, and-true, any-mem, upto-mem}
 use Rattle.grid.proofs.GridLaws.{beside as side, on-grid}
 use Rattle.grid.proofs.AppendLaws.{filter-agree, any-agree}
+use Rattle.grid.proofs.FilledLaws.{filled-at, filled-same}
 use Rattle.record.specs.Record.{Puzzle}
 use Rattle.groups.specs.Groups.{maskOf}
 use Rattle.groups.proofs.GroupLaws.{label-least}
 use Rattle.kinds.specs.Kinds.{Kind, vacant, barrier, floating, inBlock, neighbour, isFloating, isIn, isNeighbour, has, View, view, viewWith, floatNear, inReach, reach, kindCode, ownerBy, kindArray, ownerArray, reachMask}
 use Rattle.kinds.specs.Inside.{puzzleWith, Held, Marks}
 use Rattle.reach.specs.Inside.{nearAt, nearAmong, reaches, reachesAt, Reached, Reach}
-use Rattle.kinds.proofs.Filled.{marks-same, marks-mask, mark-test, filled-at, filled-same}
+use Rattle.kinds.proofs.Filled.{marks-same, marks-mask, mark-test}
 
 -- ---- a kind by its number and owner
-
-pub in-by : (k : Kind) (m f : ℕ) → (eqb (kindCode k) 1 && eqb (ownerBy m k) f) ≡ isIn f k
-unfolding kindCode ownerBy isIn
-in-by vacant m f = refl
-in-by barrier m f = refl
-in-by floating m f = refl
-in-by (inBlock e) m f = refl
-in-by (neighbour e) m f = refl
 
 beside-by : (k : Kind) (m f : ℕ) → (eqb (kindCode k) 2 && eqb (ownerBy m k) f) ≡ isNeighbour f k
 unfolding kindCode ownerBy isNeighbour

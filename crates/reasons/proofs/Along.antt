@@ -5,7 +5,8 @@ use mathlib.Core.Path.{_≡_, sym, ap, _∙_, subst}
 use native.Mathlib.Decide.{ℕ-discrete}
 use native.Mathlib.Omega.{arith}
 use Rattle.grid.specs.Grid.{Grid, size}
-use Rattle.grid.proofs.Count.{count, bump-yes, bump-no}
+use Rattle.grid.specs.Count.{count}
+use Rattle.grid.proofs.Count.{bump-yes, bump-no}
 use Rattle.groups.proofs.ArrowLaws.{NextAt}
 use Rattle.groups.specs.Rules.{Shift, Grown}
 use Rattle.groups.proofs.Shift.{Contains, Below, contains-id, then, contains-trans, grown-size}

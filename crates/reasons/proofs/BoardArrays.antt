@@ -15,6 +15,7 @@ use Rattle.grid.specs.Grid.{size}
 use Rattle.grid.specs.Side.{sized}
 use Rattle.grid.proofs.ListLaws.{and-true, at-mem}
 use Rattle.grid.proofs.ArrayLaws.{array-length, array-take, array-in, array-out}
+use Rattle.grid.proofs.GridLaws.{size-most}
 use Rattle.record.specs.Record.{Puzzle}
 use Rattle.record.specs.Valid.{Valid}
 use Rattle.record.specs.Problem.{arrowCells, endsFrom, problemOf, puzzleOf, gridOf}
@@ -25,7 +26,7 @@ use Rattle.form.specs.Form.{rises, ended, behind}
 use Rattle.board.specs.Form.{wellFormed}
 use Rattle.board.specs.declared.Board.{Board}
 use Rattle.board.proofs.BoardForm.{whole-is}
-use Rattle.form.proofs.ProblemForm.{valid-formed, formed-valid, formed-again, size-most, rises-last, ends-taken, last-end, line-below}
+use Rattle.form.proofs.ProblemForm.{valid-formed, formed-valid, formed-again, rises-last, ends-taken, last-end, line-below}
 use Rattle.kinds.specs.Kinds.{arrowBlock, blocksTouched, kindAt, kindsOf, view, viewWith}
 use Rattle.kinds.specs.Inside.{puzzleWith}
 use Rattle.literals.specs.declared.Finding.{Finding}

@@ -12,6 +12,7 @@ use lib.ListN.{length, drop, length-map}
 use lib.Seq.{take-at}
 use borrow.Author.Tests.{le-ltb, lt-ltb}
 use Rattle.grid.proofs.ArrayLaws.{array-take}
+use Rattle.grid.proofs.GridLaws.{size-most}
 use Rattle.record.specs.Record.{Puzzle, ok, refused, readRecord}
 use Rattle.record.specs.Problem.{gridOf, problemOf}
 use Rattle.record.specs.Valid.{Valid}
@@ -24,7 +25,6 @@ use Rattle.board.specs.Kept.{boardOf}
 use Rattle.board.specs.Calls.{standing}
 use Rattle.board.specs.Form.{wellFormed}
 use Rattle.board.proofs.Standing.{Standing, calls-standing, cells-valid, standing-low}
-use Rattle.form.proofs.ProblemForm.{size-most}
 use Rattle.board.proofs.BoardForm.{is-whole, standing-whole}
 use Rattle.board.proofs.CallLaws.{opened-left, after-calls}
 use Rattle.kinds.specs.Kinds.{word}

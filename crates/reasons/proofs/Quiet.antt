@@ -7,7 +7,8 @@ use native.Mathlib.Decide.{ℕ-discrete}
 use native.Mathlib.Omega.{arith}
 use Rattle.grid.specs.Grid.{Grid, size}
 use Rattle.grid.specs.Link.{Linked, linked-end, linked-map}
-use Rattle.grid.proofs.Count.{dec-and, dec-some, count, count-mono}
+use Rattle.grid.specs.Count.{count}
+use Rattle.grid.proofs.Count.{dec-and, dec-some, count-mono}
 use Rattle.groups.proofs.ArrowLaws.{NextAt}
 use Rattle.groups.specs.Rules.{Shift, Grown}
 use Rattle.groups.proofs.Shift.{Contains, Below, size-grown}

@@ -8,14 +8,15 @@ use native.Mathlib.Nat.{le-trans}
 use native.Mathlib.Omega.{arith}
 use Rattle.grid.specs.Grid.{Grid, size}
 use Rattle.grid.specs.Link.{Linked, here, step, linked-end, linked-map}
-use Rattle.grid.proofs.Count.{dec-and, count, count-inj, count-mono}
+use Rattle.grid.specs.Count.{count}
+use Rattle.grid.proofs.Count.{dec-and, count-inj, count-mono}
 use Rattle.groups.proofs.ArrowLaws.{NextAt}
 use Rattle.groups.specs.Rules.{Shift, Grown}
 use Rattle.groups.proofs.Shift.{Contains, Below}
 use Rattle.kinds.specs.Meaning.{PartialBoard, Block, Reach}
 use Rattle.kinds.proofs.Confine.{Decide, Fenced, confined}
 use Rattle.reasons.proofs.Along.{along, Follows, passed}
-use Rattle.growth.proofs.Gap.{Choice}
+use Rattle.growth.specs.Gap.{Choice}
 
 -- the arrows: arrow t has the cells at t 0 .. at t (len t - 1), neighbours share a side, no cell twice
 pub record Arrows (B : PartialBoard) : Type 1 where

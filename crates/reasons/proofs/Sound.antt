@@ -13,7 +13,7 @@ use Rattle.grid.specs.Lists.{filter, any, flatMap, last, init, tail}
 use Rattle.grid.proofs.ListLaws.{mem-filter, dec-so, true-and, so-not, any-mem, mem-any, mem-flatMap}
 use Rattle.grid.specs.Grid.{Grid, size, Adjacent}
 use Rattle.grid.specs.Link.{Linked, linked-end, linked-map, here, linked-start}
-use Rattle.grid.proofs.Count.{count}
+use Rattle.grid.specs.Count.{count}
 use Rattle.grid.specs.Cells.{Literal, empty, square, undecided, potential, Agrees}
 use Rattle.grid.proofs.CellLaws.{sq-not-em}
 use Rattle.groups.proofs.GroupLaws.{mem-group, own-names, group-linked, linked-group}

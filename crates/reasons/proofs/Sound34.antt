@@ -13,7 +13,7 @@ use borrow.Author.Tests.{eqb-true, eq-eqb, ltb-true}
 use Rattle.grid.specs.Lists.{filter, any, flatMap, last, init, tail}
 use Rattle.grid.proofs.ListLaws.{mem-filter, flatMap-mem, dec-so, not-so, so-not, any-mem, at-mem}
 use Rattle.grid.specs.Grid.{Grid, size}
-use Rattle.grid.proofs.Count.{count}
+use Rattle.grid.specs.Count.{count}
 use Rattle.grid.specs.Cells.{Literal, empty, square, undecided, Agrees}
 use Rattle.grid.proofs.CellLaws.{sq-below}
 use Rattle.groups.proofs.GroupLaws.{label-own}
@@ -31,7 +31,8 @@ use Rattle.reasons.proofs.First.{first-some, agrees-left, agrees-right,
 use Rattle.reasons.proofs.Plain.{lineLen, RulesAt, on-line, Which, lineAt}
 use Rattle.literals.specs.Literals.{reasonIf, firstOf, each}
 use Rattle.growth.specs.Growth.{reasonShrink, mostApart, blockName, reasonGrow, reason3At, gap, reason4At, reason4aAt, reason4bAt, reason34}
-use Rattle.growth.proofs.Gap.{Choice, most-bound}
+use Rattle.growth.specs.Gap.{Choice}
+use Rattle.growth.proofs.Gap.{most-bound}
 use Rattle.reasons.proofs.Refute.{Arrows, Filling, reason-3, reason-4a, reason-4b}
 
 module _ (set : Setting) where
@@ -277,28 +278,39 @@ module _ (set : Setting) where
         gat = at-gap cells (w .0) p q;
       }
 
+  -- a reason 3 or 4 is one of three
+  pub data Told34 (r : List Literal) : Type 0 where
+    no-shift : (spot : Spot) → ((s : Shift) → ¬ Contains grid s (Block B (lastCell spot)) (Reach B (curCell spot))) → reasonGrow v (pair spot) ≡ r → Told34 r
+    too-few : (spot : Spot) → So (tooFew spot) → reasonGrow v (pair spot) ≡ r → Told34 r
+    too-many : {p : Pair} (q : Placed p) → So (tooMany (q .spot)) → shrinkLiterals (q .spot) ≡ r → Told34 r
+
+  pub told-34 : (r : List Literal) → reason34 v ≡ some r → Told34 r
+  unfolding reason34 view viewWith
+  told-34 r e = go (or-else-some (firstOf (reason3At v) ps) (firstOf (reason4At v) ps) r e)
+    where
+      ps : List Pair
+      ps = flatMap (pairs cells) arrows
+
+      three : (p : Pair) (q : Placed p) → reason3At v p ≡ some r → Told34 r
+      three p q k = let w = three-some (q .spot) r (subst (λ z. reason3At v z ≡ some r) (q .is) k) in no-shift (q .spot) (w .1) (w .0)
+
+      four : (p : Pair) (q : Placed p) → reason4At v p ≡ some r → Told34 r
+      four p q k = two (four-some (q .spot) r (subst (λ z. reason4At v z ≡ some r) (q .is) k))
+        where
+          two : (So (tooFew (q .spot)) × (reasonGrow v (pair (q .spot)) ≡ r)) ⊎ (So (tooMany (q .spot)) × (shrinkLiterals (q .spot) ≡ r)) → Told34 r
+          two (inl (h, z)) = too-few (q .spot) h z
+          two (inr (h, z)) = too-many q h z
+
+      go : (firstOf (reason3At v) ps ≡ some r) ⊎ ((firstOf (reason3At v) ps ≡ none) × (firstOf (reason4At v) ps ≡ some r)) → Told34 r
+      go (inl k) = let w = first-some (reason3At v) ps r k in three (w .0) (placed (w .0) (w .1)) (w .2)
+      go (inr k) = let w = first-some (reason4At v) ps r (k .1) in four (w .0) (placed (w .0) (w .1)) (w .2)
+
   module _ (full : List ℕ) (long : length full ≡ size grid) (rules : RulesAt puzzle full) where
     -- reasons 3 and 4 are sound
     pub reason34-sound : (r : List Literal) → reason34 v ≡ some r → Agrees full r → ⊥
-    unfolding reason34 view viewWith
-    reason34-sound r e ag = go (or-else-some (firstOf (reason3At v) ps) (firstOf (reason4At v) ps) r e)
+    reason34-sound r e ag = go (told-34 r e)
       where
-        ps : List Pair
-        ps = flatMap (pairs cells) arrows
-
-        three : (p : Pair) (q : Placed p) → reason3At v p ≡ some r → ⊥
-        three p q k =
-            let w = three-some (q .spot) r (subst (λ z. reason3At v z ≡ some r) (q .is) k) in
-            three-sound (q .spot) full long rules (subst (Agrees full) (sym (w .0)) ag) (w .1)
-
-        four : (p : Pair) (q : Placed p) → reason4At v p ≡ some r → ⊥
-        four p q k = two (four-some (q .spot) r (subst (λ z. reason4At v z ≡ some r) (q .is) k))
-          where
-            two : (So (tooFew (q .spot)) × (reasonGrow v (pair (q .spot)) ≡ r))
-                ⊎ (So (tooMany (q .spot)) × (shrinkLiterals (q .spot) ≡ r)) → ⊥
-            two (inl (h, z)) = four-a-sound (q .spot) full long rules (subst (Agrees full) (sym z) ag) h
-            two (inr (h, z)) = four-b-sound (q .spot) full long rules (q .glen) (q .gat) (subst (Agrees full) (sym z) ag) h
-
-        go : (firstOf (reason3At v) ps ≡ some r) ⊎ ((firstOf (reason3At v) ps ≡ none) × (firstOf (reason4At v) ps ≡ some r)) → ⊥
-        go (inl k) = let w = first-some (reason3At v) ps r k in three (w .0) (placed (w .0) (w .1)) (w .2)
-        go (inr k) = let w = first-some (reason4At v) ps r (k .1) in four (w .0) (placed (w .0) (w .1)) (w .2)
+        go : Told34 r → ⊥
+        go (no-shift spot n z) = three-sound spot full long rules (subst (Agrees full) (sym z) ag) n
+        go (too-few spot h z) = four-a-sound spot full long rules (subst (Agrees full) (sym z) ag) h
+        go (too-many q h z) = four-b-sound (q .spot) full long rules (q .glen) (q .gat) (subst (Agrees full) (sym z) ag) h

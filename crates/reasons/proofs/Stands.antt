@@ -10,22 +10,23 @@ use native.Mathlib.Omega.{arith}
 use lib.ListN.{length, getD}
 use borrow.Author.Tests.{eqb-true}
 use lib.Dec.{eqb}
-use Rattle.grid.specs.Lists.{filter, any, flatMap, last, init, tail}
+use Rattle.grid.specs.Lists.{filter, any, last, init, tail}
 use Rattle.grid.proofs.ListLaws.{filter-mem, mem-filter, flatMap-mem, and-true, any-mem, last-mem, at-mem, mem-at, upto-mem}
 use Rattle.grid.specs.Grid.{Grid, size, cellsOf, touches}
 use Rattle.grid.specs.Link.{linked-end, linked-start}
 use Rattle.grid.specs.Cells.{Literal, empty, square, potential}
 use Rattle.groups.specs.Groups.{labels, group, names}
-use Rattle.groups.specs.Arrows.{onArrow, pairs, Pair}
-use Rattle.kinds.proofs.Bridge.{Setting, sq<, blockLabel, kinds, kind, kind-get, kind-vacant, kind-in-block}
+use Rattle.groups.specs.Arrows.{onArrow, Pair}
+use Rattle.kinds.proofs.Bridge.{Setting, sq<, blockLabel, kinds, kind, kind-vacant, kind-in-block}
+use Rattle.kinds.proofs.BlockArrays.{kind-get}
 use Rattle.kinds.specs.Kinds.{View, view, viewWith, block, reach, fence, fenceAt, disturbing, Kind, vacant, barrier, floating, inBlock, neighbour}
 use Rattle.kinds.proofs.Fence.{block-in}
-use Rattle.reasons.proofs.Sound34.{curCell, lastCell, placed, four-some, tooMany, tooFew, three-some, shrinkLiterals, pair, Placed, Spot}
+use Rattle.reasons.proofs.Sound34.{curCell, lastCell, shrinkLiterals, Placed, Spot, Told34, no-shift, too-few, too-many, told-34, pair}
 use Rattle.reasons.proofs.First.{reason-if-some, or-else-some, first-some}
 use Rattle.reasons.proofs.Sound2.{way, two-of}
-use Rattle.literals.specs.Literals.{orElse, firstOf, each}
+use Rattle.literals.specs.Literals.{orElse, each}
 use Rattle.units.specs.Units.{reason1At, reason1, reason2}
-use Rattle.growth.specs.Growth.{blockName, reasonGrow, reason3At, reason4At, reason34}
+use Rattle.growth.specs.Growth.{blockName, reasonGrow, reason34}
 use Rattle.reasons.specs.Reasons.{findReason}
 use Rattle.units.proofs.Walk.{path-square}
 
@@ -88,7 +89,7 @@ module _ (set : Setting) where
   stand-fence f i u m =
       let w = flatMap-mem (λ k. fenceAt v f (reach v f) k (getD (kinds set) k vacant)) (cellsOf grid) m in
       let l : w .0 < size grid = upto-mem (size grid) (w .1) in
-      at (w .0) l (getD (kinds set) (w .0) vacant) (sym (kind-get set (w .0) l)) (w .2)
+      at (w .0) l (getD (kinds set) (w .0) vacant) (sym (kind-get puzzle cells (labels grid (square cells)) (w .0) l)) (w .2)
     where
       at : (k : ℕ) → k < size grid → (q : Kind) → kind set k ≡ q → List·Memᴰ (i, u) (fenceAt v f (reach v f) k q) → Shown u i
       at k l vacant e n = shown-as (k, 0) i u (cond-mem (touches grid (reach v f) k) (k, 0) n) (em-zero k l (kind-vacant set k e))
@@ -122,37 +123,21 @@ module _ (set : Setting) where
         (stand-join (each 1 (block v (nameOf c₀)) ++ each 1 (a₀ ∷ [])) (fence v (nameOf a₀)) (stand-join (each 1 (block v (nameOf c₀))) (each 1 (a₀ ∷ [])) (stand-block c₀ (spot .pr .2)) (stand-one a₀ (spot .pr .1))) (stand-fence (nameOf a₀)))
         (stand-each 0 (filter (empty cells) (tail (init (spot .between)))) (λ x m. let k = filter-mem (empty cells) (tail (init (spot .between))) m in em-zero x (low x (k .0)) (k .1)))
 
+  -- the gap lies on the arrow
+  gap-low : {p : Pair} (q : Placed set p) (x : ℕ) → List·Memᴰ x (tail (init (q .spot .between))) → x < size grid
+  gap-low q x m =
+      let u = q .spot in
+      let k = mem-at (tail (init (u .between))) m in
+      let l : u .i + 2 + k .0 < length (u .t .0) = omega (arith, k .1, q .glen, u .jl) in
+      subst (λ z. z < size grid) (q .gat (k .0) (k .1) ∙ k .2) (lines .on (u .t .0) (u .t .1) _ (at-mem (u .t .0) (u .i + 2 + k .0) l))
+
   stand-34 : (r : List Literal) → reason34 v ≡ some r → Stands r
-  unfolding reason34 view viewWith
-  stand-34 r e = go (or-else-some (firstOf (reason3At v) ps) (firstOf (reason4At v) ps) r e)
+  stand-34 r e = go (told-34 set r e)
     where
-      ps : List Pair
-      ps = flatMap (pairs cells) arrows
-
-      three : (p : Pair) → Placed set p → reason3At v p ≡ some r → Stands r
-      three p q k =
-          let w = three-some set (q .spot) r (subst (λ z. reason3At v z ≡ some r) (q .is) k) in
-          subst Stands (w .0) (stand-grow (q .spot))
-
-      four : (p : Pair) → Placed set p → reason4At v p ≡ some r → Stands r
-      four p q k = two (four-some set (q .spot) r (subst (λ z. reason4At v z ≡ some r) (q .is) k))
-        where
-          -- the gap lies on the arrow
-          low : (x : ℕ) → List·Memᴰ x (tail (init (q .spot .between))) → x < size grid
-          low x m =
-              let u = q .spot in
-              let k = mem-at (tail (init (u .between))) m in
-              let l : u .i + 2 + k .0 < length (u .t .0) = omega (arith, k .1, q .glen, u .jl) in
-              subst (λ z. z < size grid) (q .gat (k .0) (k .1) ∙ k .2) (lines .on (u .t .0) (u .t .1) _ (at-mem (u .t .0) (u .i + 2 + k .0) l))
-
-          two : (So (tooFew set (q .spot)) × (reasonGrow v (pair set (q .spot)) ≡ r))
-              ⊎ (So (tooMany set (q .spot)) × (shrinkLiterals set (q .spot) ≡ r)) → Stands r
-          two (inl (h, z)) = subst Stands z (stand-grow (q .spot))
-          two (inr (h, z)) = subst Stands z (stand-shrink (q .spot) low)
-
-      go : (firstOf (reason3At v) ps ≡ some r) ⊎ ((firstOf (reason3At v) ps ≡ none) × (firstOf (reason4At v) ps ≡ some r)) → Stands r
-      go (inl k) = let w = first-some (reason3At v) ps r k in three (w .0) (placed set (w .0) (w .1)) (w .2)
-      go (inr k) = let w = first-some (reason4At v) ps r (k .1) in four (w .0) (placed set (w .0) (w .1)) (w .2)
+      go : Told34 set r → Stands r
+      go (no-shift spot n z) = subst Stands z (stand-grow spot)
+      go (too-few spot h z) = subst Stands z (stand-grow spot)
+      go (too-many q h z) = subst Stands z (stand-shrink (q .spot) (gap-low q))
 
   stand-2 : (r : List Literal) → reason2 puzzle cells ≡ some r → Stands r
   stand-2 r e =

@@ -6,34 +6,26 @@ use native.Mathlib.Omega.{arith}
 use mathlib.Core.Logic.{_⊎_, inl, inr, _↔_}
 use mathlib.Core.Path.{_≡_, refl, sym, ap, _∙_}
 use mathlib.Core.Bool.{true, false}
-use mathlib.Core.List.{List, [], _∷_, _++_, List·Memᴰ, List·Memᴰ·head, List·Memᴰ·tail}
+use mathlib.Core.List.{List, [], _∷_, _++_, List·Memᴰ}
 use lib.Dec.{eqb, ltb}
 use lib.ListN.{length, getD, drop, List·getD-append, List·getD-eq-default}
 use lib.Seq.{ext-getD, getD-drop, getD-at}
 use borrow.Author.Tests.{ltb-true, ltb-false, eqb-true}
 use Rattle.grid.specs.Lists.{Distinct}
 use Rattle.grid.proofs.ListLaws.{split, and-true, at-mem}
+use Rattle.grid.proofs.GridLaws.{size-most}
 use Rattle.grid.specs.Grid.{size}
 use Rattle.fields.specs.Fields.{ok, bit, number, filler}
 use Rattle.record.specs.Record.{Puzzle, readRecord}
 use Rattle.record.specs.Write.{valueOf, pack, recordBits, writeRecord}
-use Rattle.record.specs.Valid.{Fresh, Valid}
+use Rattle.record.specs.Valid.{Valid}
 use Rattle.record.specs.Problem.{arrowCells}
 use Rattle.record.proofs.RecordLaws.{record-valid}
-use Rattle.record.proofs.FreshLaws.{arrows-fresh, arrows-length}
+use Rattle.record.proofs.FreshLaws.{arrows-fresh, arrows-length, fresh-distinct}
 use Rattle.record.proofs.LineLaws.{ValidArrows, valid-arrows}
-use Rattle.record.proofs.WriteLaws.{pack-byte, length-pack, size-le, few-arrows, round-trip, written-bytes}
+use Rattle.record.proofs.WriteLaws.{pack-byte, length-pack, few-arrows, round-trip, written-bytes}
 use Rattle.fields.proofs.FieldLaws.{window, window-number}
 use Rattle.record.proofs.BitLaws.{bitsAt, length-bitsAt, record-bits}
-
--- fresh members are distinct
-fresh-distinct : {u l : List ℕ} → Fresh u l → Distinct l
-fresh-distinct Fresh.nil = tt
-fresh-distinct (Fresh.cons {j} {js} h r) = (later r (List·Memᴰ·head refl), fresh-distinct r)
-  where
-    later : {u l : List ℕ} {x : ℕ} → Fresh u l → List·Memᴰ x u → List·Memᴰ x l → ⊥
-    later (Fresh.cons h r) m (List·Memᴰ·head e) = h (rw (← e) m)
-    later (Fresh.cons h r) m (List·Memᴰ·tail k) = later r (List·Memᴰ·tail m) k
 
 module _ (s : List ℕ) where
   -- the bits from at, by position
@@ -131,7 +123,7 @@ module _ (s : List ℕ) {p : Puzzle} (e : readRecord s ≡ ok p) where
   record-length =
       let r = record-bits s e in
       let v = record-valid s e in
-      omega (arith, r .4, bytes-needed s (r .0) (r .2) (r .3), size-le (p .grid) (v .high .0) (v .high .1), many, few)
+      omega (arith, r .4, bytes-needed s (r .0) (r .2) (r .3), size-most (p .grid) (v .high .0) (v .high .1), many, few)
     where
       many : length (p .arrows) ≤ length (arrowCells (p .arrows))
       many = unfold arrowCells in few-arrows (record-valid s e .arrows)

@@ -4,7 +4,7 @@ use Prim.Native.Nat.{ℕ, zero, suc, _+_, _-_, _*_, _≤_, _<_}
 use native.Mathlib.Nat.{sub-zero, add-zero, mul-le-mul-right}
 use native.Mathlib.Omega.{arith}
 use mathlib.Core.Path.{_≡_, refl, sym, ap, _∙_, subst}
-use mathlib.Core.Bool.{Bool, true, false, _&&_, _||_, not}
+use mathlib.Core.Bool.{Bool, _&&_, _||_, not, or-comm}
 use mathlib.Core.List.{List, [], _∷_, _++_, append-assoc, append-nil}
 use lib.Dec.{eqb, ltb}
 use lib.ListN.{length, length-append}
@@ -12,6 +12,7 @@ use borrow.Author.Tests.{ltb-true}
 use Rattle.grid.specs.Lists.{any, member}
 use Rattle.grid.proofs.ListLaws.{and-true}
 use Rattle.grid.specs.Grid.{Grid}
+use Rattle.grid.proofs.AppendLaws.{member-append}
 use Rattle.fields.specs.Fields.{Outcome, ok, refused, _>>=_, unless, field, stepFrom}
 use Rattle.record.specs.Record.{stepCells, arrowAt, arrowsAt}
 use Rattle.fields.specs.Inside.{Stepped, to, off, stepAt, Opening, openingAt, startOf}
@@ -25,7 +26,6 @@ use Rattle.fields.specs.declared.Start.the-variants.{From, Bad}
 use Rattle.fields.specs.declared.Field.the-variants.{Value, Fault}
 use Rattle.fields.proofs.OutcomeLaws.{bind-ok, unless-ok, ok-eq, field-ok}
 use Rattle.fields.proofs.ReadLaws.{bind-bind, bind-same, bind-value, bind-refused, behind}
-use Rattle.record.proofs.KeptLaws.{member-append}
 
 -- steps that agree on every value
 pub bind-ext : {A B : Type 0} (o : Outcome A) (f h : A → Outcome B) → ((x : A) → f x ≡ h x) → (o >>= f) ≡ (o >>= h)
@@ -41,15 +41,9 @@ same-cons : (j : ℕ) {u v : List ℕ} → Same u v → Same (j ∷ u) (j ∷ v)
 unfolding member any
 same-cons j e = record { each = λ x. ap (λ (b : Bool). eqb x j || b) (e .each x) }
 
-or-turn : (a b : Bool) → (a || b) ≡ (b || a)
-or-turn true true = refl
-or-turn true false = refl
-or-turn false true = refl
-or-turn false false = refl
-
 -- one list after another, either way round
 pub same-turn : (u v : List ℕ) → Same (u ++ v) (v ++ u)
-same-turn u v = record { each = λ x. member-append x u v ∙ or-turn (member x u) (member x v) ∙ sym (member-append x v u) }
+same-turn u v = record { each = λ x. member-append x u v ∙ or-comm (member x u) (member x v) ∙ sym (member-append x v u) }
 
 same-append : (a : List ℕ) {u v : List ℕ} → Same u v → Same (a ++ u) (a ++ v)
 same-append a {u} {v} e = record { each = λ x. member-append x a u ∙ ap (λ (b : Bool). member x a || b) (e .each x) ∙ sym (member-append x a v) }

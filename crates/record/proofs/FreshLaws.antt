@@ -1,16 +1,13 @@
 -- Distinct cells of a grid are at most as many as its cells; so are the cells of all arrows of a record.
 -- Assumes nothing.
-use Prim.Native.Nat.{ℕ, zero, suc, _≤_, _<_}
+use Prim.Native.Nat.{ℕ, _≤_, _<_}
 use native.Mathlib.Omega.{arith}
 use mathlib.Core.Logic.{_⊎_, inl, inr}
-use mathlib.Core.Path.{_≡_, refl, sym}
-use mathlib.Core.Bool.{Bool, true, false, cond, not, false≢true}
+use mathlib.Core.Path.{_≡_, refl}
 use mathlib.Core.List.{List, [], _∷_, _++_, List·Memᴰ, List·Memᴰ·head, List·Memᴰ·tail, List·Memᴰ·not-nil, List·Memᴰ·cases-cons, List·Memᴰ·append-cases, Memᴰ·append-left, Memᴰ·append-right}
-use lib.Dec.{eqb}
 use lib.ListN.{length, length-append}
-use borrow.Author.Tests.{eqb-true, eqb-false}
-use Rattle.grid.specs.Lists.{filter, flatMap}
-use Rattle.grid.proofs.ListLaws.{split, filter-mem, flatMap-mem, filter-split}
+use Rattle.grid.specs.Lists.{flatMap, Distinct}
+use Rattle.grid.proofs.ListLaws.{flatMap-mem, distinct-few}
 use Rattle.grid.specs.Grid.{Grid, size}
 use Rattle.grid.proofs.GridLaws.{beside, on-grid}
 use Rattle.record.specs.Record.{Puzzle}
@@ -25,47 +22,18 @@ fewer {u} {v} f (Fresh.cons {j} {js} h r) = Fresh.cons (λ m. h (f j m)) (fewer 
     more x (List·Memᴰ·head e) = List·Memᴰ·head e
     more x (List·Memᴰ·tail m) = List·Memᴰ·tail (f x m)
 
-filter-fresh : (p : ℕ → Bool) {u l : List ℕ} → Fresh u l → Fresh u (filter p l)
-unfolding filter
-filter-fresh p Fresh.nil = Fresh.nil
-filter-fresh p {u} (Fresh.cons {j} {js} h r) = go (p j) (filter-fresh p r)
+-- fresh members are distinct
+pub fresh-distinct : {u l : List ℕ} → Fresh u l → Distinct l
+fresh-distinct Fresh.nil = tt
+fresh-distinct (Fresh.cons {j} {js} h r) = (later r (List·Memᴰ·head refl), fresh-distinct r)
   where
-    go : (t : Bool) → Fresh (j ∷ u) (filter p js) → Fresh u (cond t (j ∷ filter p js) (filter p js))
-    go true k = Fresh.cons h k
-    go false k = fewer (λ x m. List·Memᴰ·tail m) k
-
--- a used cell does not come again, and any other at most once
-never : (e : ℕ) {u l : List ℕ} → List·Memᴰ e u → Fresh u l → length (filter (λ y. eqb y e) l) ≡ 0
-unfolding filter
-never e m Fresh.nil = refl
-never e {u} m (Fresh.cons {j} {js} h r) = go (eqb j e) refl (never e (List·Memᴰ·tail m) r)
-  where
-    go : (t : Bool) → eqb j e ≡ t → length (filter (λ y. eqb y e) js) ≡ 0 → length (cond t (j ∷ filter (λ y. eqb y e) js) (filter (λ y. eqb y e) js)) ≡ 0
-    go true q k = absurd (h (rw (eqb-true j e q) m))
-    go false q k = k
-
-once : (e : ℕ) {u l : List ℕ} → Fresh u l → length (filter (λ y. eqb y e) l) ≤ 1
-unfolding filter
-once e Fresh.nil = omega arith
-once e {u} (Fresh.cons {j} {js} h r) = go (eqb j e) refl (once e r)
-  where
-    go : (t : Bool) → eqb j e ≡ t → length (filter (λ y. eqb y e) js) ≤ 1 → length (cond t (j ∷ filter (λ y. eqb y e) js) (filter (λ y. eqb y e) js)) ≤ 1
-    go true q k = omega (arith, never e (List·Memᴰ·head (sym (eqb-true j e q))) r)
-    go false q k = k
+    later : {u l : List ℕ} {x : ℕ} → Fresh u l → List·Memᴰ x u → List·Memᴰ x l → ⊥
+    later (Fresh.cons h r) m (List·Memᴰ·head e) = h (rw (← e) m)
+    later (Fresh.cons h r) m (List·Memᴰ·tail k) = later r (List·Memᴰ·tail m) k
 
 -- distinct numbers below n are at most n
 pub fresh-length : (n : ℕ) (u l : List ℕ) → Fresh u l → ((x : ℕ) → List·Memᴰ x l → x < n) → length l ≤ n
-fresh-length zero u [] r f = omega arith
-fresh-length zero u (x ∷ l) r f = absurd (omega (arith, f x (List·Memᴰ·head refl)))
-fresh-length (suc n) u l r f =
-    omega (arith, filter-split (λ y. eqb y n) l, once n r, fresh-length n u (filter (λ y. not (eqb y n)) l) (filter-fresh (λ y. not (eqb y n)) r) below)
-  where
-    below : (x : ℕ) → List·Memᴰ x (filter (λ y. not (eqb y n)) l) → x < n
-    below x m = let k = filter-mem (λ y. not (eqb y n)) l m in go (split (eqb x n)) (k .1) (f x (k .0))
-      where
-        go : (eqb x n ≡ true) ⊎ (eqb x n ≡ false) → not (eqb x n) ≡ true → x < suc n → x < n
-        go (inl t) h s = absurd (false≢true (rw t at h))
-        go (inr d) h s = omega (arith, eqb-false x n d)
+fresh-length n u l r f = distinct-few l n (fresh-distinct r) f
 
 -- distinct members, and then others
 pub fresh-append : {u a b : List ℕ} → Fresh u a → Fresh (a ++ u) b → Fresh u (a ++ b)

@@ -4,38 +4,21 @@ use Prim.Native.Nat.{ℕ, _+_, _≤_, _<_}
 use native.Mathlib.Omega.{arith}
 use mathlib.Core.Logic.{_⊎_, inl, inr}
 use mathlib.Core.Path.{_≡_, refl, sym, ap, _∙_}
-use mathlib.Core.Bool.{Bool, true, false, _||_, not, true≢false}
+use mathlib.Core.Bool.{Bool, true, false, not, true≢false, or-true, or-false}
 use mathlib.Core.List.{List, [], _∷_, _++_, append-nil, List·Memᴰ, List·Memᴰ·append-cases, List·Memᴰ·eq-of-singleton}
 use lib.Dec.{eqb}
 use lib.ListN.{length, getD, set, length-append, length-set}
 use lib.Seq.{getD-set-same, getD-set-other}
 use borrow.Author.Tests.{eqb-true, eqb-false}
-use Rattle.grid.specs.Lists.{any, member}
+use Rattle.grid.specs.Lists.{member}
 use Rattle.grid.proofs.ListLaws.{split, mem-member}
 use Rattle.grid.proofs.ArrayLaws.{array-more}
+use Rattle.grid.proofs.AppendLaws.{member-more}
 use Rattle.fields.specs.Fields.{unless}
 use Rattle.record.specs.Valid.{Fresh}
 use Rattle.record.specs.Inside.{Answered, done, fault, mark, Kept}
 use Rattle.record.specs.declared.Answer.the-variants.{Done, Refused}
 use Rattle.record.proofs.FreshLaws.{fresh-append, fresh-length}
-
--- the test of membership behind another list
-pub member-append : (x : ℕ) (l m : List ℕ) → member x (l ++ m) ≡ (member x l || member x m)
-unfolding member any
-member-append x [] m = refl
-member-append x (y ∷ l) m = go (eqb x y) (member-append x l m)
-  where
-    go : (t : Bool) → member x (l ++ m) ≡ (member x l || member x m) → (t || member x (l ++ m)) ≡ ((t || member x l) || member x m)
-    go true e = refl
-    go false e = e
-
-either : (b : Bool) → (b || (true || false)) ≡ true
-either true = refl
-either false = refl
-
-neither : (b : Bool) → (b || (false || false)) ≡ b
-neither true = refl
-neither false = refl
 
 mark-one : {b : Bool} → (mark b ≡ 0 → ⊥) → b ≡ true
 unfolding mark
@@ -82,14 +65,14 @@ module _ {l line marks : List ℕ} (k : Kept l line marks) (cell : ℕ) (h : cel
     enter-room = omega (arith, simp length-append at (fresh-length 1024 [] (l ++ (cell ∷ [])) once-more within-more))
 
     marked-more : (x : ℕ) → x < 1024 → getD (set marks cell 1) x 0 ≡ mark (member x (l ++ (cell ∷ [])))
-    unfolding mark member any
+    unfolding mark
     marked-more x b = go (split (eqb x cell))
       where
         go : (eqb x cell ≡ true) ⊎ (eqb x cell ≡ false) → getD (set marks cell 1) x 0 ≡ mark (member x (l ++ (cell ∷ [])))
         go (inl t) =
             let e : x ≡ cell = eqb-true x cell t in
-            rw (member-append x l (cell ∷ []), t) (ap (λ (y : ℕ). getD (set marks cell 1) y 0) e ∙ getD-set-same marks cell 1 0 (omega (arith, k .long)) ∙ rw (either (member x l)) refl)
-        go (inr f) = rw (member-append x l (cell ∷ []), f) (getD-set-other marks cell x 1 0 (eqb-false x cell f) ∙ k .marked x b ∙ rw (neither (member x l)) refl)
+            rw (member-more x l cell, t, or-true (member x l)) (ap (λ (y : ℕ). getD (set marks cell 1) y 0) e ∙ getD-set-same marks cell 1 0 (omega (arith, k .long)))
+        go (inr f) = rw (member-more x l cell, f, or-false (member x l)) (getD-set-other marks cell x 1 0 (eqb-false x cell f) ∙ k .marked x b)
 
     pub enter-new : Answered (unless (not (member cell l)) 4) (λ _. Kept (l ++ (cell ∷ [])) (set line (length l) cell) (set marks cell 1)) Done
     unfolding unless

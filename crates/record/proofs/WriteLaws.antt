@@ -1,7 +1,7 @@
 -- A valid puzzle is read back from the record that is written for it.
 -- Assumes nothing.
 use Prim.Native.Nat.{ℕ, zero, suc, _+_, _-_, _*_, _/_, _%_, _^_, _≤_, _<_}
-use native.Mathlib.Nat.{mod-lt, pow-suc, add-suc, add-zero, div-div-eq-div-mul, div-lt-iff-lt-mul, mul-comm, div-one, not-suc-le-zero, le-of-suc-le-suc, mul-le-mul-right}
+use native.Mathlib.Nat.{mod-lt, pow-suc, add-suc, add-zero, div-div-eq-div-mul, div-lt-iff-lt-mul, mul-comm, div-one, not-suc-le-zero, le-of-suc-le-suc}
 use native.Mathlib.Omega.{arith}
 use mathlib.Core.Logic.{_⊎_, inl, inr}
 use mathlib.Core.Path.{_≡_, refl, sym, ap, _∙_}
@@ -10,11 +10,11 @@ use mathlib.Core.List.{List, [], _∷_, _++_, append-assoc, append-nil, List·Me
 use lib.Dec.{eqb, lit<}
 use lib.ListN.{length, getD, drop, length-append}
 use lib.Seq.{getD-drop, drop-at, drop-drop, drop-length, getD-at}
-use borrow.Author.Tests.{eqb-true, eq-eqb, le-leb, lt-ltb}
-use Rattle.grid.proofs.ListLaws.{so-false, member-mem, split, mem-any}
+use borrow.Author.Tests.{eqb-true, le-leb, lt-ltb}
+use Rattle.grid.proofs.ListLaws.{so-false, member-mem, split, mem-member}
 use Rattle.grid.specs.Lists.{member, any, flatMap}
 use Rattle.grid.specs.Grid.{Grid, size, row, col, only, up, down, left, right, neighbours}
-use Rattle.grid.proofs.GridLaws.{width-pos, index}
+use Rattle.grid.proofs.GridLaws.{width-pos, index, size-most}
 use Rattle.fields.specs.Fields.{_>>=_, Outcome, ok, unless, bit, number, field, there, stepFrom, filler}
 use Rattle.record.specs.Record.{Puzzle, cellCodes, stepCells, arrowAt, arrowsAt, readRecord}
 use Rattle.record.specs.Valid.{Walk, on, Fresh, Arrow, arrow, Arrows, Valid}
@@ -91,10 +91,6 @@ there-read true x j h = go (split (eqb j x)) h
     go (inr e) k = absurd (false≢true (rw e at k))
 there-read false x j h = absurd (false≢true h)
 
-mem-member : {j : ℕ} {l : List ℕ} → List·Memᴰ j l → member j l ≡ true
-unfolding member
-mem-member {j} {l} m = mem-any (eqb j) l m (eq-eqb j j refl)
-
 no-member : (j : ℕ) (l : List ℕ) → (List·Memᴰ j l → ⊥) → member j l ≡ false
 no-member j l h = so-false (member j l) (λ t. h (member-mem j l t))
 
@@ -109,11 +105,11 @@ direction-read g i j m = one (split (member j (up g i)))
     last u d l = rw (u, d, l) (there-read _ _ j (four (List·Memᴰ·append-cases (up g i) m)), lit< tt)
       where
         no : (l : List ℕ) → member j l ≡ false → List·Memᴰ j l → ⊥
-        no l f k = true≢false (sym (mem-member k) ∙ f)
+        no l f k = true≢false (sym (mem-member j l k) ∙ f)
 
         six : List·Memᴰ j (left g i) ⊎ List·Memᴰ j (right g i) → member j (right g i) ≡ true
         six (inl k) = absurd (no (left g i) l k)
-        six (inr k) = mem-member k
+        six (inr k) = mem-member j (right g i) k
 
         five : List·Memᴰ j (down g i) ⊎ List·Memᴰ j (left g i ++ right g i) → member j (right g i) ≡ true
         five (inl k) = absurd (no (down g i) d k)
@@ -292,11 +288,6 @@ unfolding flatMap
 few-arrows Arrows.nil = omega arith
 few-arrows (Arrows.cons (arrow h w) f r) = rw length-append (omega (arith, few-arrows r))
 
--- a grid within the limits
-pub size-le : (g : Grid) → g .height ≤ 32 → g .width ≤ 32 → size g ≤ 1024
-unfolding size
-size-le g h w = omega (arith, mul-le-mul-right (g .width) h)
-
 module _ (p : Puzzle) (v : Valid p) (m : ℕ) (b : List ℕ) (h : Bits b) (fit : length b ≤ 8 * m) (near : 8 * m - length b < 8) where
   read-bits : b ≡ bitsOf (p .grid .height - 1) 5 ++ (bitsOf (p .grid .width - 1) 5 ++ (bitsOf (length (p .arrows)) 11 ++ (flatMap (λ c. bitsOf c 2) (p .given) ++ flatMap (arrowBits (p .grid)) (p .arrows))))
       → readRecord (pack m b) ≡ ok p
@@ -309,7 +300,7 @@ module _ (p : Puzzle) (v : Valid p) (m : ℕ) (b : List ℕ) (h : Bits b) (fit :
       let l1 : length B1 ≡ 5 = length-bitsOf (p .grid .height - 1) 5 in
       let l2 : length B2 ≡ 5 = length-bitsOf (p .grid .width - 1) 5 in
       let l3 : length B3 ≡ 11 = length-bitsOf (length (p .arrows)) 11 in
-      let most : size (p .grid) ≤ 1024 = size-le (p .grid) (v .high .0) (v .high .1) in
+      let most : size (p .grid) ≤ 1024 = size-most (p .grid) (v .high .0) (v .high .1) in
       let few : length (p .arrows) < 2 ^ 11 = omega (arith, few-arrows (v .arrows), arrows-length p v) in
       let H : p .grid .height - 1 + 1 ≡ p .grid .height = omega (arith, v .low .0) in
       let W : p .grid .width - 1 + 1 ≡ p .grid .width = omega (arith, v .low .1) in

@@ -1,3 +1,3 @@
-pub mod ChainWalks
+pub mod Passed
 pub mod Shifts
 pub mod ShiftChains

@@ -18,7 +18,7 @@ use Rattle.reach.specs.Inside.{reachesAt}
 use Rattle.reach.specs.Near.{NearFloats}
 use Rattle.reach.proofs.NearReach.{reached-is, reach-any}
 use Rattle.shift.specs.Shift.{blockIn, Gathered, BlockPlaces, fitsAt, shiftFits}
-use Rattle.shift.proofs.ChainWalks.{none-taken, some-taken}
+use Rattle.shift.proofs.Passed.{none-taken, some-taken}
 use Rattle.kinds.proofs.BlockArrays.{block-by}
 use Rattle.shift.proofs.Shifts.{gathered-places, fits-test, reach-inside, reach-tells}
 

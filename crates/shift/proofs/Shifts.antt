@@ -1,6 +1,6 @@
 -- A block's cells gathered in two arrays, and the shift test on them.
 -- Assumes nothing.
-use Prim.Native.Nat.{ℕ, zero, suc, _+_, _*_, _/_, _%_, _≤_, _<_}
+use Prim.Native.Nat.{ℕ, suc, _+_, _*_, _/_, _%_, _≤_, _<_}
 use native.Mathlib.Omega.{arith}
 use native.Mathlib.Nat.{mod-lt, div-lt-iff-lt-mul}
 use native.Mathlib.Numerals.{add-one}
@@ -19,7 +19,7 @@ use Rattle.grid.specs.declared.Step.{Step}
 use Rattle.grid.specs.declared.Step.the-variants.{To, Outside}
 use Rattle.grid.specs.declared.Side.{Side}
 use Rattle.grid.specs.declared.Side.the-variants.{At, Off}
-use Rattle.grid.proofs.ListLaws.{so-false, all-mem, mem-all, mem-at, at-mem, upto-mem, mem-upto, filter-length, filter-mem, mem-filter, length-range, mem-member, member-mem}
+use Rattle.grid.proofs.ListLaws.{so-false, all-mem, mem-all, mem-at, at-mem, upto-mem, mem-upto, filter-length, filter-mem, mem-filter, length-range, mem-member, member-mem, map-at}
 use Rattle.grid.proofs.GridLaws.{width-pos, in-cells}
 use Rattle.grid.proofs.SideLaws.{area, moved-to}
 use Rattle.grid.proofs.ShiftLaws.{landing, landing-at, landing-any, sideIn}
@@ -83,11 +83,6 @@ gathered-long {w} {b} {r} {c} {k = k} q n lr lc h =
     (rw (q .rows-are) (simp (length-append, length-map, length-drop) (omega (arith, q .many, lr, h))), rw (q .columns-are) (simp (length-append, length-map, length-drop) (omega (arith, q .many, lc, h))))
 
 -- an entry
-map-at : (F : ℕ → ℕ) (l : List ℕ) (k : ℕ) → k < length l → getD (map F l) k 0 ≡ F (getD l k 0)
-map-at F [] k h = absurd (omega arith)
-map-at F (x ∷ xs) zero h = refl
-map-at F (x ∷ xs) (suc k) h = map-at F xs k (omega arith)
-
 module _ {w : ℕ} {b rows columns : List ℕ} {count : ℕ} (q : BlockPlaces w b rows columns count) (k : ℕ) (h : k < count) where
   row-at : getD rows k 0 ≡ getD b k 0 / w
   row-at = sym (getD-take count rows k 0 h) ∙ rw (q .rows-are) (map-at (λ j. j / w) b k (omega (arith, q .many)))

@@ -11,6 +11,7 @@ use mir.Syntax.{w32, w64}
 use mir.Val.{Fits, SFits, toZ, ofZ}
 use mir.ValLaws.{toZ-ofZ}
 use borrow.Author.Tests.{ltb-true}
+use Rattle.grid.proofs.Signed.{not-negative}
 use Rattle.text.specs.Told.{toldBy}
 use Rattle.text.specs.declared.Told.the-variants.{Refused, Nothing, Literals}
 
@@ -22,10 +23,6 @@ abs-small (negsuc n) = omega arith
 negative : (z : ℤ) → ltZ z (pos 0) ≡ true → pos 0 -ℤ z ≡ pos (natAbs z)
 negative (pos n) e = let h = ltb-true n 0 e in absurd (omega arith)
 negative (negsuc n) e = +ℤ-idl (pos (suc n))
-
-not-negative : (z : ℤ) → ltZ z (pos 0) ≡ false → T (nonNeg z)
-not-negative (pos n) e = tt
-not-negative (negsuc n) e = let z : _≡_ {A = ℕ} 0 1 = cc in absurd (omega arith)
 
 is-refused : (z : ℤ) → ltZ z (pos 0) ≡ true → Refused (natAbs z) ≡ toldBy z
 unfolding toldBy

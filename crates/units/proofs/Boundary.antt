@@ -3,29 +3,28 @@
 use Prim.Native.Nat.{ℕ, _+_, _-_, _*_, _/_, _%_, _≤_, _<_}
 use native.Mathlib.Nat.{div-add-mod'}
 use native.Mathlib.Omega.{arith}
-use mathlib.Core.Logic.{_⊎_, inl, inr}
 use mathlib.Core.Path.{_≡_, refl, sym, ap, _∙_}
-use mathlib.Core.Bool.{Bool, true, false, cond, _&&_, _||_, or-false}
+use mathlib.Core.Bool.{Bool, true, false, _&&_, _||_, or-false}
 use mathlib.Core.List.{List, [], _∷_, _++_, append-nil, List·Memᴰ, List·Memᴰ·head, List·Memᴰ·tail}
 use lib.Dec.{eqb}
 use lib.ListN.{length, getD, set, take}
 use lib.Seq.{getD-take}
 use Rattle.grid.specs.Lists.{range, upto, any, filter, last, member}
 use Rattle.grid.specs.Grid.{Grid, size, cellsOf, up, down, left, right, neighbours, touches}
-use Rattle.grid.proofs.ListLaws.{split, filter-mem, mem-filter, mem-upto, upto-mem, mem-member, member-mem, so-false}
+use Rattle.grid.proofs.ListLaws.{filter-mem, upto-mem}
 use Rattle.grid.specs.Side.{sized, towards, besideOf}
 use Rattle.grid.specs.declared.Side.the-variants.{At, Off}
 use Rattle.grid.proofs.SideLaws.{beside-at, beside-off}
 use Rattle.grid.proofs.GridLaws.{beside, on-grid}
-use Rattle.grid.proofs.AppendLaws.{any-append, last-more, any-agree, filter-upto, upto-more, filter-more}
+use Rattle.grid.proofs.AppendLaws.{any-append, last-more, any-agree, filter-upto, upto-more, filter-more, filter-filter, member-filter}
 use Rattle.grid.specs.Cells.{empty, potential, square}
 use Rattle.groups.specs.Groups.{labels, group, labelArray}
+use Rattle.groups.proofs.LabelLaws.{label-test, label-group}
 use Rattle.kinds.specs.Kinds.{word}
 use Rattle.literals.specs.Literals.{each}
 use Rattle.literals.specs.Buffer.{Wrote}
 use Rattle.units.specs.Arrays.{boundaryOf}
 use Rattle.literals.proofs.BufferLaws.{wrote-more}
-use Rattle.units.proofs.Ranks.{label-test, label-group}
 
 -- ---- some neighbour passes: direction by direction
 
@@ -72,23 +71,6 @@ module _ (t : ℕ → Bool) (i : ℕ) where
   last-cell h = last-low 0 (filter t (upto i)) (omega arith) (λ x m. omega (arith, upto-mem i (filter-mem t (upto i) m .0)))
 
 -- ---- what they are of a group
-
-pub filter-filter : (p q : ℕ → Bool) (l : List ℕ) → filter p (filter q l) ≡ filter (λ i. q i && p i) l
-unfolding filter
-filter-filter p q [] = refl
-filter-filter p q (x ∷ xs) = go (q x) (filter-filter p q xs)
-  where
-    go : (b : Bool) → filter p (filter q xs) ≡ filter (λ i. q i && p i) xs → filter p (cond b (x ∷ filter q xs) (filter q xs)) ≡ cond (b && p x) (x ∷ filter (λ i. q i && p i) xs) (filter (λ i. q i && p i) xs)
-    go true h = ap (λ (l : List ℕ). cond (p x) (x ∷ l) l) h
-    go false h = h
-
--- a cell is in a filtered list exactly if it passes
-member-filter : (p : ℕ → Bool) (n i : ℕ) → i < n → member i (filter p (upto n)) ≡ p i
-member-filter p n i h = go (split (p i))
-  where
-    go : (p i ≡ true) ⊎ (p i ≡ false) → member i (filter p (upto n)) ≡ p i
-    go (inl e) = mem-member i (filter p (upto n)) (mem-filter p (upto n) (mem-upto n h) e) ∙ sym e
-    go (inr e) = so-false _ (λ s. let z : _≡_ {A = ℕ} 0 1 = ap (λ (b : Bool). cond b 0 1) (sym (filter-mem p (upto n) (member-mem i (filter p (upto n)) s) .1) ∙ e) in omega arith) ∙ sym e
 
 -- a cell touches a group by its neighbours' labels
 pub touches-by : (g : Grid) (p : ℕ → Bool) (f i : ℕ) → i < size g → f < 1024 → any (λ j. eqb (getD (labelArray g p) j 0) f) (neighbours g i) ≡ touches g (group g p (labels g p) f) i

@@ -15,6 +15,7 @@ use Rattle.grid.specs.Lists.{range, upto, any, filter, Distinct}
 use Rattle.grid.specs.Grid.{Grid, size, cellsOf}
 use Rattle.grid.specs.Side.{sized}
 use Rattle.grid.proofs.SideLaws.{area}
+use Rattle.grid.proofs.GridLaws.{size-most}
 use Rattle.grid.proofs.ListLaws.{so-false, and-true, true-and, not-so, any-mem, mem-any, filter-mem, upto-mem, mem-upto, distinct-filter, distinct-upto}
 use Rattle.record.specs.Record.{Puzzle}
 use Rattle.grid.specs.Cells.{Literal, potential, square}
@@ -28,8 +29,7 @@ use Rattle.units.specs.Units.{reason1, reason1At, reason2, reason2At}
 use Rattle.units.specs.Arrays.{PotentialArrays, BlockArrays, Listed, strandedAt}
 use Rattle.literals.specs.Buffer.{FoundAs}
 use Rattle.literals.specs.declared.Finding.the-variants.{Nothing}
-use Rattle.grid.proofs.Turns.{size-small}
-use Rattle.units.proofs.Ranks.{label-test}
+use Rattle.groups.proofs.LabelLaws.{label-test}
 use Rattle.literals.proofs.Findings.{found-none}
 use Rattle.units.proofs.Checks.{sized-size}
 
@@ -163,11 +163,11 @@ module _ (h w : ℕ) (tall : h ≤ 32) (wide : w ≤ 32) (lines : List (List ℕ
 
   module _ {blocks : List ℕ} (B : BlockArrays (puzzleWith (sized h w) lines) (take (h * w) cells) blocks onarrow) where
     pub quiet-2 : nameTwice blocks arrows total ≡ false → (buffer : List ℕ) → FoundAs (reason2 (puzzleWith (sized h w) lines) (take (h * w) cells)) buffer buffer Nothing
-    quiet-2 e buffer = rw (none-twice (puzzleWith (sized h w) lines) (take (h * w) cells) blocks onarrow arrows total (size-small tall wide) B L e) (found-none buffer)
+    quiet-2 e buffer = rw (none-twice (puzzleWith (sized h w) lines) (take (h * w) cells) blocks onarrow arrows total (size-most (sized h w) tall wide) B L e) (found-none buffer)
 
     -- the marks are those of the arrow blocks
     pub arrowed-given : {marks : List ℕ} → Marks marks (nameAmong blocks arrows total) → Given (puzzleWith (sized h w) lines) (take (h * w) cells) blocks marks
     arrowed-given M = record {
       named = B .blocks-are;
-      marked = arrow-mask (puzzleWith (sized h w) lines) (size-small tall wide) (take (h * w) cells) (B .blocks-are) (L .line) (L .marks) (B .arrows-are) M;
+      marked = arrow-mask (puzzleWith (sized h w) lines) (size-most (sized h w) tall wide) (take (h * w) cells) (B .blocks-are) (L .line) (L .marks) (B .arrows-are) M;
     }

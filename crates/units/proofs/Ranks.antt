@@ -10,20 +10,22 @@ use mathlib.Core.List.{List, [], _∷_, _++_, append-nil, List·Memᴰ, List·Me
 use lib.Dec.{eqb}
 use lib.ListN.{length, getD, set, take, length-set}
 use lib.Seq.{set-out, set-getD, getD-set-same, getD-set-other, getD-take}
-use borrow.Author.Tests.{eqb-true, eqb-false, ne-eqb}
+use borrow.Author.Tests.{eqb-true, eqb-false, eq-eqb, ne-eqb}
 use Rattle.grid.specs.Lists.{range, upto, any, filter}
 use Rattle.grid.specs.Grid.{Grid, size, cellsOf}
-use Rattle.grid.proofs.ListLaws.{split, upto-mem, filter-mem}
-use Rattle.grid.proofs.AppendLaws.{filter-upto, upto-more, filter-more}
+use Rattle.grid.proofs.ListLaws.{split, upto-mem}
+use Rattle.grid.proofs.AppendLaws.{upto-more, filter-more}
 use Rattle.record.specs.Record.{Puzzle}
 use Rattle.grid.specs.Cells.{Literal, potential, square}
-use Rattle.groups.specs.Groups.{labels, labelAt, labelArray, maskOf, noGroup, group, names}
+use Rattle.groups.specs.Groups.{labels, maskOf, group, names}
 use Rattle.groups.specs.Arrows.{onArrow}
+use Rattle.groups.proofs.GroupLaws.{group-mem}
+use Rattle.groups.proofs.LabelLaws.{label-test, label-group}
 use Rattle.literals.specs.Literals.{Found, orElse, reasonIf, firstOf}
 use Rattle.units.specs.Units.{reason1, reason1At}
 use Rattle.units.specs.Arrays.{PotentialArrays, rankAt, topRank, Ranked, firstName, foundAt, boundaryOf}
 use Rattle.units.specs.declared.Name.the-variants.{At, Nobody}
-use Rattle.kinds.proofs.BlockArrays.{array-at}
+use Rattle.kinds.proofs.Filled.{mask-test}
 
 -- ---- a mark is raised
 
@@ -95,6 +97,14 @@ module _ (t : ℕ → Bool) (n : ℕ) where
   unfolding upto
   first-start = let z : n - 0 ≡ n = omega arith in rw z refl
 
+-- a test that the name of f asks first: f is its own name, or not
+module _ (names : List ℕ) (f : ℕ) (b : Bool) where
+  pub named : getD names f 0 ≡ f → (eqb (getD names f 0) f && b) ≡ b
+  named e = rw (eq-eqb (getD names f 0) f e)
+
+  pub not-named : (getD names f 0 ≡ f → ⊥) → (eqb (getD names f 0) f && b) ≡ false
+  not-named h = rw (ne-eqb (getD names f 0) f h)
+
 first-agree : (s t : ℕ → Bool) (l : List ℕ) → ((x : ℕ) → List·Memᴰ x l → s x ≡ t x) → firstName s l ≡ firstName t l
 unfolding firstName
 first-agree s t [] h = refl
@@ -119,27 +129,6 @@ first-found q t r (x ∷ xs) = go (q x) (t x) refl (first-found q t r xs)
     go false b e h = h
 
 -- ---- which groups are stranded
-
--- the cells of the group f by their labels
-pub label-test : (g : Grid) (p : ℕ → Bool) (i f : ℕ) → i < size g → f < 1024 → eqb (getD (labelArray g p) i 0) f ≡ (p i && eqb (getD (labels g p) i 0) f)
-unfolding labelArray labelAt
-label-test g p i f h k = rw (array-at g noGroup (labelAt g p) 0 i h) (go (p i))
-  where
-    go : (b : Bool) → eqb (cond b (getD (labels g p) i 0) noGroup) f ≡ (b && eqb (getD (labels g p) i 0) f)
-    go true = refl
-    go false = ne-eqb 1024 f (λ e. omega (arith, e))
-
-pub label-group : (g : Grid) (p : ℕ → Bool) (f : ℕ) → f < 1024 → filter (λ i. eqb (getD (labelArray g p) i 0) f) (upto (size g)) ≡ group g p (labels g p) f
-unfolding group cellsOf
-label-group g p f k = filter-upto _ _ (size g) (λ i h. label-test g p i f h k)
-
-pub mask-test : (g : Grid) (p : ℕ → Bool) (i : ℕ) → i < size g → eqb (getD (maskOf g p) i 0) 1 ≡ p i
-unfolding maskOf
-mask-test g p i h = rw (array-at {A = ℕ} g 0 (λ j. cond (p j) 1 0) 0 i h) (go (p i))
-  where
-    go : (b : Bool) → eqb (cond b 1 0) 1 ≡ b
-    go true = refl
-    go false = refl
 
 top-by : (a s : ℕ → Bool) (r : ℕ → ℕ) (l : List ℕ) → ((i : ℕ) → List·Memᴰ i l → r i ≡ cond (a i) 2 (cond (s i) 1 0)) → topRank r l ≡ cond (any a l) 2 (cond (any s l) 1 0)
 unfolding topRank any
@@ -170,10 +159,6 @@ unfolding rankAt square
 rank-is g arrows cells onarrow n i h e a =
     let m : eqb (getD onarrow i 0) 1 ≡ onArrow arrows i = ap (λ (l : List ℕ). eqb (getD l i 0) 1) a ∙ mask-test g (onArrow arrows) i h in
     rw (m, getD-take n cells i 0 (omega arith)) refl
-
-group-below : (g : Grid) (p : ℕ → Bool) (f i : ℕ) → List·Memᴰ i (group g p (labels g p) f) → i < size g
-unfolding group cellsOf
-group-below g p f i m = upto-mem (size g) (filter-mem (λ i. p i && eqb (getD (labels g p) i 0) f) (upto (size g)) m .0)
 
 -- reason 1 by the first name that is marked 1
 pub stranded-is : (puzzle : Puzzle) (cells groups onarrow : List ℕ) (n : ℕ) (marks : List ℕ) → n ≤ 1024 → n ≡ size (puzzle .grid) → PotentialArrays puzzle (take n cells) groups onarrow
@@ -215,7 +200,7 @@ stranded-is puzzle cells groups onarrow n marks s e P R =
         ∙ label-group g p f h
 
     top : (f : ℕ) → topRank (rankAt cells onarrow) (c f) ≡ cond (any (onArrow arrows) (c f)) 2 (cond (any (square now) (c f)) 1 0)
-    top f = top-by (onArrow arrows) (square now) (rankAt cells onarrow) (c f) (λ i m. rank-is g arrows cells onarrow n i (group-below g p f i m) e (P .arrows-are))
+    top f = top-by (onArrow arrows) (square now) (rankAt cells onarrow) (c f) (λ i m. rank-is g arrows cells onarrow n i (group-mem g p (labels g p) f i m .0) e (P .arrows-are))
 
     test : (f : ℕ) → f < size g → T f ≡ (q f && t f)
     test f h =

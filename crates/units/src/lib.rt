@@ -3,8 +3,8 @@ use grid::Side;
 use literals::Finding;
 ghost use mathlib.Core.Path.{_≡_};
 ghost use Prim.Native.Nat.{ℕ, _+_, _*_, _<_, _≤_, max};
-ghost use lib.ListN.{length, getD, set, take, drop, replicate};
-ghost use mathlib.Core.List.{List, _++_};
+ghost use lib.ListN.{length, getD, set, take};
+ghost use mathlib.Core.List.{List};
 ghost use mathlib.Core.Bool.{_&&_};
 ghost use lib.Dec.{eqb};
 ghost use Rattle.grid.specs.Lists.{any, filter, last, upto};
@@ -52,18 +52,6 @@ fn raise(marks: &mut [u8; 1024], f: usize, rank: u8)
     }
 }
 
-// Clears the first n marks.
-fn clear(marks: &mut [u8; 1024], n: usize)
-    requires { ⌜ (n ≤ 1024) × (length (now marks) ≡ 1024) ⌝ }
-    ensures { λ _. ⌜ now (marks .exit) ≡ replicate n 0 ++ drop n (now (marks .entry)) ⌝ }
-{
-    let mut i = 0;
-    while i < n {
-        marks[i] = 0;
-        i += 1;
-    }
-}
-
 // Marks each group, at its name, with the highest rank among its cells.
 fn rank_groups(
     cells: &[u8; 1024],
@@ -75,7 +63,7 @@ fn rank_groups(
     requires { ⌜ (n ≤ 1024) × (length (now marks) ≡ 1024) ⌝ }
     ensures { λ _. ⌜ Ranked (now (cells .entry)) (now (groups .entry)) (now (onarrow .entry)) n n (now (marks .exit)) ⌝ }
 {
-    clear(marks, n);
+    kinds::clear(marks);
     let mut i = 0;
     while i < n {
         raise(marks, grid::wide(groups[i]), rank(cells, onarrow, i));

@@ -5,7 +5,7 @@ use native.Mathlib.Omega.{arith}
 use mathlib.Core.Path.{_≡_, refl, ap, _∙_}
 use mathlib.Core.Bool.{true}
 use mathlib.Core.List.{List, _∷_}
-use lib.ListN.{length, drop}
+use lib.ListN.{length, drop, drop-of-length-le}
 use borrow.Author.Needs.{needs}
 use Rattle.grid.specs.Grid.{size}
 use Rattle.record.specs.Problem.{gridOf}
@@ -14,7 +14,7 @@ use Rattle.board.specs.Form.{wellFormed}
 use Rattle.board.specs.Decide.{refusedWith}
 use Rattle.board.specs.Inside.{held, placedFrom}
 use Rattle.board.proofs.BoardForm.{whole-is, whole-room, whole-most}
-use Rattle.board.proofs.Fold.{place-refused, place-put, two-left, one-left, none-left}
+use Rattle.board.proofs.Fold.{place-refused, place-put, two-left, one-left}
 use Rattle.board.proofs.place_all.Statement.{statement}
 use Rattle.board.proofs.place_all.Tie as tie
 
@@ -155,7 +155,7 @@ returns-3 c =
     let s = c .before .before .before .before in
     let t = c .before .before .loop in
     λ q e w.
-    t .inv .same q e w .1 ∙ ap (placedFrom (held q (t .cells) (t .order) (t .count))) (none-left (s .args .bytes .now) (t .at) (c .if1 .left))
+    t .inv .same q e w .1 ∙ ap (placedFrom (held q (t .cells) (t .order) (t .count))) (drop-of-length-le (s .args .bytes .now) {i = t .at} (c .if1 .left))
 
 pub place-all-spec : {M : Type 1} → statement M
 place-all-spec =

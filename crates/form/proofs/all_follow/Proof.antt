@@ -77,7 +77,7 @@ follows-requires c κs =
     let s = c .before .before .before .before in
     let t = c .before .before .before .loop in
     let n = next s (t .good) (t .at) (t .k) (t .inv) (omega arith) in
-    let e : getD (cuts s) (t .k) 0 ≡ c .wide .result = n .at-end ∙ sym (c .wide .ensures) in
+    let e : getD (cuts s) (t .k) 0 ≡ c .wide .result = n .at-end ∙ sym (c .wide .ensures .0) in
     (s .pre .0, omega (arith, e, n .above), omega (arith, e, n .below, s .pre .4 .few), s .pre .3, λ i h. s .pre .4 .low i (omega (arith, e, n .below, h)))
 
 add-k : tie.Need-add-k Inv-loop μ-loop
@@ -92,7 +92,7 @@ loop-again c =
     let t = c .before .before .before .before .before .loop in
     let line = s .args .arrows .now in
     let n = next s (t .good) (t .at) (t .k) (t .inv) (omega arith) in
-    let e : getD (cuts s) (t .k) 0 ≡ c .before .before .wide .result = n .at-end ∙ sym (c .before .before .wide .ensures) in
+    let e : getD (cuts s) (t .k) 0 ≡ c .before .before .wide .result = n .at-end ∙ sym (c .before .before .wide .ensures .0) in
     record {
       rise = rw e at (n .rest);
       top = rw e at (n .top);

@@ -48,8 +48,8 @@ loop-holds c =
     record {
       prev = a .at;
       within = c .before .before .pre .1;
-      is = c .wide .ensures;
-      same = λ g s b. walk-start g (a .line .now) (a .at) (a .end) (c .before .before .pre .1) (omega arith) ∙ rw (c .wide .ensures) refl;
+      is = c .wide .ensures .0;
+      same = λ g s b. walk-start g (a .line .now) (a .at) (a .end) (c .before .before .pre .1) (omega arith) ∙ rw (c .wide .ensures .0) refl;
     }
 
 mul-wide-2 : tie.Need-mul-wide-2 Inv-loop μ-loop
@@ -65,7 +65,7 @@ beside-requires : tie.Need-beside-requires Inv-loop μ-loop
 beside-requires c κs =
     let s = c .before .before .before .before .before .before in
     let t = c .before .before .before .loop in
-    (omega (arith, t .inv .is, s .pre .4 (t .inv .prev) (t .inv .within)), omega (arith, c .wide2 .ensures, s .pre .4 (t .k) (omega arith)), s .pre .3)
+    (omega (arith, t .inv .is, s .pre .4 (t .inv .prev) (t .inv .within)), omega (arith, c .wide2 .ensures .0, s .pre .4 (t .k) (omega arith)), s .pre .3)
 
 add-k-2 : tie.Need-add-k-2 Inv-loop μ-loop
 add-k-2 c = search needs
@@ -79,7 +79,7 @@ loop-again c =
     let t = c .before .before .before .before .before .loop in
     let line = s .args .line .now in
     let j = c .before .before .wide2 .result in
-    let e : j ≡ getD line (t .k) 0 = c .before .before .wide2 .ensures in
+    let e : j ≡ getD line (t .k) 0 = c .before .before .wide2 .ensures .0 in
     let lt : t .k < s .args .end = c .before .before .before .before .loop-test .taken in
     let long : s .args .end ≤ length line = omega arith in
     record {

@@ -44,7 +44,7 @@ returns : tie.Need-returns Inv-loop μ-loop
 returns c =
     let s = c .before .before .before .before .before in
     let t = c .before .before .before .before .loop in
-    let q : getD (listed s) (t .k) 0 ≡ c .before .wide .result = at-next s (t .k) (omega arith) ∙ sym (c .before .wide .ensures) in
+    let q : getD (listed s) (t .k) 0 ≡ c .before .wide .result = at-next s (t .k) (omega arith) ∙ sym (c .before .wide .ensures .0) in
     (marking-off (t .inv) (below s (t .k) (omega arith)) (omega (arith, q, c .if1 .taken)), λ z. absurd (false≢true z))
 
 element-copy-out-if2 : tie.Need-element-copy-out-if2 Inv-loop μ-loop
@@ -54,7 +54,7 @@ returns-2 : tie.Need-returns-2 Inv-loop μ-loop
 returns-2 c =
     let s = c .before .before .before .before .before .before .before in
     let t = c .before .before .before .before .before .before .loop in
-    let q : getD (listed s) (t .k) 0 ≡ c .before .before .before .wide .result = at-next s (t .k) (omega arith) ∙ sym (c .before .before .before .wide .ensures) in (
+    let q : getD (listed s) (t .k) 0 ≡ c .before .before .before .wide .result = at-next s (t .k) (omega arith) ∙ sym (c .before .before .before .wide .ensures .0) in (
       marking-twice (t .inv) (below s (t .k) (omega arith)) (omega (arith, q, c .before .before .if1 .left)) (s .pre .3) (rw q (c .if2 .taken)),
       λ z. absurd (false≢true z),
     )
@@ -72,7 +72,7 @@ loop-again : tie.Need-loop-again Inv-loop μ-loop
 loop-again c =
     let s = c .before .before .before .before .before .before .before in
     let t = c .before .before .before .before .before .before .loop in
-    let q : getD (listed s) (t .k) 0 ≡ c .before .before .before .wide .result = at-next s (t .k) (omega arith) ∙ sym (c .before .before .before .wide .ensures) in
+    let q : getD (listed s) (t .k) 0 ≡ c .before .before .before .wide .result = at-next s (t .k) (omega arith) ∙ sym (c .before .before .before .wide .ensures .0) in
     rw q at (marking-more (t .inv) (below s (t .k) (omega arith)) (omega (arith, q, c .before .before .if1 .left)) (s .pre .3) (rw q (c .if2 .left)))
 
 returns-3 : tie.Need-returns-3 Inv-loop μ-loop

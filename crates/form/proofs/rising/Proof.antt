@@ -47,7 +47,7 @@ loop-again c =
     let l = take (s .args .count) (s .args .ends .now) in
     let len : length l ≡ s .args .count = length-take-le (s .args .count) (s .args .ends .now) (omega arith) in
     let lt : t .k < length l = omega arith in
-    let q : getD l (t .k) 0 ≡ c .before .wide .result = getD-take (s .args .count) (s .args .ends .now) (t .k) 0 (omega arith) ∙ sym (c .before .wide .ensures) in (
+    let q : getD l (t .k) 0 ≡ c .before .wide .result = getD-take (s .args .count) (s .args .ends .now) (t .k) 0 (omega arith) ∙ sym (c .before .wide .ensures .0) in (
       ⊎-elim
           (λ w. rw (w .1) (rise-fail l (t .rise) (t .last) (t .k) lt (t .inv .0) (omega (arith, q, w .0 .taken))))
           (λ w. rw (w .1) (rw q at (rise-on l (t .rise) (t .last) (t .k) lt (t .inv .0) (omega (arith, q, w .0 .left)))))

@@ -1,4 +1,4 @@
-use Prim.Native.Nat.{ℕ, _+_, _-_, _*_, _≤_, _<_}
+use Prim.Native.Nat.{ℕ, _+_, _-_, _*_, _≤_}
 use native.Mathlib.Omega.{arith}
 use mathlib.Core.Path.{_≡_, refl, sym, ap, subst, _∙_}
 use mathlib.Core.List.{List}
@@ -15,7 +15,7 @@ use Rattle.literals.proofs.BufferLaws.{wrote-length}
 use Rattle.literals.proofs.Findings.{lent, wrote-part}
 use Rattle.growth.proofs.PairChecks.{block-in}
 use Rattle.growth.proofs.PairFinds.{no-gap, gap-found}
-use Rattle.growth.proofs.PairNames.{scene-name, scene-kind}
+use Rattle.growth.proofs.PairNames.{scene-kind, last-cell, cur-cell, last-name, cur-name}
 use Rattle.growth.proofs.PairSizes.{reach-few, parts-few, most-low}
 use Rattle.literals.proofs.Pass.{each-length, slice-short}
 use borrow.Author.Needs.{needs}
@@ -24,20 +24,6 @@ use Rattle.fourth.proofs.check_gap.Tie as tie
 
 small : (c : tie.Start) → c .args .h * c .args .w ≤ 1024
 small c = area (c .args .h) (c .args .w) (c .pre .0 .tall) (c .pre .0 .wide)
-
--- the two squares' places hold cells
-last-cell : (c : tie.Start) → getD (c .args .arrows .now) (c .args .last) 0 < 1024
-last-cell c = c .pre .1 .line .places .cells (c .args .last)
-
-cur-cell : (c : tie.Start) → getD (c .args .arrows .now) (c .args .cur) 0 < 1024
-cur-cell c = c .pre .1 .line .places .cells (c .args .cur)
-
--- the names of their blocks are cells of the grid
-last-name : (c : tie.Start) → getD (c .args .owners .now) (getD (c .args .arrows .now) (c .args .last) 0) 0 < c .args .h * c .args .w
-last-name c = let p = c .pre .1 in scene-name (p .line .scene) (c .args .last) (omega arith) (omega (arith, p .order)) (p .first)
-
-cur-name : (c : tie.Start) → getD (c .args .owners .now) (getD (c .args .arrows .now) (c .args .cur) 0) 0 < c .args .h * c .args .w
-cur-name c = let p = c .pre .1 in scene-name (p .line .scene) (c .args .cur) (omega (arith, p .order)) (omega arith) (p .second)
 
 -- the size of the reach of the last square's block
 reached : (c : tie.After-count-reach) (lines : List (List ℕ)) → Scene (c .before .before .before .before .before .before .before .before .args .h) (c .before .before .before .before .before .before .before .before .args .w) lines (c .before .before .before .before .before .before .before .before .args .cells .now) (c .before .before .before .before .before .before .before .before .args .arrows .now) (c .before .before .before .before .before .before .before .before .args .kinds .now) (c .before .before .before .before .before .before .before .before .args .owners .now) (c .before .before .before .before .before .before .before .before .args .last) (c .before .before .before .before .before .before .before .before .args .cur + 1)
@@ -81,13 +67,13 @@ element-copy-out-cell : tie.Need-element-copy-out-cell
 element-copy-out-cell c = search needs
 
 cast-cell : tie.Need-cast-cell
-cast-cell c = omega (arith, last-cell (c .before .before))
+cast-cell c = omega (arith, last-cell (c .before .before .pre .1))
 
 mul-last-block : tie.Need-mul-last-block
-mul-last-block c = omega (arith, last-cell (c .before .before))
+mul-last-block c = omega (arith, last-cell (c .before .before .pre .1))
 
 element-copy-out-last-block : tie.Need-element-copy-out-last-block
-element-copy-out-last-block c = omega (arith, last-cell (c .before .before))
+element-copy-out-last-block c = omega (arith, last-cell (c .before .before .pre .1))
 
 mul-block : tie.Need-mul-block
 mul-block c = search needs
@@ -96,19 +82,19 @@ element-copy-out-block : tie.Need-element-copy-out-block
 element-copy-out-block c = search needs
 
 cast-block : tie.Need-cast-block
-cast-block c = omega (arith, cur-cell (c .before .before .before .before))
+cast-block c = omega (arith, cur-cell (c .before .before .before .before .pre .1))
 
 mul-block-2 : tie.Need-mul-block-2
-mul-block-2 c = omega (arith, cur-cell (c .before .before .before .before))
+mul-block-2 c = omega (arith, cur-cell (c .before .before .before .before .pre .1))
 
 element-copy-out-block-2 : tie.Need-element-copy-out-block-2
-element-copy-out-block-2 c = omega (arith, cur-cell (c .before .before .before .before))
+element-copy-out-block-2 c = omega (arith, cur-cell (c .before .before .before .before .pre .1))
 
 count-reach-requires : tie.Need-count-reach-requires
 count-reach-requires c κs =
     let s = c .before .before .before .before .before .before .before in
     let p = s .pre in
-    (record { tall = p .0 .tall; wide = p .0 .wide }, p .2 .chains, omega (arith, last-name s, small s), p .3)
+    (record { tall = p .0 .tall; wide = p .0 .wide }, p .2 .chains, omega (arith, last-name (s .pre .1), small s), p .3)
 
 add-gap-count : tie.Need-add-gap-count
 add-gap-count c = search needs
@@ -123,7 +109,7 @@ count-block-requires : tie.Need-count-block-requires
 count-block-requires c κs =
     let s = c .before .before .before .before .before .before .before .before .before in
     let a = s .args in
-    (record { owners = a .owners .now; size = a .h * a .w; chains = s .pre .2 .chains }, omega (arith, cur-name s, small s))
+    (record { owners = a .owners .now; size = a .h * a .w; chains = s .pre .2 .chains }, omega (arith, cur-name (s .pre .1), small s))
 
 add-if1 : tie.Need-add-if1
 add-if1 c = omega (arith, reach-low (c .before .before))

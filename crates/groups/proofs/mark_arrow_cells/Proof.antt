@@ -31,7 +31,7 @@ element-write-marks : tie.Need-element-write-marks Inv-loop μ-loop
 element-write-marks c =
     let a = c .before .before .before .before .before in
     let k = c .before .before .before .loop .k in
-    omega (arith, c .wide .ensures, a .pre .cells k (c .before .before .loop-test .taken))
+    omega (arith, c .wide .ensures .0, a .pre .cells k (c .before .before .loop-test .taken))
 
 add-k : tie.Need-add-k Inv-loop μ-loop
 add-k c = search needs
@@ -44,7 +44,7 @@ loop-again c =
     let a = c .before .before .before .before .before in
     let k = c .before .before .before .loop .k in
     let v = c .before .before .before .loop .inv in
-    (omega arith, rw (v .1, c .wide .ensures) (marks-more (a .args .arrows .now) k (omega (arith, a .pre .long)) (a .pre .cells k (c .before .before .loop-test .taken))))
+    (omega arith, rw (v .1, c .wide .ensures .0) (marks-more (a .args .arrows .now) k (omega (arith, a .pre .long)) (a .pre .cells k (c .before .before .loop-test .taken))))
 
 returns : tie.Need-returns Inv-loop μ-loop
 returns c =

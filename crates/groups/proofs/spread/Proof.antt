@@ -18,7 +18,7 @@ abbrev μ-loop : tie.MeasureT-loop
 
 -- the row and the column of the cell that is taken
 place : (c : tie.After-wide Inv-loop μ-loop) → InPlace (c .before .before .args .h) (c .before .before .args .w) (c .wide .result / c .before .before .args .w) (c .wide .result % c .before .before .args .w)
-place c = top (c .before .before .pre) (c .wide .ensures)
+place c = top (c .before .before .pre) (c .wide .ensures .0)
 
 sub-waiting : tie.Need-sub-waiting Inv-loop μ-loop
 sub-waiting c = search needs
@@ -62,7 +62,7 @@ returns c =
     let l = c .before .loop in
     let e = c .before .before in
     let all : l .k ≡ 4 = omega (arith, l .inv .1, c .loop-test .left) in
-    λ p. spread-does (e .before .before .pre) (e .wide .ensures) (rw all at (l .inv .0 p))
+    λ p. spread-does (e .before .before .pre) (e .wide .ensures .0) (rw all at (l .inv .0 p))
 
 pub spread-spec : {M : Type 1} → statement M
 spread-spec =

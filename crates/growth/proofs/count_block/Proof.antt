@@ -6,7 +6,8 @@ use mathlib.Core.List.{List, [], _∷_, _++_}
 use lib.ListN.{length}
 use Rattle.grid.specs.Lists.{filter}
 use Rattle.reach.specs.Chains.{Chains}
-use Rattle.shift.proofs.ChainWalks.{Walk, walk-start, walk-few, walk-high, walk-more, walk-less, walk-end, blockOf, block-few, block-all, count-in, count-out}
+use Rattle.reach.proofs.ChainWalks.{Walk, walk-start, walk-few, walk-high, walk-more, walk-less, walk-end}
+use Rattle.shift.proofs.Passed.{blockOf, block-few, block-all, count-in, count-out}
 use borrow.Author.Needs.{needs}
 use Rattle.growth.proofs.count_block.Statement.{statement}
 use Rattle.growth.proofs.count_block.Tie as tie

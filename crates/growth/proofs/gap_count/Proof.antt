@@ -30,7 +30,7 @@ wide-requires : tie.Need-wide-requires Inv-loop μ-loop
 wide-requires c κs = search needs
 
 element-copy-out-if1 : tie.Need-element-copy-out-if1 Inv-loop μ-loop
-element-copy-out-if1 c = omega (arith, c .wide .ensures, c .before .before .before .before .pre .1 .cells (c .before .before .before .loop .k))
+element-copy-out-if1 c = omega (arith, c .wide .ensures .0, c .before .before .before .before .pre .1 .cells (c .before .before .before .loop .k))
 
 add-count : tie.Need-add-count Inv-loop μ-loop
 add-count c = search needs
@@ -46,7 +46,7 @@ loop-again c =
     let a = c .before .before .before .before .before .before in
     let k = c .before .before .before .before .before .loop .k in
     let p = a .pre .1 in
-    let u : getD (a .args .cells .now) (getD (a .args .arrows .now) k 0) 0 ≡ 2 = rw (← c .before .before .wide .ensures) (c .if1 .taken) in
+    let u : getD (a .args .cells .now) (getD (a .args .arrows .now) k 0) 0 ≡ 2 = rw (← c .before .before .wide .ensures .0) (c .if1 .taken) in
     (omega (arith, part-taken (a .args .cells .now) (a .args .arrows .now) k (a .args .to) (omega arith) (omega (arith, p .long)) u), omega arith)
 
 add-k-2 : tie.Need-add-k-2 Inv-loop μ-loop
@@ -60,7 +60,7 @@ loop-again-2 c =
     let a = c .before .before .before .before .before .before in
     let k = c .before .before .before .before .before .loop .k in
     let p = a .pre .1 in
-    let u : getD (a .args .cells .now) (getD (a .args .arrows .now) k 0) 0 ≡ 2 → ⊥ = rw (← c .before .before .wide .ensures) (c .if1 .left) in
+    let u : getD (a .args .cells .now) (getD (a .args .arrows .now) k 0) 0 ≡ 2 → ⊥ = rw (← c .before .before .wide .ensures .0) (c .if1 .left) in
     (omega (arith, part-passed (a .args .cells .now) (a .args .arrows .now) k (a .args .to) (omega arith) (omega (arith, p .long)) u, ap (λ (j : ℕ). mostApart (a .args .cells .now) false (slice j (a .args .to) (a .args .arrows .now))) (add-one k)), omega arith)
 
 returns : tie.Need-returns Inv-loop μ-loop

@@ -47,7 +47,7 @@ wide-requires c κs = search needs
 element-copy-out-push : tie.Need-element-copy-out-push Inv-loop μ-loop
 element-copy-out-push c =
     let a = c .before .before .before .before .before .before in
-    omega (arith, c .before .wide .ensures, a .pre .1 .cells (c .before .before .before .before .loop .k))
+    omega (arith, c .before .wide .ensures .0, a .pre .1 .cells (c .before .before .before .before .loop .k))
 
 push-requires : tie.Need-push-requires Inv-loop μ-loop
 push-requires c κs =
@@ -56,7 +56,7 @@ push-requires c κs =
     let i< = c .before .before .before .before .loop-test .taken in
     let few = fewer (s .inv) in
     let long = wrote-length (s .inv .wrote) (omega (arith, few, i<, a .pre .2)) in
-    (omega (arith, few, long, i<, a .pre .2), omega (arith, c .before .before .wide .ensures, a .pre .1 .cells (s .k)), omega arith)
+    (omega (arith, few, long, i<, a .pre .2), omega (arith, c .before .before .wide .ensures .0, a .pre .1 .cells (s .k)), omega arith)
 
 add-k : tie.Need-add-k Inv-loop μ-loop
 add-k c = search needs
@@ -72,7 +72,7 @@ loop-again c =
     let i< = c .before .before .before .before .before .before .before .loop-test .taken in
     let w = c .before .before .before .before .before .wide in
     let p = c .before .before .push in
-    let e = w .ensures in
+    let e = w .ensures .0 in
     record {
       low = omega (arith, s .inv .low);
       high = omega (arith, i<);

@@ -32,7 +32,7 @@ returns-2 c =
     let s = c .before .before .before in
     let n = s .args .number in
     let e : suc (n - 1) ≡ n = omega arith in
-    c .wide .ensures
+    c .wide .ensures .0
     ∙ sym (last-taken (s .args .ends .now) (n - 1) (omega arith))
     ∙ ap (λ (k : ℕ). last 0 (take k (s .args .ends .now))) e
 

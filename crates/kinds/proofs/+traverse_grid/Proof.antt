@@ -8,8 +8,10 @@ use mathlib.Core.Path.{refl}
 use mathlib.Core.Bool.{Bool, true, So}
 use Prim.Native.Nat.{_≤_, _-_, ℕ, _<_}
 use Rattle.grid.specs.Side.{sized}
-use Rattle.kinds.specs.Inside.{free, OnlyUnnamed}
-use Rattle.kinds.proofs.Traversal.{Turn, free-set, only-set, grown-only, walked-not, turn-none, turn-more, turn-all}
+use Rattle.groups.specs.Flood.{free}
+use Rattle.groups.proofs.FloodLaws.{free-set}
+use Rattle.kinds.specs.Inside.{OnlyUnnamed}
+use Rattle.kinds.proofs.Traversal.{Turn, only-set, grown-only, walked-not, turn-none, turn-more, turn-all}
 use Rattle.grid.proofs.SideLaws.{in-place, cell-small, some-wide}
 use Rattle.grid.proofs.AroundLaws.{gathered, side-adjacent, side-cell, side-at, side-off, sides-none, sides-all}
 use borrow.Fn.Kinds.{In}

@@ -53,6 +53,7 @@ use Rattle.board.proofs.Board.decide as callee
 use Rattle.board.proofs.Board.decide.Symbol as callee-def
 use Rattle.board.proofs.Board.decide.Symbol.{name as #callee}
 use Rattle.board.proofs.Board.decide.Met as callee-thm
+use Rattle.lent.proofs.Values.{valB, knownR, knownB}
 use Rattle.lent.proofs.decide_in.Key.{name as #self}
 use Rattle.lent.proofs.decide_in as self
 use Rattle.lent.proofs.decide_in.Statement as stated
@@ -60,20 +61,6 @@ use Rattle.lent.proofs.decide_in.Code as code
 
 abbrev stayed : Stays (self.ended .signature .params) (self.ended .kept)
 stayed = (stay-ref (0 ∷ []) tt (plain (λ _. B.the-row)), (stay-none (λ _. usize) yes, (stay-none (λ _. u8) yes, tt)))
-
--- the machine values
-abbrev valB : Board → Val
-valB = SL.val B.the-type B′.the-laws
-
-abbrev valD : Decided → Val
-valD = SL.val D.the-type D′.the-laws
-
--- what whoever holds a `Decided` knows of its two fields
-abbrev knownR : (r : Decided) (vs : List Val) → Is D.the-row r vs → Is R.the-row (r .answer) (EL.vals R.the-type R′.the-laws (r .answer))
-knownR r vs is = SL.owed D.the-type D′.the-laws r vs is .0
-
-abbrev knownB : (r : Decided) (vs : List Val) → Is D.the-row r vs → Is B.the-row (r .board) (valB (r .board) ∷ [])
-knownB r vs is = SL.owed D.the-type D′.the-laws r vs is .1 .0
 
 module _ {M : Type 1} (𝓤 : URA M) (H : Heap 𝓤) (A : Atoms 𝓤) (mem″ : Memory → SProp 𝓤) (run : Routine → Fun 𝓤) where
   -- the contract that the proof cites

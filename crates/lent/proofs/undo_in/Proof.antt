@@ -1,4 +1,4 @@
--- `lent::undo_in` meets its contract: a walk of its MIR, by hand. The borrow is opened, the board is copied out and passed to `Board::decide`, the board of the answer is stored over the old one, and the borrow is closed at it.
+-- `lent::undo_in` meets its contract: a walk of its MIR, by hand. The borrow is opened, the board is copied out and passed to `Board::undo`, the board of the answer is stored over the old one, and the borrow is closed at it.
 -- All that the proof knows of `undo` is that it meets its contract.
 -- Assumes nothing.
 use mathlib.Core.Path.{_≡_, refl, ap}
@@ -50,6 +50,7 @@ use Rattle.board.proofs.Board.undo as callee
 use Rattle.board.proofs.Board.undo.Symbol as callee-def
 use Rattle.board.proofs.Board.undo.Symbol.{name as #callee}
 use Rattle.board.proofs.Board.undo.Met as callee-thm
+use Rattle.lent.proofs.Values.{valB, knownR, knownB}
 use Rattle.lent.proofs.undo_in.Key.{name as #self}
 use Rattle.lent.proofs.undo_in as self
 use Rattle.lent.proofs.undo_in.Statement as stated
@@ -57,20 +58,6 @@ use Rattle.lent.proofs.undo_in.Code as code
 
 abbrev stayed : Stays (self.ended .signature .params) (self.ended .kept)
 stayed = (stay-ref (0 ∷ []) tt (plain (λ _. B.the-row)), tt)
-
--- the machine values
-abbrev valB : Board → Val
-valB = SL.val B.the-type B′.the-laws
-
-abbrev valD : Decided → Val
-valD = SL.val D.the-type D′.the-laws
-
--- what whoever holds a `Decided` knows of its two fields
-abbrev knownR : (r : Decided) (vs : List Val) → Is D.the-row r vs → Is R.the-row (r .answer) (EL.vals R.the-type R′.the-laws (r .answer))
-knownR r vs is = SL.owed D.the-type D′.the-laws r vs is .0
-
-abbrev knownB : (r : Decided) (vs : List Val) → Is D.the-row r vs → Is B.the-row (r .board) (valB (r .board) ∷ [])
-knownB r vs is = SL.owed D.the-type D′.the-laws r vs is .1 .0
 
 module _ {M : Type 1} (𝓤 : URA M) (H : Heap 𝓤) (A : Atoms 𝓤) (mem″ : Memory → SProp 𝓤) (run : Routine → Fun 𝓤) where
   -- the contract that the proof cites

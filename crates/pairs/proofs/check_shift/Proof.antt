@@ -1,30 +1,16 @@
-use Prim.Native.Nat.{_*_, _≤_, _<_}
+use Prim.Native.Nat.{_*_, _≤_}
 use native.Mathlib.Omega.{arith}
 use mathlib.Core.Path.{refl, sym, _∙_}
-use lib.ListN.{getD, take}
+use lib.ListN.{take}
 use Rattle.grid.proofs.SideLaws.{area}
 use Rattle.growth.proofs.PairFinds.{no-shift, shift-found}
-use Rattle.growth.proofs.PairNames.{scene-name, scene-kind}
+use Rattle.growth.proofs.PairNames.{scene-kind, last-cell, cur-cell, last-name, cur-name}
 use borrow.Author.Needs.{needs}
 use Rattle.pairs.proofs.check_shift.Statement.{statement}
 use Rattle.pairs.proofs.check_shift.Tie as tie
 
 small : (c : tie.Start) → c .args .h * c .args .w ≤ 1024
 small c = area (c .args .h) (c .args .w) (c .pre .0 .tall) (c .pre .0 .wide)
-
--- the two squares' places hold cells
-last-cell : (c : tie.Start) → getD (c .args .arrows .now) (c .args .last) 0 < 1024
-last-cell c = c .pre .1 .line .places .cells (c .args .last)
-
-cur-cell : (c : tie.Start) → getD (c .args .arrows .now) (c .args .cur) 0 < 1024
-cur-cell c = c .pre .1 .line .places .cells (c .args .cur)
-
--- the names of their blocks are cells of the grid
-last-name : (c : tie.Start) → getD (c .args .owners .now) (getD (c .args .arrows .now) (c .args .last) 0) 0 < c .args .h * c .args .w
-last-name c = let p = c .pre .1 in scene-name (p .line .scene) (c .args .last) (omega arith) (omega (arith, p .order)) (p .first)
-
-cur-name : (c : tie.Start) → getD (c .args .owners .now) (getD (c .args .arrows .now) (c .args .cur) 0) 0 < c .args .h * c .args .w
-cur-name c = let p = c .pre .1 in scene-name (p .line .scene) (c .args .cur) (omega (arith, p .order)) (omega arith) (p .second)
 
 mul-last-block : tie.Need-mul-last-block
 mul-last-block c = search needs
@@ -33,13 +19,13 @@ element-copy-out-last-block : tie.Need-element-copy-out-last-block
 element-copy-out-last-block c = search needs
 
 cast-last-block : tie.Need-cast-last-block
-cast-last-block c = omega (arith, last-cell (c .before .before))
+cast-last-block c = omega (arith, last-cell (c .before .before .pre .1))
 
 mul-last-block-2 : tie.Need-mul-last-block-2
-mul-last-block-2 c = omega (arith, last-cell (c .before .before))
+mul-last-block-2 c = omega (arith, last-cell (c .before .before .pre .1))
 
 element-copy-out-last-block-2 : tie.Need-element-copy-out-last-block-2
-element-copy-out-last-block-2 c = omega (arith, last-cell (c .before .before))
+element-copy-out-last-block-2 c = omega (arith, last-cell (c .before .before .pre .1))
 
 mul-cell : tie.Need-mul-cell
 mul-cell c = search needs
@@ -48,19 +34,19 @@ element-copy-out-cell : tie.Need-element-copy-out-cell
 element-copy-out-cell c = search needs
 
 cast-cell : tie.Need-cast-cell
-cast-cell c = omega (arith, cur-cell (c .before .before .before .before))
+cast-cell c = omega (arith, cur-cell (c .before .before .before .before .pre .1))
 
 mul-block : tie.Need-mul-block
-mul-block c = omega (arith, cur-cell (c .before .before .before .before))
+mul-block c = omega (arith, cur-cell (c .before .before .before .before .pre .1))
 
 element-copy-out-block : tie.Need-element-copy-out-block
-element-copy-out-block c = omega (arith, cur-cell (c .before .before .before .before))
+element-copy-out-block c = omega (arith, cur-cell (c .before .before .before .before .pre .1))
 
 shift-fits-requires : tie.Need-shift-fits-requires
 shift-fits-requires c κs =
     let s = c .before .before .before .before .before .before .before .before .before in
     let p = s .pre in
-    (record { tall = p .0 .tall; wide = p .0 .wide }, p .2, last-name s, omega (arith, cur-name s, small s), p .3)
+    (record { tall = p .0 .tall; wide = p .0 .wide }, p .2, last-name (s .pre .1), omega (arith, cur-name (s .pre .1), small s), p .3)
 
 returns : tie.Need-returns
 returns c =

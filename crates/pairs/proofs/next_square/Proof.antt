@@ -36,7 +36,7 @@ wide-requires : tie.Need-wide-requires Inv-loop μ-loop
 wide-requires c κs = search needs
 
 element-copy-out-if1 : tie.Need-element-copy-out-if1 Inv-loop μ-loop
-element-copy-out-if1 c = omega (arith, c .wide .ensures, c .before .before .before .before .pre .2 .cells (c .before .before .before .loop .k))
+element-copy-out-if1 c = omega (arith, c .wide .ensures .0, c .before .before .before .before .pre .2 .cells (c .before .before .before .loop .k))
 
 returns : tie.Need-returns Inv-loop μ-loop
 unfolding square
@@ -47,7 +47,7 @@ returns c =
       low = s .inv .low;
       high = s .inv .high;
       none = λ j l h. s .inv .passed j h l;
-      some = λ _. eq-eqb (getD (a .cells .now) (getD (a .arrows .now) (s .k) 0) 0) 1 (rw (← c .before .before .wide .ensures) (c .if1 .taken));
+      some = λ _. eq-eqb (getD (a .cells .now) (getD (a .arrows .now) (s .k) 0) 0) 1 (rw (← c .before .before .wide .ensures .0) (c .if1 .taken));
     }
 
 add-k : tie.Need-add-k Inv-loop μ-loop
@@ -64,7 +64,7 @@ loop-again c =
     record {
       low = omega (arith, s .inv .low);
       high = omega (arith, c .before .before .before .before .loop-test .taken);
-      passed = below-more _ (s .k) (s .inv .passed) (λ _. ne-eqb (getD (a .cells .now) (getD (a .arrows .now) (s .k) 0) 0) 1 (rw (← c .before .before .wide .ensures) (c .if1 .left)));
+      passed = below-more _ (s .k) (s .inv .passed) (λ _. ne-eqb (getD (a .cells .now) (getD (a .arrows .now) (s .k) 0) 0) 1 (rw (← c .before .before .wide .ensures .0) (c .if1 .left)));
     }
 
 returns-2 : tie.Need-returns-2 Inv-loop μ-loop

@@ -48,7 +48,7 @@ search-arrow-requires c κs =
     let n = s .args in
     let l = c .before .before .before .before .before .before .before .before .loop in
     let within = c .before .before .before .before .before .before .before .loop-test .taken in
-    let e = c .before .before .before .before .before .wide .ensures in
+    let e = c .before .before .before .before .before .wide .ensures .0 in
     (record { tall = s .pre .0 .tall; wide = s .pre .0 .wide; room = rw (l .inv .same) (s .pre .0 .room) }, rw e (next-line (s .pre .1) (l .from) (l .a) within (l .inv .sub) (l .inv .rise within)), s .pre .2, l .inv .work)
 
 enum-told : tie.Need-enum-told Inv-loop μ-loop
@@ -66,7 +66,7 @@ loop-again c =
     let n = s .args in
     let l = c .before .before .before .before .before .before .before .before .before .before .before .before .before .loop in
     let within = c .before .before .before .before .before .before .before .before .before .before .before .before .loop-test .taken in
-    let e = c .before .before .before .before .before .before .before .before .before .before .wide .ensures in
+    let e = c .before .before .before .before .before .before .before .before .before .before .wide .ensures .0 in
     let search1 = c .before .before .before .before .search-arrow .ensures in
     let found = rw (e, c .enum-told .given .1) at (search1 .0 (linesOf (n .arrows .now) (n .ends .now) (n .number)) (rw e (next-scene (s .pre .1) (l .from) (l .a) within (l .inv .sub) (l .inv .rise within)))) in
     record {
@@ -90,7 +90,7 @@ returns c =
     let n = s .args in
     let l = c .before .before .before .before .before .before .before .before .before .before .before .before .before .before .loop in
     let within = c .before .before .before .before .before .before .before .before .before .before .before .before .before .loop-test .taken in
-    let e = c .before .before .before .before .before .before .before .before .before .before .before .wide .ensures in
+    let e = c .before .before .before .before .before .before .before .before .before .before .before .wide .ensures .0 in
     let search1 = c .before .before .before .before .before .search-arrow .ensures in
     let found = rw (e, c .before .finding .given .1) at (search1 .0 (linesOf (n .arrows .now) (n .ends .now) (n .number)) (rw e (next-scene (s .pre .1) (l .from) (l .a) within (l .inv .sub) (l .inv .rise within)))) in
     (rw (l .inv .passed) (rw (l .inv .same) at (rest-found (reasonAt (n .fourth) (viewOn (n .h) (n .w) (linesOf (n .arrows .now) (n .ends .now) (n .number)) (n .cells .now))) (take (n .h * n .w) (n .cells .now)) (n .arrows .now) (n .ends .now) (n .number) (l .from) (l .a) within (s .pre .1 .ends-long) found)), search1 .1)
@@ -107,7 +107,7 @@ returns-2 c =
     let n = s .args in
     let l = c .before .before .before .before .before .before .before .before .before .before .before .before .before .before .loop in
     let within = c .before .before .before .before .before .before .before .before .before .before .before .before .before .loop-test .taken in
-    let e = c .before .before .before .before .before .before .before .before .before .before .before .wide .ensures in
+    let e = c .before .before .before .before .before .before .before .before .before .before .before .wide .ensures .0 in
     let search1 = c .before .before .before .before .before .search-arrow .ensures in
     let found = rw (e, c .before .finding2 .given .1) at (search1 .0 (linesOf (n .arrows .now) (n .ends .now) (n .number)) (rw e (next-scene (s .pre .1) (l .from) (l .a) within (l .inv .sub) (l .inv .rise within)))) in
     (absurd (not-refused _ found), search1 .1)

@@ -5,7 +5,8 @@ use native.Mathlib.Omega.{arith}
 use borrow.Author.Needs.{needs}
 use Rattle.grid.specs.Grid.{size}
 use Rattle.grid.specs.Side.{sized}
-use Rattle.grid.proofs.Turns.{in-size, size-small}
+use Rattle.grid.proofs.Turns.{in-size}
+use Rattle.grid.proofs.GridLaws.{size-most}
 use Rattle.units.proofs.Breadth.{Run, run-first, run-cell, run-below, run-more, run-done, fill-length, fill-at}
 use Rattle.paths.proofs.breadth_first.Statement.{statement}
 use Rattle.paths.proofs.breadth_first.Tie as tie
@@ -43,7 +44,7 @@ loop-holds c =
     let a = c .before .before in
     let o = a .pre .0 in
     let n = a .args .h * a .args .w in
-    let small = size-small (o .tall) (o .wide) in
+    let small = size-most (sized (a .args .h) (a .args .w)) (o .tall) (o .wide) in
     let e = c .reset .ensures in
     let l = a .args .from .now in
     run-first (sized (a .args .h) (a .args .w)) (a .args .cells .now) (a .args .b) (a .args .order .now) (c .reset .last .0) (a .pre .2) (rw e (fill-length l n 1024 (omega (arith, a .pre .3, area _ _ (o .tall) (o .wide))) ∙ a .pre .3)) (a .pre .1) (in-size o) small (λ i i<. rw e (fill-at l n 1024 i i<))
@@ -63,7 +64,7 @@ add-t c =
     let o = a .pre .0 in
     let s = c .before .before .before .before .loop in
     let h = c .before .before .before .loop-test .taken in
-    omega (arith, run-below (sized (a .args .h) (a .args .w)) (a .args .cells .now) (a .args .b) (s .inv) h, size-small (o .tall) (o .wide))
+    omega (arith, run-below (sized (a .args .h) (a .args .w)) (a .args .cells .now) (a .args .b) (s .inv) h, size-most (sized (a .args .h) (a .args .w)) (o .tall) (o .wide))
 
 loop-less : tie.Need-loop-less Inv-loop μ-loop
 unfolding size

@@ -53,7 +53,7 @@ returns c =
     let F = kept .ensures in
     let first = kept .last .1 .1 .1 .0 in
     let second = kept .last .1 .1 .1 .1 .0 in
-    (λ p cells B e. rw (c .wide2 .ensures, c .before .before .wide .ensures) (subst (λ (m : Name). Crossing p cells (endsAt first second m)) (sym (k .before .before .before .first-crossed .ensures) ∙ k .before .name .given .1) (crossing-is p cells (a .args .blocks .now) (a .args .onarrow .now) (a .args .n) first second (a .pre .0) e B F)), (F .first-long, F .second-long))
+    (λ p cells B e. rw (c .wide2 .ensures .0, c .before .before .wide .ensures .0) (subst (λ (m : Name). Crossing p cells (endsAt first second m)) (sym (k .before .before .before .first-crossed .ensures) ∙ k .before .name .given .1) (crossing-is p cells (a .args .blocks .now) (a .args .onarrow .now) (a .args .n) first second (a .pre .0) e B F)), (F .first-long, F .second-long))
 
 returns-2 : tie.Need-returns-2
 returns-2 c =

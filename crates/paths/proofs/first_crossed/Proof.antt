@@ -1,6 +1,6 @@
 use mathlib.Core.Logic.{⊎-elim}
-use mathlib.Core.Path.{_≡_, refl, sym, _∙_}
-use mathlib.Core.Bool.{Bool, true, false, _&&_, not}
+use mathlib.Core.Path.{_≡_, sym, _∙_, ap}
+use mathlib.Core.Bool.{Bool, false, _&&_, not}
 use mathlib.Core.List.{List}
 use Prim.Native.Nat.{ℕ, _-_, _≤_}
 use native.Mathlib.Omega.{arith}
@@ -10,23 +10,13 @@ use borrow.Author.Needs.{needs}
 use borrow.Author.Tests.{eq-eqb, ne-eqb}
 use Rattle.grid.specs.Lists.{range, upto}
 use Rattle.units.specs.Arrays.{firstName}
-use Rattle.units.proofs.Ranks.{first-start, first-hit, first-miss, first-end}
+use Rattle.units.proofs.Ranks.{first-start, first-hit, first-miss, first-end, named, not-named}
 use Rattle.paths.proofs.first_crossed.Statement.{statement}
 use Rattle.paths.proofs.first_crossed.Tie as tie
 
 -- f names a block that has a second arrow cell
 abbrev test : List ℕ → List ℕ → ℕ → Bool
 test blocks second f = eqb (getD blocks f 0) f && not (eqb (getD second f 0) 1024)
-
-module _ (blocks second : List ℕ) (f : ℕ) where
-  crossed : getD blocks f 0 ≡ f → (getD second f 0 ≡ 1024 → ⊥) → test blocks second f ≡ true
-  crossed e h = rw (eq-eqb (getD blocks f 0) f e, ne-eqb (getD second f 0) 1024 h) refl
-
-  alone : getD blocks f 0 ≡ f → getD second f 0 ≡ 1024 → test blocks second f ≡ false
-  alone e h = rw (eq-eqb (getD blocks f 0) f e, eq-eqb (getD second f 0) 1024 h) refl
-
-  unnamed : (getD blocks f 0 ≡ f → ⊥) → test blocks second f ≡ false
-  unnamed h = rw (ne-eqb (getD blocks f 0) f h) refl
 
 abbrev Inv-loop : tie.InvT-loop
 Inv-loop blocks second n f₀ f = (f ≤ n) × (firstName (test blocks second) (upto n) ≡ firstName (test blocks second) (range f (n - f)))
@@ -57,8 +47,8 @@ returns c =
     let a = c .before .before .before .before .before .before .before .args in
     let s = c .before .before .before .before .before .before .loop in
     let t = test (a .blocks .now) (a .second .now) in
-    let own : getD (a .blocks .now) (s .f) 0 ≡ s .f = sym (c .before .before .before .wide .ensures) ∙ c .before .before .if1 .taken in
-    sym (s .inv .1 ∙ first-hit t (a .n) (s .f) (c .before .before .before .before .before .loop-test .taken) (crossed (a .blocks .now) (a .second .now) (s .f) own (c .if2 .taken)))
+    let own : getD (a .blocks .now) (s .f) 0 ≡ s .f = sym (c .before .before .before .wide .ensures .0) ∙ c .before .before .if1 .taken in
+    sym (s .inv .1 ∙ first-hit t (a .n) (s .f) (c .before .before .before .before .before .loop-test .taken) (named (a .blocks .now) (s .f) _ own ∙ ap not (ne-eqb (getD (a .second .now) (s .f) 0) 1024 (c .if2 .taken))))
 
 add-f : tie.Need-add-f Inv-loop μ-loop
 add-f c = search needs
@@ -71,10 +61,10 @@ loop-again c =
     let a = c .before .before .before .before .before .args in
     let s = c .before .before .before .before .loop in
     let t = test (a .blocks .now) (a .second .now) in
-    let e = c .before .wide .ensures in
+    let e = c .before .wide .ensures .0 in
     let no : t (s .f) ≡ false = ⊎-elim
-    (λ w. alone (a .blocks .now) (a .second .now) (s .f) (sym e ∙ w .0 .taken) (w .2 .left))
-    (λ w. unnamed (a .blocks .now) (a .second .now) (s .f) (λ z. w .left (e ∙ z)))
+    (λ w. named (a .blocks .now) (s .f) _ (sym e ∙ w .0 .taken) ∙ ap not (eq-eqb (getD (a .second .now) (s .f) 0) 1024 (w .2 .left)))
+    (λ w. not-named (a .blocks .now) (s .f) _ (λ z. w .left (e ∙ z)))
     (c .if1 .came) in
     (omega (arith, c .before .before .before .loop-test .taken), s .inv .1 ∙ first-miss t (a .n) (s .f) (c .before .before .before .loop-test .taken) no)
 

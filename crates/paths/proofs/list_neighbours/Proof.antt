@@ -1,4 +1,4 @@
-use Rattle.grid.proofs.Turns.{Turn, turn, turn-count, in-size, size-small}
+use Rattle.grid.proofs.Turns.{Turn, turn, turn-count, in-size}
 use mathlib.Core.Path.{_≡_, sym, _∙_, subst}
 use mathlib.Core.List.{List, _++_}
 use Prim.Native.Nat.{ℕ, _+_, _*_, _-_, _≤_, _<_}
@@ -6,7 +6,7 @@ use native.Mathlib.Omega.{arith}
 use lib.ListN.{length, getD, take}
 use Rattle.grid.specs.Grid.{Grid, size, neighbours}
 use Rattle.grid.specs.Side.{sized, aroundOf}
-use Rattle.grid.proofs.GridLaws.{apart}
+use Rattle.grid.proofs.GridLaws.{apart, size-most}
 use Rattle.units.specs.Units.{Entry}
 use Rattle.units.specs.Search.{Listing, Room, Offered}
 use Rattle.units.proofs.Listings.{offered-room, offered-more, offered-take, news, neighbour-offered, news-none, news-all}
@@ -28,7 +28,7 @@ abbrev μ-loop : tie.MeasureT-loop
 
 -- the neighbours are those of the cell at place t
 around-is : (c : tie.At-loop Inv-loop μ-loop) → c .before .before .neighbours .result ≡ aroundOf (sized (c .before .before .before .before .before .args .h) (c .before .before .before .before .before .args .w)) (getD (c .before .before .before .before .before .args .order .now) (c .before .before .before .before .before .args .t) 0)
-around-is c = rw (← c .before .before .before .wide .ensures) (c .before .before .neighbours .ensures)
+around-is c = rw (← c .before .before .before .wide .ensures .0) (c .before .before .neighbours .ensures)
 
 -- .. of which the k-th is next
 turn-at : (c : tie.In-loop Inv-loop μ-loop) → Turn (sized (c .before .before .before .before .before .before .args .h) (c .before .before .before .before .before .before .args .w)) (getD (c .before .before .before .before .before .before .args .order .now) (c .before .before .before .before .before .before .args .t) 0) (c .before .loop .k) (c .before .before .before .neighbours .result)
@@ -44,7 +44,7 @@ wide-requires : tie.Need-wide-requires Inv-loop μ-loop
 wide-requires c κs = tt
 
 neighbours-requires : tie.Need-neighbours-requires Inv-loop μ-loop
-neighbours-requires c κs = rw (c .wide .ensures) (c .before .before .pre .1)
+neighbours-requires c κs = rw (c .wide .ensures .0) (c .before .before .pre .1)
 
 loop-holds : tie.Need-loop-holds Inv-loop μ-loop
 loop-holds c =
@@ -71,8 +71,9 @@ wide-requires-2 c κs = tt
 list-cell-requires : tie.Need-list-cell-requires Inv-loop μ-loop
 list-cell-requires c κs =
     let t = turn-at (c .before .before .before) in
-    let o = c .before .before .before .before .before .before .before .before .before .pre .1 in
-    (omega (arith, c .wide2 .ensures, t .cell, t .on, size-small (o .tall) (o .wide)), c .before .before .before .before .loop .inv .room)
+    let a = c .before .before .before .before .before .before .before .before .before in
+    let o = a .pre .1 in
+    (omega (arith, c .wide2 .ensures .0, t .cell, t .on, size-most (sized (a .args .h) (a .args .w)) (o .tall) (o .wide)), c .before .before .before .before .loop .inv .room)
 
 add-k : tie.Need-add-k Inv-loop μ-loop
 add-k c = let t = turn-at (c .before .before .before .before) in omega (arith, t .four)
@@ -90,9 +91,9 @@ loop-again c =
     let g = sized (a .args .h) (a .args .w) in
     let p = getD (a .args .order .now) (a .args .t) 0 in
     let cells = take (a .args .h * a .args .w) (a .args .cells .now) in
-    let small = size-small (o .tall) (o .wide) in
+    let small = size-most g (o .tall) (o .wide) in
     let p< : p < 1024 = omega (arith, small, in-size o) in
-    let e : c .before .wide2 .result ≡ getD (neighbours g p) (s .k) 0 = c .before .wide2 .ensures ∙ t .cell in
+    let e : c .before .wide2 .result ≡ getD (neighbours g p) (s .k) 0 = c .before .wide2 .ensures .0 ∙ t .cell in
     let off : Offered (a .args .cells .now) (s .from) (s .order) (s .listed) (getD (neighbours g p) (s .k) 0) p (c .list-cell .last .1 .0) (c .list-cell .last .1 .1 .0) (c .list-cell .result) = rw e at (c .list-cell .ensures) in
     record {
       few = omega (arith, t .below);

@@ -9,8 +9,8 @@ use Rattle.grid.specs.Grid.{size}
 use Rattle.grid.specs.Side.{sized}
 use Rattle.grid.specs.Link.{linked-start}
 use Rattle.grid.specs.Cells.{square}
+use Rattle.grid.proofs.GridLaws.{size-most}
 use Rattle.literals.proofs.BufferLaws.{wrote-length}
-use Rattle.grid.proofs.Turns.{size-small}
 use Rattle.units.proofs.Breadth.{square-below}
 use Rattle.paths.proofs.Ways.{Way, way-first, way-below, way-cell, way-mark, way-more, way-done}
 use Rattle.paths.proofs.reason_for_path.Statement.{statement}
@@ -40,7 +40,7 @@ next c =
     record {
       cell-on = way-cell (sized (a .args .h) (a .args .w)) (a .args .cells .now) (a .args .b) (s .inv);
       count-on = k;
-      small = size-small (o .tall) (o .wide);
+      small = size-most (sized (a .args .h) (a .args .w)) (o .tall) (o .wide);
       long = omega (arith, k, a .pre .3, wrote-length (s .inv .wrote) room);
     }
 
@@ -92,7 +92,7 @@ loop-again c =
     let l = c .before .before .before .before .before .breadth-first .ensures in
     let g = sized (a .args .h) (a .args .w) in
     let n = next (c .before .before .before .before) in
-    let e = c .wide .ensures ∙ way-mark g (a .args .cells .now) (a .args .b) (s .inv) l in
+    let e = c .wide .ensures .0 ∙ way-mark g (a .args .cells .now) (a .args .b) (s .inv) l in
     rw (e, c .before .before .literal .ensures) (way-more g (a .args .cells .now) (a .args .b) (s .inv) (c .before .before .before .loop-test .taken) (omega (arith, n .count-on, a .pre .3)))
 
 literal-requires-2 : tie.Need-literal-requires-2 Inv-loop μ-loop

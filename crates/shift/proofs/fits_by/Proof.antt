@@ -63,8 +63,8 @@ lands-in-requires c κs =
       record {
         tall = p .tall;
         wide = p .wide;
-        row = rw (c .before .before .wide .ensures) (p .row k k<);
-        column = rw (c .wide2 .ensures) (p .column k k<);
+        row = rw (c .before .before .wide .ensures .0) (p .row k k<);
+        column = rw (c .wide2 .ensures .0) (p .column k k<);
       },
       rw (toZ-ofZ w32 (a .args .dy) (a .fits .dy)) (a .pre .1),
       rw (toZ-ofZ w32 (a .args .dx) (a .fits .dx)) (a .pre .2),
@@ -75,7 +75,7 @@ unfolding allLand
 returns c =
     let a = c .before .before .before .before .before .before .before .before in
     let k = c .before .before .before .before .before .before .before .loop .k in
-    let out = rw (c .before .before .before .before .wide .ensures, c .before .before .wide2 .ensures, toZ-ofZ w32 (a .args .dy) (a .fits .dy), toZ-ofZ w32 (a .args .dx) (a .fits .dx)) at (c .before .lands-in .ensures) in
+    let out = rw (c .before .before .before .before .wide .ensures .0, c .before .before .wide2 .ensures .0, toZ-ofZ w32 (a .args .dy) (a .fits .dy), toZ-ofZ w32 (a .args .dx) (a .fits .dx)) at (c .before .lands-in .ensures) in
     sym (not-all (test (a .args .h) (a .args .w) (a .args .rows .now) (a .args .columns .now) (reachesAt (a .args .kinds .now) (a .args .owners .now) (a .args .near .now) (a .args .e)) (a .args .dy) (a .args .dx)) (a .args .count) k
     (c .before .before .before .before .before .before .loop-test .taken) (sym out ∙ not-true _ (c .if1 .taken)))
 
@@ -89,7 +89,7 @@ loop-again : tie.Need-loop-again Inv-loop μ-loop
 loop-again c =
     let a = c .before .before .before .before .before .before .before .before in
     let s = c .before .before .before .before .before .before .before .loop in
-    let inside = rw (c .before .before .before .before .wide .ensures, c .before .before .wide2 .ensures) at (c .before .lands-in .ensures) in
+    let inside = rw (c .before .before .before .before .wide .ensures .0, c .before .before .wide2 .ensures .0) at (c .before .lands-in .ensures) in
     record { high = omega (arith, c .before .before .before .before .before .before .loop-test .taken); passed = below-more _ (s .k) (s .inv .passed) (sym inside ∙ not-false _ (c .if1 .left)) }
 
 returns-2 : tie.Need-returns-2 Inv-loop μ-loop

@@ -8,7 +8,8 @@ use Rattle.grid.proofs.ListLaws.{mem-any}
 use Rattle.reach.specs.Chains.{cellsFrom}
 use Rattle.reach.specs.Inside.{reachesAt}
 use Rattle.shift.specs.Shift.{fitsAt}
-use Rattle.shift.proofs.ChainWalks.{Walk, walk-start, walk-in, walk-high, walk-mem, walk-more, walk-less, walk-end, none-more}
+use Rattle.reach.proofs.ChainWalks.{Walk, walk-start, walk-in, walk-high, walk-mem, walk-more, walk-less, walk-end}
+use Rattle.shift.proofs.Passed.{none-more}
 use borrow.Author.Needs.{needs}
 use Rattle.shift.proofs.fits_chain.Statement.{statement}
 use Rattle.shift.proofs.fits_chain.Tie as tie

@@ -7,7 +7,8 @@ use lib.ListN.{getD}
 use Rattle.grid.specs.Lists.{filter}
 use Rattle.reach.specs.Chains.{Chains}
 use Rattle.shift.specs.Shift.{Gathered}
-use Rattle.shift.proofs.ChainWalks.{Walk, walk-start, walk-few, walk-high, walk-more, walk-less, walk-end, blockOf, block-more, block-few, block-all}
+use Rattle.reach.proofs.ChainWalks.{Walk, walk-start, walk-few, walk-high, walk-more, walk-less, walk-end}
+use Rattle.shift.proofs.Passed.{blockOf, block-more, block-few, block-all}
 use Rattle.shift.proofs.Shifts.{gathered-none, gathered-more}
 use borrow.Author.Needs.{needs}
 use Rattle.shift.proofs.gather_block.Statement.{statement}

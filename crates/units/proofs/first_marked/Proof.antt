@@ -1,6 +1,6 @@
 use mathlib.Core.Logic.{⊎-elim}
-use mathlib.Core.Path.{_≡_, refl, sym, _∙_}
-use mathlib.Core.Bool.{Bool, true, false, _&&_}
+use mathlib.Core.Path.{_≡_, sym, _∙_}
+use mathlib.Core.Bool.{Bool, false, _&&_}
 use mathlib.Core.List.{List}
 use Prim.Native.Nat.{ℕ, _-_, _≤_}
 use native.Mathlib.Omega.{arith}
@@ -10,23 +10,13 @@ use borrow.Author.Needs.{needs}
 use borrow.Author.Tests.{eq-eqb, ne-eqb}
 use Rattle.grid.specs.Lists.{range, upto}
 use Rattle.units.specs.Arrays.{firstName}
-use Rattle.units.proofs.Ranks.{first-start, first-hit, first-miss, first-end}
+use Rattle.units.proofs.Ranks.{first-start, first-hit, first-miss, first-end, named, not-named}
 use Rattle.units.proofs.first_marked.Statement.{statement}
 use Rattle.units.proofs.first_marked.Tie as tie
 
 -- f names a group that is marked 1
 abbrev test : List ℕ → List ℕ → ℕ → Bool
 test groups marks f = eqb (getD groups f 0) f && eqb (getD marks f 0) 1
-
-module _ (groups marks : List ℕ) (f : ℕ) where
-  marked : getD groups f 0 ≡ f → getD marks f 0 ≡ 1 → test groups marks f ≡ true
-  marked e h = rw (eq-eqb (getD groups f 0) f e, eq-eqb (getD marks f 0) 1 h) refl
-
-  unmarked : getD groups f 0 ≡ f → (getD marks f 0 ≡ 1 → ⊥) → test groups marks f ≡ false
-  unmarked e h = rw (eq-eqb (getD groups f 0) f e, ne-eqb (getD marks f 0) 1 h) refl
-
-  unnamed : (getD groups f 0 ≡ f → ⊥) → test groups marks f ≡ false
-  unnamed h = rw (ne-eqb (getD groups f 0) f h) refl
 
 abbrev Inv-loop : tie.InvT-loop
 Inv-loop groups marks n f₀ f = (f ≤ n) × (firstName (test groups marks) (upto n) ≡ firstName (test groups marks) (range f (n - f)))
@@ -54,8 +44,8 @@ returns c =
     let a = c .before .before .before .before .before .before .before .args in
     let s = c .before .before .before .before .before .before .loop in
     let t = test (a .groups .now) (a .marks .now) in
-    let own : getD (a .groups .now) (s .f) 0 ≡ s .f = sym (c .before .before .before .wide .ensures) ∙ c .before .before .if1 .taken in
-    sym (s .inv .1 ∙ first-hit t (a .n) (s .f) (c .before .before .before .before .before .loop-test .taken) (marked (a .groups .now) (a .marks .now) (s .f) own (c .if2 .taken)))
+    let own : getD (a .groups .now) (s .f) 0 ≡ s .f = sym (c .before .before .before .wide .ensures .0) ∙ c .before .before .if1 .taken in
+    sym (s .inv .1 ∙ first-hit t (a .n) (s .f) (c .before .before .before .before .before .loop-test .taken) (named (a .groups .now) (s .f) _ own ∙ eq-eqb (getD (a .marks .now) (s .f) 0) 1 (c .if2 .taken)))
 
 add-f : tie.Need-add-f Inv-loop μ-loop
 add-f c = search needs
@@ -68,10 +58,10 @@ loop-again c =
     let a = c .before .before .before .before .before .args in
     let s = c .before .before .before .before .loop in
     let t = test (a .groups .now) (a .marks .now) in
-    let e = c .before .wide .ensures in
+    let e = c .before .wide .ensures .0 in
     let no : t (s .f) ≡ false = ⊎-elim
-    (λ w. unmarked (a .groups .now) (a .marks .now) (s .f) (sym e ∙ w .0 .taken) (w .2 .left))
-    (λ w. unnamed (a .groups .now) (a .marks .now) (s .f) (λ z. w .left (e ∙ z)))
+    (λ w. named (a .groups .now) (s .f) _ (sym e ∙ w .0 .taken) ∙ ne-eqb (getD (a .marks .now) (s .f) 0) 1 (w .2 .left))
+    (λ w. not-named (a .groups .now) (s .f) _ (λ z. w .left (e ∙ z)))
     (c .if1 .came) in
     (omega (arith, c .before .before .before .loop-test .taken), s .inv .1 ∙ first-miss t (a .n) (s .f) (c .before .before .before .loop-test .taken) no)
 

@@ -24,7 +24,7 @@ element-copy-out-result c = search needs
 returns : tie.Need-returns
 returns c =
     let s = c .before .before .before .before in
-    rw (c .before .before .wide .ensures) (stranded-either (s .args .cells .now) (s .args .groups .now) (s .args .marks .now) (s .args .i) (s .pre .1))
+    rw (c .before .before .wide .ensures .0) (stranded-either (s .args .cells .now) (s .args .groups .now) (s .args .marks .now) (s .args .i) (s .pre .1))
 
 pub is-stranded-spec : {M : Type 1} → statement M
 is-stranded-spec =

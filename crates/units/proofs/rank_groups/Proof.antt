@@ -1,9 +1,9 @@
-use mathlib.Core.Path.{_≡_, subst, _∙_}
+use mathlib.Core.Path.{_≡_, subst}
 use Prim.Native.Nat.{ℕ, _-_, _≤_}
 use native.Mathlib.Omega.{arith}
+use lib.ListN.{length-replicate, getD-replicate}
 use borrow.Author.Needs.{needs}
 use Rattle.units.specs.Arrays.{Ranked}
-use Rattle.units.proofs.Breadth.{fill-length, fill-at}
 use Rattle.units.proofs.Ranks.{ranked-none, ranked-more}
 use Rattle.units.proofs.rank_groups.Statement.{statement}
 use Rattle.units.proofs.rank_groups.Tie as tie
@@ -15,16 +15,15 @@ abbrev μ-loop : tie.MeasureT-loop
 μ-loop cells groups onarrow n marks₀ i₀ marks i = n - i
 
 clear-requires : tie.Need-clear-requires Inv-loop μ-loop
-clear-requires c κs = c .before .pre
+clear-requires c κs = search needs
 
 loop-holds : tie.Need-loop-holds Inv-loop μ-loop
 loop-holds c =
     let a = c .before .before in
-    let e = c .clear .ensures in
-    let m = a .args .marks .now in (
+    let e = c .clear .ensures in (
       omega arith,
       ranked-none (a .args .cells .now) (a .args .groups .now) (a .args .onarrow .now) (a .args .n) (c .clear .last .0)
-          (rw e (fill-length m (a .args .n) 0 (omega (arith, a .pre .0, a .pre .1)) ∙ a .pre .1)) (λ f l. rw e (fill-at m (a .args .n) 0 f l)),
+          (rw e (length-replicate {A = ℕ} 1024 0)) (λ f l. rw e (getD-replicate {A = ℕ} 1024 f 0 0 (omega (arith, a .pre .0)))),
     )
 
 mul-wide : tie.Need-mul-wide Inv-loop μ-loop
@@ -53,7 +52,7 @@ loop-again c =
     let a = c .before .before .before .before .before .before .before .before .before in
     let s = c .before .before .before .before .before .before .loop in
     let r = c .before .rank .ensures in
-    let w = c .before .before .wide .ensures in (
+    let w = c .before .before .wide .ensures .0 in (
       omega (arith, c .before .before .before .before .before .loop-test .taken),
       rw (c .raise .ensures, w, r) (ranked-more (a .args .cells .now) (a .args .groups .now) (a .args .onarrow .now) (a .args .n) (s .i) (s .marks) (a .pre .0) (s .inv .1)),
     )

@@ -49,7 +49,7 @@ wide-requires c κs = search needs
 element-write-next : tie.Need-element-write-next
 element-write-next c =
     let e = c .before .before .before in
-    omega (arith, c .wide .ensures, whole-latest (board e) (whole-is (board e) (well e)) (omega (arith, c .before .before .if2 .left)), whole-most (board e) (whole-is (board e) (well e)))
+    omega (arith, c .wide .ensures .0, whole-latest (board e) (whole-is (board e) (well e)) (omega (arith, c .before .before .if2 .left)), whole-most (board e) (whole-is (board e) (well e)))
 
 mul-next : tie.Need-mul-next
 mul-next c = omega (arith, few (c .before .before .before))
@@ -61,7 +61,7 @@ returns-3 : tie.Need-returns-3
 unfolding removed
 returns-3 c =
     let e = c .before .before .before in
-    rw (c .wide .ensures) (undo-done (board e) (well e) (c .before .before .if2 .left))
+    rw (c .wide .ensures .0) (undo-done (board e) (well e) (c .before .before .if2 .left))
 
 pub undo-spec : {M : Type 1} → statement M
 undo-spec =

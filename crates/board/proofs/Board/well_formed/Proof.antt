@@ -7,9 +7,10 @@ use mathlib.Core.Bool.{true}
 use borrow.Author.Needs.{needs}
 use borrow.Author.Tests.{not-true, not-false}
 use Rattle.grid.specs.Grid.{size}
+use Rattle.grid.proofs.GridLaws.{size-most}
 use Rattle.record.specs.Problem.{gridOf}
 use Rattle.form.specs.Form.{problemFormed}
-use Rattle.form.proofs.ProblemForm.{formed-is, size-most}
+use Rattle.form.proofs.ProblemForm.{formed-is}
 use Rattle.board.specs.declared.Board.{Board}
 use Rattle.board.proofs.Verdicts.{board-problem, board-decisions}
 use borrow.Author.Needs.{needs}

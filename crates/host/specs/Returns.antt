@@ -1,0 +1,42 @@
+-- What the host call can find and return, in the words of its theorems.
+-- Assumes nothing.
+use Prim.Native.Nat.{ℕ, _+_, _*_, _≤_, _<_}
+use mathlib.Core.Path.{_≡_}
+use mathlib.Core.List.{List, [], _∷_, List·Memᴰ}
+use mathlib.Core.Option.{none, some}
+use lib.IntN.{ℤ, pos, negℤ}
+use lib.ListN.{length}
+use Rattle.grid.specs.Grid.{Grid, size}
+use Rattle.grid.specs.Cells.{Literal}
+use Rattle.record.specs.Record.{Outcome, ok, refused, Puzzle, readRecord}
+use Rattle.literals.specs.Literals.{Found}
+
+-- the refusals of the record and of the decisions
+abbrev pub refusals : List ℕ
+refusals = 1 ∷ 2 ∷ 3 ∷ 4 ∷ 5 ∷ 7 ∷ 9 ∷ 12 ∷ []
+
+-- a list of bytes, as a slice of u8 holds them
+abbrev pub Bytes : List ℕ → Type 0
+Bytes l = (x : ℕ) → List·Memᴰ x l → x < 256
+
+-- the numbers that the call can return for the record s
+pub data Returns (s : List ℕ) : ℤ → Type 0 where
+  negated-refusal : {k : ℕ} → List·Memᴰ k (11 ∷ refusals) → Returns s (negℤ (pos k))
+  literal-count : {n : ℕ} (p : Puzzle) → readRecord s ≡ ok p → n ≤ 3 * size (p .grid) + 1 → Returns s (pos n)
+
+-- a refusal of the list, or a value with the property
+pub data Possible (ks : List ℕ) {A : Type 0} (P : A → Type 0) : Outcome A → Type 0 where
+  refusal-of : {k : ℕ} → List·Memᴰ k ks → Possible ks P (refused k)
+  value-of : {a : A} → P a → Possible ks P (ok a)
+
+-- what can be found on a grid: none, or a reason of 1 to 3 × H × W + 1 literals, each a cell's index with a value
+pub data FoundOn (g : Grid) : Found → Type 0 where
+  no-reason : FoundOn g none
+  some-reason : {r : List Literal} → 0 < length r → length r ≤ 3 * size g + 1 → ((l : Literal) → List·Memᴰ l r → (l .0 < size g) × (l .1 ≤ 1)) → FoundOn g (some r)
+
+-- what can be found with the record s, which is accepted
+pub record FoundWith (s : List ℕ) (f : Found) : Type 0 where
+  pub puzzle : Puzzle
+  pub reads : readRecord s ≡ ok puzzle
+  pub few : size (puzzle .grid) ≤ 1024
+  pub found : FoundOn (puzzle .grid) f

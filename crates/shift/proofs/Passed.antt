@@ -1,0 +1,63 @@
+-- The cells passed on a walk along a chain: those of an arrow block, and a test that none of them meets.
+-- Assumes nothing.
+use Prim.Native.Nat.{ℕ, _+_, _≤_, _<_}
+use native.Mathlib.Omega.{arith}
+use mathlib.Core.Path.{_≡_, refl, sym, _∙_}
+use mathlib.Core.Bool.{Bool, true, false, cond, _||_, false≢true}
+use mathlib.Core.List.{List, [], _∷_, _++_, append-nil}
+use lib.Dec.{eqb}
+use lib.ListN.{length, getD, take, length-take, length-append}
+use lib.Seq.{getD-take}
+use borrow.Author.Tests.{eq-eqb, ne-eqb}
+use Rattle.grid.specs.Lists.{filter, any}
+use Rattle.grid.proofs.ListLaws.{so-false, filter-length, any-mem, mem-any, mem-at, at-mem}
+use Rattle.grid.proofs.AppendLaws.{filter-more}
+use Rattle.reach.specs.Chains.{cellsFrom}
+use Rattle.reach.proofs.ChainLaws.{owned-both}
+use Rattle.shift.specs.Shift.{blockIn}
+
+-- the cells of an arrow block, passed so far
+abbrev pub blockOf : List ℕ → List ℕ → List ℕ
+blockOf kinds passed = filter (λ i. eqb (getD kinds i 0) 1) passed
+
+pub block-more : (kinds passed : List ℕ) (i : ℕ) → blockOf kinds (passed ++ (i ∷ [])) ≡ blockOf kinds passed ++ cond (eqb (getD kinds i 0) 1) (i ∷ []) []
+block-more kinds passed i = filter-more (λ j. eqb (getD kinds j 0) 1) passed i
+
+pub block-few : (kinds passed : List ℕ) → length (blockOf kinds passed) ≤ length passed
+block-few kinds passed = filter-length (λ i. eqb (getD kinds i 0) 1) passed
+
+-- one more is counted, or not
+pub count-in : (kinds passed : List ℕ) (i : ℕ) → getD kinds i 0 ≡ 1 → length (blockOf kinds (passed ++ (i ∷ []))) ≡ length (blockOf kinds passed) + 1
+count-in kinds passed i e = rw (block-more kinds passed i, eq-eqb (getD kinds i 0) 1 e) (simp length-append (omega arith))
+
+pub count-out : (kinds passed : List ℕ) (i : ℕ) → (getD kinds i 0 ≡ 1 → ⊥) → length (blockOf kinds (passed ++ (i ∷ []))) ≡ length (blockOf kinds passed)
+count-out kinds passed i e = rw (block-more kinds passed i, ne-eqb (getD kinds i 0) 1 e, append-nil (blockOf kinds passed)) refl
+
+-- .. and all of them
+pub block-all : (kinds owners : List ℕ) (n f : ℕ) → blockOf kinds (cellsFrom owners n f 0) ≡ blockIn kinds owners n f
+unfolding blockIn
+block-all kinds owners n f = owned-both owners n f (λ i. eqb (getD kinds i 0) 1)
+
+-- ---- a test that no cell passed so far meets
+
+pub none-more : (p : ℕ → Bool) (l : List ℕ) (x : ℕ) → any p l ≡ false → p x ≡ false → any p (l ++ (x ∷ [])) ≡ false
+unfolding any
+none-more p [] x h e = rw e refl
+none-more p (y ∷ ys) x h e = go (p y) refl (λ r. none-more p ys x r e)
+  where
+    go : (b : Bool) → p y ≡ b → (any p ys ≡ false → any p (ys ++ (x ∷ [])) ≡ false) → (p y || any p (ys ++ (x ∷ []))) ≡ false
+    go true q k = absurd (false≢true (sym h ∙ rw q refl))
+    go false q k = rw q (k (rw q at h))
+
+-- the first places of an array
+pub none-taken : (p : ℕ → Bool) (l : List ℕ) (n : ℕ) → ((j : ℕ) → j < n → p (getD l j 0) ≡ false) → any p (take n l) ≡ false
+none-taken p l n h = so-false _ (λ a.
+    let m = any-mem p (take n l) a in
+    let k = mem-at (take n l) (m .1) in
+    let low : k .0 < n = omega (arith, simp length-take at (k .1)) in
+    let q : getD l (k .0) 0 ≡ m .0 = sym (getD-take n l (k .0) 0 low) ∙ k .2 in
+    false≢true (sym (h (k .0) low) ∙ rw q (m .2)))
+
+pub some-taken : (p : ℕ → Bool) (l : List ℕ) (n j : ℕ) → j < n → n ≤ length l → p (getD l j 0) ≡ true → any p (take n l) ≡ true
+some-taken p l n j h long e =
+    mem-any p (take n l) (at-mem (take n l) j (simp length-take (omega arith))) (rw (getD-take n l j 0 h) e)
