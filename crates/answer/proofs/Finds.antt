@@ -12,10 +12,10 @@ use borrow.Author.Tests.{ltb-true, leb-true}
 use Rattle.grid.specs.Lists.{all}
 use Rattle.grid.specs.Grid.{Grid, size}
 use Rattle.grid.proofs.ListLaws.{all-mem, and-true}
-use Rattle.record.specs.Record.{Outcome}
+use Rattle.record.specs.Record.{Outcome, Bytes}
 use Rattle.grid.specs.Cells.{Literal}
 use Rattle.literals.specs.Literals.{Found}
-use Rattle.host.specs.Returns.{refusals, Bytes, Possible, refusal-of, FoundOn, no-reason, some-reason, FoundWith}
+use Rattle.host.specs.Returns.{refusals, Possible, refusal-of, FoundOn, no-reason, some-reason, FoundWith}
 use Rattle.host.proofs.Returns.{possible-more, listed, few-cells, host-possible, byte-value}
 use Rattle.answer.specs.Program.{outputLimit, answerOf, inputAnswer, programFinds}
 

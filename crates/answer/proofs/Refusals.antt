@@ -11,9 +11,9 @@ use borrow.Author.Tests.{leb-true, not-true}
 use Rattle.grid.specs.Lists.{all, init}
 use Rattle.grid.proofs.ListLaws.{all-mem, and-true}
 use Rattle.grid.proofs.AppendLaws.{init-more}
-use Rattle.record.specs.Record.{Outcome, refused}
+use Rattle.record.specs.Record.{Outcome, refused, Bytes}
 use Rattle.literals.specs.Literals.{Found}
-use Rattle.host.specs.Returns.{refusals, Bytes, Possible, refusal-of, value-of}
+use Rattle.host.specs.Returns.{refusals, Possible, refusal-of, value-of}
 use Rattle.host.proofs.Returns.{among, in-list}
 use Rattle.text.specs.Text.{digits, line, twoWords, noneText, reasonText, refusedText}
 use Rattle.answer.specs.Program.{textOf, printed}

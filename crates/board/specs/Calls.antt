@@ -1,10 +1,10 @@
 -- Lists of calls on a board, as the contracts have them, and what is proved of them (the board's part of demand 3; refusal 6).
 -- Assumes nothing.
-use Prim.Native.Nat.{ℕ, _<_}
+use Prim.Native.Nat.{ℕ}
 use mathlib.Core.Logic.{_↔_}
 use mathlib.Core.Path.{_≡_}
-use mathlib.Core.List.{List, [], _∷_, List·Memᴰ}
-use Rattle.record.specs.Record.{Puzzle}
+use mathlib.Core.List.{List, [], _∷_}
+use Rattle.record.specs.Record.{Puzzle, Bytes}
 use Rattle.record.specs.Problem.{numberOf}
 use Rattle.record.specs.declared.Answer.the-variants.{Done}
 use Rattle.board.specs.declared.Board.{Board}
@@ -27,7 +27,7 @@ leftAll b (c ∷ cs) = leftAll (left b c) cs
 -- some accepted record, a list of bytes, and some list of calls leave this board
 pub record Leaves (b : Board) : Type 0 where
   pub bytes : List ℕ
-  pub low : (x : ℕ) → List·Memᴰ x bytes → x < 256
+  pub low : Bytes bytes
   pub calls : List Call
   pub accepted : openOf bytes .answer ≡ Done
   pub leaves : leftAll (openOf bytes .board) calls ≡ b

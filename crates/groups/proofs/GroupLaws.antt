@@ -1,16 +1,16 @@
 -- The law of `labels`: two cells have one name exactly when they are linked, and the name is the first cell of the group.
 -- Assumes nothing.
-use Prim.Native.Nat.{ℕ, zero, suc, _≤_, _<_, min, max}
-use native.Mathlib.Nat.{not-suc-le-zero, le-of-suc-le-suc, min-eq-left, min-eq-right, max-eq-left, max-eq-right, le-of-lt}
+use Prim.Native.Nat.{ℕ, _≤_, _<_, min, max}
+use native.Mathlib.Nat.{min-eq-left, min-eq-right, max-eq-left, max-eq-right, le-of-lt}
 use native.Mathlib.Omega.{arith}
 use mathlib.Core.Logic.{_⊎_, inl, inr}
 use mathlib.Core.Path.{_≡_, refl, sym, ap, _∙_}
 use mathlib.Core.Bool.{Bool, true, false, cond, _&&_, So}
 use mathlib.Core.List.{List, [], _∷_, map, List·Memᴰ, List·Memᴰ·head, List·Memᴰ·tail, Memᴰ·map, Memᴰ·of-map}
 use lib.Dec.{eqb, leb}
-use lib.ListN.{length, getD}
+use lib.ListN.{length, getD, length-map}
 use borrow.Author.Tests.{eqb-true, eq-eqb, leb-true, leb-false}
-use Rattle.grid.proofs.ListLaws.{distinct-filter, distinct-upto, split, and-true, true-and, filter-mem, mem-filter, flatMap-mem, mem-flatMap, upto-mem, mem-upto, length-range, getD-range}
+use Rattle.grid.proofs.ListLaws.{distinct-filter, distinct-upto, split, and-true, true-and, filter-mem, mem-filter, flatMap-mem, mem-flatMap, upto-mem, mem-upto, length-range, getD-range, map-at}
 use Rattle.grid.proofs.RisingLaws.{Rising, filter-rising, cells-rising}
 use Rattle.grid.specs.Link.{here, step, linked-end, linked-start, linked-trans, linked-sym}
 use Rattle.grid.proofs.GridLaws.{adj-sym, beside, on-grid}
@@ -60,14 +60,11 @@ renamed a b x = cond (eqb x a) b x
 
 length-rename : (a b : ℕ) (l : List ℕ) → length (rename a b l) ≡ length l
 unfolding rename
-length-rename a b [] = refl
-length-rename a b (x ∷ xs) = ap suc (length-rename a b xs)
+length-rename a b l = length-map l (renamed a b)
 
 rename-at : (a b : ℕ) (l : List ℕ) (i : ℕ) → i < length l → getD (rename a b l) i 0 ≡ renamed a b (getD l i 0)
 unfolding rename
-rename-at a b [] i h = absurd (not-suc-le-zero h)
-rename-at a b (x ∷ xs) zero h = refl
-rename-at a b (x ∷ xs) (suc i) h = rename-at a b xs i (le-of-suc-le-suc h)
+rename-at a b l i h = map-at (renamed a b) l i h
 
 -- the two ends of a pair, the higher and the lower
 data Ends (x y a b : ℕ) : Type 0 where

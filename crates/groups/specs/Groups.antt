@@ -17,8 +17,7 @@ Joined g p i j = Linked (Adjacent g) (λ c. So (p c)) i j
 
 -- every name a becomes b
 unfoldable pub rename : ℕ → ℕ → List ℕ → List ℕ
-rename a b [] = []
-rename a b (x ∷ xs) = cond (eqb x a) b x ∷ rename a b xs
+rename a b l = map (λ x. cond (eqb x a) b x) l
 
 -- the groups of i and j become one, under the lower of their two names
 unfoldable pub join : ℕ → ℕ → List ℕ → List ℕ

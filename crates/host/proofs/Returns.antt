@@ -14,7 +14,7 @@ use Rattle.grid.specs.Lists.{all, member}
 use Rattle.grid.specs.Grid.{Grid, size, up, down, left, right}
 use Rattle.grid.proofs.ListLaws.{all-mem, and-true}
 use Rattle.grid.proofs.GridLaws.{size-most}
-use Rattle.record.specs.Record.{Outcome, ok, refused, _>>=_, unless, Puzzle, number, field, cellCodes, there, stepFrom, stepCells, arrowAt, filler, arrowsAt, readRecord}
+use Rattle.record.specs.Record.{Outcome, ok, refused, _>>=_, unless, Puzzle, number, field, cellCodes, there, stepFrom, stepCells, arrowAt, filler, arrowsAt, readRecord, Bytes}
 use Rattle.record.specs.Valid.{Valid}
 use Rattle.record.proofs.RecordLaws.{record-valid}
 use Rattle.grid.specs.Cells.{Literal}
@@ -26,7 +26,7 @@ use Rattle.reasons.proofs.NonEmpty.{reason-some}
 use Rattle.reasons.proofs.ReasonLaws.{found-length}
 use Rattle.reasons.proofs.OnMachine.{on-machine}
 use Rattle.host.specs.Host.{acceptOr, decideBytes, hostFinds, returned}
-use Rattle.host.specs.Returns.{refusals, Bytes, Returns, negated-refusal, literal-count, Possible, refusal-of, value-of, FoundOn, no-reason, some-reason, FoundWith}
+use Rattle.host.specs.Returns.{refusals, Returns, negated-refusal, literal-count, Possible, refusal-of, value-of, FoundOn, no-reason, some-reason, FoundWith}
 
 -- ---- an outcome step by step
 

@@ -15,10 +15,6 @@ use Rattle.literals.specs.Literals.{Found}
 abbrev pub refusals : List ℕ
 refusals = 1 ∷ 2 ∷ 3 ∷ 4 ∷ 5 ∷ 7 ∷ 9 ∷ 12 ∷ []
 
--- a list of bytes, as a slice of u8 holds them
-abbrev pub Bytes : List ℕ → Type 0
-Bytes l = (x : ℕ) → List·Memᴰ x l → x < 256
-
 -- the numbers that the call can return for the record s
 pub data Returns (s : List ℕ) : ℤ → Type 0 where
   negated-refusal : {k : ℕ} → List·Memᴰ k (11 ∷ refusals) → Returns s (negℤ (pos k))

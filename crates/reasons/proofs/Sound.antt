@@ -1,7 +1,7 @@
 -- Every reason is sound, and on a full board none is given exactly when the block rules hold.
 -- Assumes nothing.
 use Prim.Native.Nat.{ℕ, _+_, _<_}
-use mathlib.Core.Logic.{_⊎_, inl, inr, _↔_, _≢_}
+use mathlib.Core.Logic.{_↔_, _≢_}
 use mathlib.Core.Path.{_≡_, refl, sym, _∙_}
 use mathlib.Core.Bool.{false, So, _&&_, not}
 use mathlib.Core.List.{List, [], _∷_, List·Memᴰ, List·Memᴰ·not-nil, List·Memᴰ·eq-of-singleton}
@@ -67,15 +67,9 @@ module _ (set : Setting) where
   -- every reason is sound, with the rules by positions
   pub find-sound : (r : List Literal) → findReason puzzle cells ≡ some r → (full : List ℕ) → length full ≡ size grid → Agrees full r → ¬ RulesAt puzzle full
   unfolding findReason
-  find-sound r e full long ag rules = go (or-else-some (reason1 puzzle cells) _ r e)
-    where
-      two : (reason2 puzzle cells ≡ some r) ⊎ ((reason2 puzzle cells ≡ none) × (reason34 v ≡ some r)) → ⊥
-      two (inl k) = reason2-sound set r k full ag rules
-      two (inr k) = reason34-sound set full long rules r (k .1) ag
-
-      go : (reason1 puzzle cells ≡ some r) ⊎ ((reason1 puzzle cells ≡ none) × (orElse (reason2 puzzle cells) (reason34 v) ≡ some r)) → ⊥
-      go (inl k) = reason1-sound set full long rules r k ag
-      go (inr k) = two (or-else-some (reason2 puzzle cells) (reason34 v) r (k .1))
+  find-sound r e full long ag rules =
+      or-else-some (reason1 puzzle cells) _ r e (λ k. reason1-sound set full long rules r k ag)
+      (λ k. or-else-some (reason2 puzzle cells) (reason34 v) r k (λ k. reason2-sound set r k full ag rules) (λ k. reason34-sound set full long rules r k ag))
 
   -- no reason applies
   abbrev Q : Type 0

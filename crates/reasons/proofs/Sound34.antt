@@ -144,11 +144,9 @@ module _ (set : Setting) where
 
     pub four-some : (r : List Literal) → reason4At v pair ≡ some r → (So tooFew × (reasonGrow v pair ≡ r)) ⊎ (So tooMany × (shrinkLiterals ≡ r))
     unfolding reason4At reason4aAt reason4bAt reasonShrink view viewWith blockName gap
-    four-some r e = go (or-else-some (reasonIf tooFew (reasonGrow v pair)) (reasonIf tooMany shrinkLiterals) r e)
-      where
-        go : (reasonIf tooFew (reasonGrow v pair) ≡ some r) ⊎ ((reasonIf tooFew (reasonGrow v pair) ≡ none) × (reasonIf tooMany shrinkLiterals ≡ some r)) → (So tooFew × (reasonGrow v pair ≡ r)) ⊎ (So tooMany × (shrinkLiterals ≡ r))
-        go (inl k) = inl (reason-if-some tooFew (reasonGrow v pair) r k)
-        go (inr k) = inr (reason-if-some tooMany shrinkLiterals r (k .1))
+    four-some r e =
+        or-else-some (reasonIf tooFew (reasonGrow v pair)) (reasonIf tooMany shrinkLiterals) r e
+        (λ k. inl (reason-if-some tooFew (reasonGrow v pair) r k)) (λ k. inr (reason-if-some tooMany shrinkLiterals r k))
 
     pub four-none : reason4At v pair ≡ none → (¬ So tooFew) × (¬ So tooMany)
     unfolding reason4At reason4aAt reason4bAt reasonShrink view viewWith blockName gap
@@ -286,7 +284,10 @@ module _ (set : Setting) where
 
   pub told-34 : (r : List Literal) → reason34 v ≡ some r → Told34 r
   unfolding reason34 view viewWith
-  told-34 r e = go (or-else-some (firstOf (reason3At v) ps) (firstOf (reason4At v) ps) r e)
+  told-34 r e =
+      or-else-some (firstOf (reason3At v) ps) (firstOf (reason4At v) ps) r e
+      (λ k. let w = first-some (reason3At v) ps r k in three (w .0) (placed (w .0) (w .1)) (w .2))
+      (λ k. let w = first-some (reason4At v) ps r k in four (w .0) (placed (w .0) (w .1)) (w .2))
     where
       ps : List Pair
       ps = flatMap (pairs cells) arrows
@@ -300,10 +301,6 @@ module _ (set : Setting) where
           two : (So (tooFew (q .spot)) × (reasonGrow v (pair (q .spot)) ≡ r)) ⊎ (So (tooMany (q .spot)) × (shrinkLiterals (q .spot) ≡ r)) → Told34 r
           two (inl (h, z)) = too-few (q .spot) h z
           two (inr (h, z)) = too-many q h z
-
-      go : (firstOf (reason3At v) ps ≡ some r) ⊎ ((firstOf (reason3At v) ps ≡ none) × (firstOf (reason4At v) ps ≡ some r)) → Told34 r
-      go (inl k) = let w = first-some (reason3At v) ps r k in three (w .0) (placed (w .0) (w .1)) (w .2)
-      go (inr k) = let w = first-some (reason4At v) ps r (k .1) in four (w .0) (placed (w .0) (w .1)) (w .2)
 
   module _ (full : List ℕ) (long : length full ≡ size grid) (rules : RulesAt puzzle full) where
     -- reasons 3 and 4 are sound

@@ -5,7 +5,7 @@ use mathlib.Core.Logic.{_⊎_, inl, inr}
 use mathlib.Core.Path.{_≡_, sym, _∙_, subst}
 use mathlib.Core.Bool.{Bool, true, false, So, _&&_, not, cond}
 use mathlib.Core.List.{List, [], _∷_, _++_, List·Memᴰ, List·Memᴰ·not-nil, List·Memᴰ·append-cases, List·Memᴰ·eq-of-singleton, Memᴰ·of-map}
-use mathlib.Core.Option.{none, some}
+use mathlib.Core.Option.{some}
 use native.Mathlib.Omega.{arith}
 use lib.ListN.{length, getD}
 use borrow.Author.Tests.{eqb-true}
@@ -24,7 +24,7 @@ use Rattle.kinds.proofs.Fence.{block-in}
 use Rattle.reasons.proofs.Sound34.{curCell, lastCell, shrinkLiterals, Placed, Spot, Told34, no-shift, too-few, too-many, told-34, pair}
 use Rattle.reasons.proofs.First.{reason-if-some, or-else-some, first-some}
 use Rattle.reasons.proofs.Sound2.{way, two-of}
-use Rattle.literals.specs.Literals.{orElse, each}
+use Rattle.literals.specs.Literals.{each}
 use Rattle.units.specs.Units.{reason1At, reason1, reason2}
 use Rattle.growth.specs.Growth.{blockName, reasonGrow, reason34}
 use Rattle.reasons.specs.Reasons.{findReason}
@@ -165,12 +165,4 @@ module _ (set : Setting) where
   -- every literal of a reason is shown
   pub find-stands : (r : List Literal) → findReason puzzle cells ≡ some r → Stands r
   unfolding findReason
-  find-stands r e = go (or-else-some (reason1 puzzle cells) _ r e)
-    where
-      two : (reason2 puzzle cells ≡ some r) ⊎ ((reason2 puzzle cells ≡ none) × (reason34 v ≡ some r)) → Stands r
-      two (inl k) = stand-2 r k
-      two (inr k) = stand-34 r (k .1)
-
-      go : (reason1 puzzle cells ≡ some r) ⊎ ((reason1 puzzle cells ≡ none) × (orElse (reason2 puzzle cells) (reason34 v) ≡ some r)) → Stands r
-      go (inl k) = stand-1 r k
-      go (inr k) = two (or-else-some (reason2 puzzle cells) (reason34 v) r (k .1))
+  find-stands r e = or-else-some (reason1 puzzle cells) _ r e (stand-1 r) (λ k. or-else-some (reason2 puzzle cells) (reason34 v) r k (stand-2 r) (stand-34 r))

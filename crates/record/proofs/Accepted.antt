@@ -6,7 +6,7 @@ use native.Mathlib.Omega.{arith}
 use mathlib.Core.Logic.{_⊎_, inl, inr, _↔_}
 use mathlib.Core.Path.{_≡_, refl, sym, ap, _∙_}
 use mathlib.Core.Bool.{true, false}
-use mathlib.Core.List.{List, [], _∷_, _++_, List·Memᴰ}
+use mathlib.Core.List.{List, [], _∷_, _++_}
 use lib.Dec.{eqb, ltb}
 use lib.ListN.{length, getD, drop, List·getD-append, List·getD-eq-default}
 use lib.Seq.{ext-getD, getD-drop, getD-at}
@@ -16,7 +16,7 @@ use Rattle.grid.proofs.ListLaws.{split, and-true, at-mem}
 use Rattle.grid.proofs.GridLaws.{size-most}
 use Rattle.grid.specs.Grid.{size}
 use Rattle.fields.specs.Fields.{ok, bit, number, filler}
-use Rattle.record.specs.Record.{Puzzle, readRecord}
+use Rattle.record.specs.Record.{Puzzle, readRecord, Bytes}
 use Rattle.record.specs.Write.{valueOf, pack, recordBits, writeRecord}
 use Rattle.record.specs.Valid.{Valid}
 use Rattle.record.specs.Problem.{arrowCells}
@@ -102,7 +102,7 @@ module _ (s : List ℕ) where
             ∙ byte-number bytes q
 
 -- every byte of a list of bytes, and the 0 behind it
-bytes-at : (s : List ℕ) → ((x : ℕ) → List·Memᴰ x s → x < 256) → (k : ℕ) → getD s k 0 < 256
+bytes-at : (s : List ℕ) → Bytes s → (k : ℕ) → getD s k 0 < 256
 bytes-at s h k = go (split (ltb k (length s)))
   where
     go : (ltb k (length s) ≡ true) ⊎ (ltb k (length s) ≡ false) → getD s k 0 < 256
@@ -111,7 +111,7 @@ bytes-at s h k = go (split (ltb k (length s)))
 
 module _ (s : List ℕ) {p : Puzzle} (e : readRecord s ≡ ok p) where
   -- an accepted record is the one that is written for its puzzle: there is no other
-  pub write-read : ((x : ℕ) → List·Memᴰ x s → x < 256) → writeRecord p ≡ s
+  pub write-read : Bytes s → writeRecord p ≡ s
   unfolding writeRecord
   write-read h =
       let r = record-bits s e in
@@ -139,5 +139,5 @@ module _ (s : List ℕ) {p : Puzzle} (e : readRecord s ≡ ok p) where
       distinct = unfold arrowCells in fresh-distinct (arrows-fresh (record-valid s e .arrows))
 
 -- the puzzles within the limits are exactly those of accepted records
-pub valid-accepted : (p : Puzzle) → Valid p ↔ ((s : List ℕ) × ((x : ℕ) → List·Memᴰ x s → x < 256) × (readRecord s ≡ ok p))
+pub valid-accepted : (p : Puzzle) → Valid p ↔ ((s : List ℕ) × Bytes s × (readRecord s ≡ ok p))
 valid-accepted p = (λ v. (writeRecord p, written-bytes p, round-trip p v), λ r. record-valid (r .0) (r .2))

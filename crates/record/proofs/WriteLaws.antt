@@ -16,7 +16,7 @@ use Rattle.grid.specs.Lists.{member, any, flatMap}
 use Rattle.grid.specs.Grid.{Grid, size, row, col, only, up, down, left, right, neighbours}
 use Rattle.grid.proofs.GridLaws.{width-pos, index, size-most}
 use Rattle.fields.specs.Fields.{_>>=_, Outcome, ok, unless, bit, number, field, there, stepFrom, filler}
-use Rattle.record.specs.Record.{Puzzle, cellCodes, stepCells, arrowAt, arrowsAt, readRecord}
+use Rattle.record.specs.Record.{Puzzle, cellCodes, stepCells, arrowAt, arrowsAt, readRecord, Bytes}
 use Rattle.record.specs.Valid.{Walk, on, Fresh, Arrow, arrow, Arrows, Valid}
 use Rattle.record.proofs.FreshLaws.{together, arrows-length, one-length}
 use Rattle.record.specs.Write.{bitsOf, valueOf, pack, direction, stepBits, arrowBits, recordBits, writeRecord}
@@ -337,13 +337,13 @@ unfolding valueOf
 value-lt zero b h = lit< tt
 value-lt (suc k) b h = omega (arith, value-lt k b h, h k, pow-suc 2 k)
 
-pack-bytes : (m : ℕ) (b : List ℕ) → Bits b → (x : ℕ) → List·Memᴰ x (pack m b) → x < 256
+pack-bytes : (m : ℕ) (b : List ℕ) → Bits b → Bytes (pack m b)
 unfolding pack
 pack-bytes zero b h x m = absurd (List·Memᴰ·not-nil m)
 pack-bytes (suc n) b h x (List·Memᴰ·head e) = rw e (value-lt 8 b h)
 pack-bytes (suc n) b h x (List·Memᴰ·tail m) = pack-bytes n (drop 8 b) (λ k. rw getD-drop (h (8 + k))) x m
 
 -- a record that is written is a list of bytes
-pub written-bytes : (p : Puzzle) (x : ℕ) → List·Memᴰ x (writeRecord p) → x < 256
+pub written-bytes : (p : Puzzle) → Bytes (writeRecord p)
 unfolding writeRecord
 written-bytes p = pack-bytes ((length (recordBits p) + 7) / 8) (recordBits p) (bits-record p)

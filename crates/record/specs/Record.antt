@@ -1,14 +1,18 @@
 -- The record: its fields in turn, and its refusals 1 to 5.
 -- Assumes nothing.
-use Prim.Native.Nat.{ℕ, zero, suc, _+_, _*_}
+use Prim.Native.Nat.{ℕ, zero, suc, _+_, _*_, _<_}
 use mathlib.Core.Bool.{_&&_, not}
-use mathlib.Core.List.{List, [], _∷_, _++_}
+use mathlib.Core.List.{List, [], _∷_, _++_, List·Memᴰ}
 use lib.Dec.{ltb}
 use lib.ListN.{length}
 use Rattle.grid.specs.Lists.{member}
 use Rattle.grid.specs.Grid.{Grid, size}
 pub use Rattle.fields.specs.Fields.{Outcome, refused, ok}
 unfoldable pub use Rattle.fields.specs.Fields.{_>>=_, unless, bit, number, field, there, stepFrom, filler}
+
+-- a list of bytes, as a slice of u8 holds them
+abbrev pub Bytes : List ℕ → Type 0
+Bytes s = (x : ℕ) → List·Memᴰ x s → x < 256
 
 -- what a record says: the grid, a code for each cell, the arrows as lists of cells
 pub record Puzzle : Type 0 where
