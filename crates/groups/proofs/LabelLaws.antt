@@ -6,7 +6,7 @@ use native.Mathlib.Nat.{le-antisymm}
 use native.Mathlib.Omega.{arith}
 use mathlib.Core.Logic.{_⊎_, inl, inr}
 use mathlib.Core.Path.{_≡_, refl, sym, _∙_}
-use mathlib.Core.Bool.{Bool, true, false, So, false≢true, cond, _&&_}
+use mathlib.Core.Bool.{Bool, true, false, So, false≢true, _&&_}
 use mathlib.Core.List.{List}
 use lib.Dec.{eqb}
 use lib.ListN.{length, getD, take}
@@ -36,19 +36,6 @@ module _ (g : Grid) (p : ℕ → Bool) where
   unfolding labelArray cellsOf
   label-at i h = filled-at noGroup (labelAt g p) (size g) i h
 
-  -- the cells of the group named f
-  pub label-test : (i f : ℕ) → i < size g → f < 1024 → eqb (getD (labelArray g p) i 0) f ≡ (p i && eqb (label g p i) f)
-  unfolding labelAt
-  label-test i f h k = rw (label-at i h) (go (p i))
-    where
-      go : (b : Bool) → eqb (cond b (label g p i) noGroup) f ≡ (b && eqb (label g p i) f)
-      go true = refl
-      go false = ne-eqb noGroup f (λ e. omega (arith, e))
-
-  pub label-group : (f : ℕ) → f < 1024 → filter (λ i. eqb (getD (labelArray g p) i 0) f) (upto (size g)) ≡ group g p (labels g p) f
-  unfolding group cellsOf
-  label-group f k = filter-upto _ _ (size g) (λ i h. label-test i f h k)
-
   -- a cell that passes has its group's name
   pub label-in : (i : ℕ) → i < size g → So (p i) → getD (labelArray g p) i 0 ≡ label g p i
   unfolding labelAt
@@ -63,6 +50,18 @@ module _ (g : Grid) (p : ℕ → Bool) where
   pub label-behind : (i : ℕ) → size g ≤ i → i < 1024 → getD (labelArray g p) i 0 ≡ noGroup
   unfolding labelArray cellsOf
   label-behind i h k = filled-past noGroup (labelAt g p) (size g) i h k
+
+  -- the cells of the group named f
+  pub label-test : (i f : ℕ) → i < size g → f < 1024 → eqb (getD (labelArray g p) i 0) f ≡ (p i && eqb (label g p i) f)
+  label-test i f h k = go (split (p i))
+    where
+      go : (p i ≡ true) ⊎ (p i ≡ false) → eqb (getD (labelArray g p) i 0) f ≡ (p i && eqb (label g p i) f)
+      go (inl o) = rw (label-in i h o, o)
+      go (inr o) = rw (label-out i h o, o) (ne-eqb noGroup f (λ e. omega (arith, e)))
+
+  pub label-group : (f : ℕ) → f < 1024 → filter (λ i. eqb (getD (labelArray g p) i 0) f) (upto (size g)) ≡ group g p (labels g p) f
+  unfolding group cellsOf
+  label-group f k = filter-upto _ _ (size g) (λ i h. label-test i f h k)
 
   module _ (fits : size g ≤ 1024) where
     -- the array has 1,024 places
