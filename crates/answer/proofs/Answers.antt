@@ -10,9 +10,8 @@ use lib.Seq.{take-at}
 use lib.Signed.{mag}
 use Rattle.grid.specs.Lists.{flatMap}
 use Rattle.record.specs.Record.{Outcome}
-use Rattle.grid.specs.Cells.{Literal}
+use Rattle.grid.specs.Cells.{Literal, word}
 use Rattle.literals.specs.Literals.{Found}
-use Rattle.kinds.specs.Kinds.{word}
 use Rattle.host.specs.Host.{bytesOf, returned, outputAfter}
 use Rattle.text.specs.Text.{digits, line, twoWords, reasonText, literalLine, literalIn, literalsIn}
 use Rattle.text.specs.Told.{toldBy, countOf, toldText}

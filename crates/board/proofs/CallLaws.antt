@@ -24,7 +24,7 @@ use Rattle.record.specs.Problem.{problemOf, puzzleOf, gridOf, numberOf, blank}
 use Rattle.record.specs.declared.Answer.the-variants.{Done}
 use Rattle.record.proofs.RecordLaws.{record-valid}
 use Rattle.record.proofs.WriteLaws.{round-trip, written-bytes}
-use Rattle.form.specs.Form.{problemFormed, sized}
+use Rattle.form.specs.Form.{problemFormed, goodSize}
 use Rattle.form.proofs.ProblemForm.{formed-valid}
 use Rattle.board.specs.declared.Board.{Board}
 use Rattle.grid.specs.Cells.{Literal}
@@ -253,5 +253,5 @@ after-calls s p e cs ds =
 
 -- the blank board beside a refused record is none: every later call on it is refused with 6
 pub blank-refused : wellFormed blankBoard ≡ false
-unfolding wellFormed problemFormed sized blankBoard blank gridOf
+unfolding wellFormed problemFormed goodSize blankBoard blank gridOf
 blank-refused = refl

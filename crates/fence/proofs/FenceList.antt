@@ -19,9 +19,9 @@ use Rattle.grid.proofs.ListLaws.{and-true, true-and, any-mem, mem-any, upto-mem
 use Rattle.grid.proofs.GridLaws.{beside as side, on-grid, adj-sym}
 use Rattle.grid.proofs.AppendLaws.{same-test, any-agree, filter-agree, member-filter}
 use Rattle.record.specs.Record.{Puzzle}
-use Rattle.grid.specs.Cells.{Literal, empty, square, undecided}
+use Rattle.grid.specs.Cells.{Literal, empty, square, undecided, word}
 use Rattle.groups.specs.Groups.{labels}
-use Rattle.kinds.specs.Kinds.{Kind, vacant, barrier, floating, inBlock, neighbour, kindTouching, blocksTouched, kindAt, isIn, has, View, view, viewWith, inReach, reach, disturbing, fenceAt, fence, word, kindCode, ownerBy, reachMask}
+use Rattle.kinds.specs.Kinds.{Kind, vacant, barrier, floating, inBlock, neighbour, kindTouching, blocksTouched, kindAt, isIn, has, View, view, viewWith, inReach, reach, disturbing, fenceAt, fence, kindCode, ownerBy, reachMask}
 use Rattle.kinds.specs.Inside.{puzzleWith, Held}
 use Rattle.fence.specs.Inside.{litAt, Ordered, ofBlock, inDisturbing, touched, adds, addsAmong, Fenced}
 use Rattle.kinds.proofs.Filled.{mask-test}

@@ -6,9 +6,10 @@ use mathlib.Core.Bool.{Bool, So, cond, _&&_, not}
 use mathlib.Core.List.{List, _∷_, _++_, map}
 use lib.Dec.{eqb}
 use lib.ListN.{length, getD, take, drop}
+use Rattle.grid.specs.Cells.{word}
 use Rattle.grid.specs.Lists.{upto, any, filter}
 use Rattle.grid.specs.Grid.{Grid, neighbours}
-use Rattle.kinds.specs.Kinds.{View, fence, word}
+use Rattle.kinds.specs.Kinds.{View, fence}
 
 -- ---- the ordered part
 

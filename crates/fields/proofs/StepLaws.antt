@@ -9,7 +9,8 @@ use lib.Arith.{digits-mod}
 use borrow.Author.Tests.{lt-ltb, le-ltb, le-leb, lt-leb}
 use Rattle.grid.specs.Grid.{Grid, size, col, only, up, down, left, right}
 use Rattle.fields.specs.Fields.{there, stepFrom}
-use Rattle.fields.specs.Inside.{Stepped, to, off, gridWith}
+use Rattle.grid.specs.Side.{sized}
+use Rattle.fields.specs.Inside.{Stepped, to, off}
 use Rattle.fields.specs.declared.Place.the-variants.{At, Lost}
 
 -- there are four directions
@@ -28,7 +29,7 @@ above y w p =
 module _ (h w y x : ℕ) (hy : y < h) (hx : x < w) where
   -- the grid of the code's height and width
   abbrev G : Grid
-  G = gridWith h w
+  G = sized h w
 
   pub step-up : 0 < y → Stepped G (stepFrom G (y * w + x) 0) (At (y - 1) x)
   unfolding stepFrom there up only

@@ -27,10 +27,6 @@ cellCode c = unless (ltb c 3) 2 >>= λ _. ok c
 unfoldable pub codeAt : List ℕ → ℕ → Outcome ℕ
 codeAt s at = field s at 2 >>= cellCode
 
--- the grid of so many rows and columns
-abbrev pub gridWith : ℕ → ℕ → Grid
-gridWith h w = record { height = h; width = w }
-
 -- the cell that a step leads to, by row and column
 pub data Stepped (g : Grid) (o : Outcome ℕ) : Place → Type 0 where
   to : {row col : ℕ} → o ≡ ok (row * g .width + col) → row < g .height → col < g .width → Stepped g o (At row col)

@@ -3,7 +3,8 @@ ghost use mathlib.Core.Path.{_≡_};
 ghost use Prim.Native.Nat.{_+_, _*_, _≤_, _<_};
 ghost use lib.ListN.{getD};
 ghost use Rattle.fields.specs.Fields.{number, field, stepFrom, filler};
-ghost use Rattle.fields.specs.Inside.{fieldOf, cellCode, codeAt, gridWith, Stepped, stepAt, openingAt, startOf};
+ghost use Rattle.grid.specs.Side.{sized};
+ghost use Rattle.fields.specs.Inside.{fieldOf, cellCode, codeAt, Stepped, stepAt, openingAt, startOf};
 
 // A number that was read, or the number of the refusal.
 pub enum Field {
@@ -89,7 +90,7 @@ pub fn read_code(s: &[u8], at: usize) -> Field
 // The cell one step from a cell of the grid: 0 up, 1 down, 2 left, 3 right.
 fn step_from(height: usize, width: usize, row: usize, col: usize, direction: usize) -> Place
     requires { ⌜ (row < height) × (col < width) × (height ≤ 32) × (direction < 4) ⌝ }
-    ensures { λ r. ⌜ Stepped (gridWith height width) (stepFrom (gridWith height width) (row * width + col) direction) r ⌝ }
+    ensures { λ r. ⌜ Stepped (sized height width) (stepFrom (sized height width) (row * width + col) direction) r ⌝ }
 {
     match direction {
         0 => {
@@ -123,7 +124,7 @@ fn step_from(height: usize, width: usize, row: usize, col: usize, direction: usi
 // The cell that the step at at leads to.
 pub fn read_step(s: &[u8], height: usize, width: usize, row: usize, col: usize, at: usize) -> Place
     requires { ⌜ (row < height) × (col < width) × (height ≤ 32) × (at ≤ 65536) ⌝ }
-    ensures { λ r. ⌜ Stepped (gridWith height width) (stepAt (now (s .entry)) (gridWith height width) (row * width + col) at) r ⌝ }
+    ensures { λ r. ⌜ Stepped (sized height width) (stepAt (now (s .entry)) (sized height width) (row * width + col) at) r ⌝ }
 {
     let f = read_field(s, at, 2);
     match f {
@@ -135,7 +136,7 @@ pub fn read_step(s: &[u8], height: usize, width: usize, row: usize, col: usize, 
 // The start of the arrow at at: its three fields are read before the start is tested.
 pub fn read_start(s: &[u8], height: usize, width: usize, at: usize) -> Start
     requires { ⌜ at ≤ 65000 ⌝ }
-    ensures { λ r. ⌜ r ≡ startOf (openingAt (now (s .entry)) (gridWith height width) at) ⌝ }
+    ensures { λ r. ⌜ r ≡ startOf (openingAt (now (s .entry)) (sized height width) at) ⌝ }
 {
     let y = read_field(s, at, 5);
     let Field::Value(row) = y else {

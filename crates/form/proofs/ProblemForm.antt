@@ -21,7 +21,7 @@ use Rattle.record.specs.Problem.{problemOf, puzzleOf, gridOf, arrowsFrom, endsF
 use Rattle.record.specs.declared.Problem.{Problem}
 use Rattle.record.proofs.FreshLaws.{fewer, arrows-size, arrows-length, fresh-append}
 use Rattle.record.proofs.ProblemLaws.{length-ends, arrows-again}
-use Rattle.form.specs.Form.{long, behind, rises, fresh, walks, path, sized, coded, ended, drawn, problemFormed}
+use Rattle.form.specs.Form.{long, behind, rises, fresh, walks, path, goodSize, coded, ended, drawn, problemFormed}
 use Rattle.form.proofs.ArrayTests.{behind-kept, kept-behind, fresh-is, is-fresh}
 
 -- ---- walks
@@ -161,16 +161,16 @@ pub record Sized (g : Grid) : Type 0 where
   pub low : (0 < g .height) × (0 < g .width)
   pub high : (g .height ≤ 32) × (g .width ≤ 32)
 
-pub sized-is : (g : Grid) → sized g ≡ true → Sized g
-unfolding sized
+pub sized-is : (g : Grid) → goodSize g ≡ true → Sized g
+unfolding goodSize
 sized-is g h =
     let a = and-true (leb 1 (g .height) && leb (g .height) 32) (leb 1 (g .width) && leb (g .width) 32) h in
     let b = and-true (leb 1 (g .height)) (leb (g .height) 32) (a .0) in
     let c = and-true (leb 1 (g .width)) (leb (g .width) 32) (a .1) in
     record { low = (leb-true 1 (g .height) (b .0), leb-true 1 (g .width) (c .0)); high = (leb-true (g .height) 32 (b .1), leb-true (g .width) 32 (c .1)) }
 
-pub is-sized : (g : Grid) → Sized g → sized g ≡ true
-unfolding sized
+pub is-sized : (g : Grid) → Sized g → goodSize g ≡ true
+unfolding goodSize
 is-sized g s =
     true-and
     (true-and (le-leb 1 (g .height) (s .low .0)) (le-leb (g .height) 32 (s .high .0)))
@@ -191,8 +191,8 @@ pub record Formed (q : Problem) : Type 0 where
 pub formed-is : (q : Problem) → problemFormed q ≡ true → Formed q
 unfolding problemFormed long
 formed-is q h =
-    let a = and-true (sized (gridOf q) && (long (q .cells) && (long (q .arrows) && long (q .ends)))) (coded (size (gridOf q)) (q .cells) && (ended (q .count) (q .ends) && drawn (gridOf q) (take (q .count) (q .ends)) (q .arrows))) h in
-    let b = and-true (sized (gridOf q)) (long (q .cells) && (long (q .arrows) && long (q .ends))) (a .0) in
+    let a = and-true (goodSize (gridOf q) && (long (q .cells) && (long (q .arrows) && long (q .ends)))) (coded (size (gridOf q)) (q .cells) && (ended (q .count) (q .ends) && drawn (gridOf q) (take (q .count) (q .ends)) (q .arrows))) h in
+    let b = and-true (goodSize (gridOf q)) (long (q .cells) && (long (q .arrows) && long (q .ends))) (a .0) in
     let c = and-true (long (q .cells)) (long (q .arrows) && long (q .ends)) (b .1) in
     let d = and-true (long (q .arrows)) (long (q .ends)) (c .1) in
     let e = and-true (coded (size (gridOf q)) (q .cells)) (ended (q .count) (q .ends) && drawn (gridOf q) (take (q .count) (q .ends)) (q .arrows)) (a .1) in

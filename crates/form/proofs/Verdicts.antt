@@ -16,7 +16,7 @@ use Rattle.grid.proofs.ListLaws.{at-mem}
 use Rattle.grid.proofs.GridLaws.{size-most}
 use Rattle.record.specs.Problem.{gridOf, arrowsFrom}
 use Rattle.record.specs.declared.Problem.{Problem}
-use Rattle.form.specs.Form.{long, behind, rises, fresh, path, sized, coded, ended, drawn, problemFormed, shown, stated, ordered}
+use Rattle.form.specs.Form.{long, behind, rises, fresh, path, goodSize, coded, ended, drawn, problemFormed, shown, stated, ordered}
 use Rattle.form.specs.Inside.{Blank, Below}
 use Rattle.form.proofs.ArrayTests.{fresh-is}
 use Rattle.form.proofs.ProblemForm.{sized-is}
@@ -39,20 +39,20 @@ fresh-below n k l h e i lt =
 
 -- ---- the sizes
 module _ (h w : ℕ) where
-  pub size-flat : h ≡ 0 → false ≡ sized (record { height = h; width = w })
-  unfolding sized
+  pub size-flat : h ≡ 0 → false ≡ goodSize (record { height = h; width = w })
+  unfolding goodSize
   size-flat e = simp (lt-leb 1 h (omega (arith, e)))
 
-  pub size-tall : 32 < h → false ≡ sized (record { height = h; width = w })
-  unfolding sized
+  pub size-tall : 32 < h → false ≡ goodSize (record { height = h; width = w })
+  unfolding goodSize
   size-tall e = simp (lt-leb h 32 e, and-false)
 
-  pub size-thin : w ≡ 0 → false ≡ sized (record { height = h; width = w })
-  unfolding sized
+  pub size-thin : w ≡ 0 → false ≡ goodSize (record { height = h; width = w })
+  unfolding goodSize
   size-thin e = simp (lt-leb 1 w (omega (arith, e)), and-false)
 
-  pub size-by-width : (h ≡ 0 → ⊥) → h ≤ 32 → (w ≡ 0 → ⊥) → leb w 32 ≡ sized (record { height = h; width = w })
-  unfolding sized
+  pub size-by-width : (h ≡ 0 → ⊥) → h ≤ 32 → (w ≡ 0 → ⊥) → leb w 32 ≡ goodSize (record { height = h; width = w })
+  unfolding goodSize
   size-by-width a b c = simp (le-leb 1 h (omega (arith, a)), le-leb h 32 b, le-leb 1 w (omega (arith, c)))
 
 -- ---- the arrows
@@ -75,7 +75,7 @@ module _ (g : Grid) (es l : List ℕ) where
 
 -- ---- the problem
 module _ (q : Problem) where
-  pub problem-size : sized (gridOf q) ≡ false → false ≡ problemFormed q
+  pub problem-size : goodSize (gridOf q) ≡ false → false ≡ problemFormed q
   unfolding problemFormed
   problem-size e = simp e
 
@@ -99,7 +99,7 @@ module _ (q : Problem) where
   unfolding problemFormed coded
   problem-behind e = simp (e, and-false)
 
-  pub problem-is : sized (gridOf q) ≡ true → (length (q .cells) ≡ 1024) × (length (q .arrows) ≡ 1024) × (length (q .ends) ≡ 1024) → q .count ≤ 1024
+  pub problem-is : goodSize (gridOf q) ≡ true → (length (q .cells) ≡ 1024) × (length (q .arrows) ≡ 1024) × (length (q .ends) ≡ 1024) → q .count ≤ 1024
       → rises 0 (take (q .count) (q .ends)) ≡ true → drawn (gridOf q) (take (q .count) (q .ends)) (q .arrows) ≡ true
       → all (λ (x : ℕ). ltb x 3) (take (size (gridOf q)) (q .cells)) ≡ true → behind 0 (size (gridOf q)) (q .cells) ≡ true
       → behind 0 (q .count) (q .ends) ≡ problemFormed q
@@ -134,7 +134,7 @@ module _ (n count : ℕ) (order cells : List ℕ) where
   decisions-are few f z s = simp (le-leb count 1024 few, f, z, s)
 
 -- what a right size says
-pub area-of : (h w : ℕ) → sized (record { height = h; width = w }) ≡ true → (h * w ≤ 1024) × (0 < w) × (w ≤ 32)
+pub area-of : (h w : ℕ) → goodSize (record { height = h; width = w }) ≡ true → (h * w ≤ 1024) × (0 < w) × (w ≤ 32)
 unfolding size
 area-of h w e =
     let s = sized-is (record { height = h; width = w }) e in

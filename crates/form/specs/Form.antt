@@ -39,8 +39,8 @@ path g [] = true
 path g (i ∷ js) = walks g i js
 
 -- H and W are 1 to 32
-unfoldable pub sized : Grid → Bool
-sized g = (leb 1 (g .height) && leb (g .height) 32) && (leb 1 (g .width) && leb (g .width) 32)
+unfoldable pub goodSize : Grid → Bool
+goodSize g = (leb 1 (g .height) && leb (g .height) 32) && (leb 1 (g .width) && leb (g .width) 32)
 
 -- a code for each cell, and 0 behind
 unfoldable pub coded : ℕ → List ℕ → Bool
@@ -57,7 +57,7 @@ drawn g es l = ((leb (last 0 es) 1024 && fresh (size g) [] (take (last 0 es) l))
 -- what an accepted record says, in arrays
 unfoldable pub problemFormed : Problem → Bool
 problemFormed q =
-    (sized (gridOf q) && (long (q .cells) && (long (q .arrows) && long (q .ends))))
+    (goodSize (gridOf q) && (long (q .cells) && (long (q .arrows) && long (q .ends))))
     && (coded (size (gridOf q)) (q .cells) && (ended (q .count) (q .ends) && drawn (gridOf q) (take (q .count) (q .ends)) (q .arrows)))
 
 -- a listed cell is empty or square, any other is undecided

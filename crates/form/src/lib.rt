@@ -8,7 +8,7 @@ ghost use lib.ListN.{length, take, drop};
 ghost use Rattle.grid.specs.Lists.{all, last, member};
 ghost use Rattle.grid.specs.Grid.{Grid, size, neighbours};
 ghost use Rattle.record.specs.Problem.{arrowsFrom};
-ghost use Rattle.form.specs.Form.{behind, rises, fresh, path, sized, drawn, problemFormed};
+ghost use Rattle.form.specs.Form.{behind, rises, fresh, path, goodSize, drawn, problemFormed};
 ghost use Rattle.form.specs.Inside.{Blank, Marks, RowStarts, Suits, Below, Cut};
 
 // Whether v stands at every place from `from` on. Like the passes below it goes on to the end, since a pass without a way out is
@@ -60,12 +60,13 @@ fn low_codes(a: &[u8; 1024], n: usize) -> bool
     good
 }
 
-// Whether the first `count` ends rise, and the last of them.
+// What is known of the ends of the arrows: whether they rise, and the last of them.
 struct Ends {
     rise: bool,
     last: usize,
 }
 
+// Whether the first `count` ends rise, and the last of them.
 fn rising(ends: &[u16; 1024], count: usize) -> Ends
     requires { ⌜ (length (now ends) ≡ 1024) × (count ≤ 1024) ⌝ }
     ensures { λ r. ⌜ (r .rise ≡ rises 0 (take count (now (ends .entry)))) × (r .last ≡ last 0 (take count (now (ends .entry)))) ⌝ }
@@ -190,7 +191,7 @@ fn all_follow<'a>(
 
 // Whether H and W are 1 to 32.
 fn good_size(height: usize, width: usize) -> bool
-    ensures { λ r. ⌜ r ≡ sized (record { height = height; width = width }) ⌝ }
+    ensures { λ r. ⌜ r ≡ goodSize (record { height = height; width = width }) ⌝ }
 {
     if height == 0 {
         return false;

@@ -5,7 +5,8 @@ use mathlib.Core.Path.{_≡_, refl, sym, subst, _∙_}
 use mathlib.Core.Logic.{_⊎_, inl, inr, _↔_}
 use native.Mathlib.Decide.{ℕ-discrete, map-dec}
 use native.Mathlib.Omega.{arith}
-use Rattle.grid.specs.Link.{Linked, here, step, linked-end, linked-start, linked-inside}
+use Rattle.grid.specs.Link.{Linked, here, step}
+use Rattle.grid.proofs.LinkLaws.{linked-end, linked-start, linked-inside}
 use Rattle.grid.specs.Count.{count}
 use Rattle.grid.proofs.Count.{dec-and, dec-or, dec-not, dec-some, count-except, count-inj-suc, count-le}
 

@@ -1,6 +1,6 @@
 -- The cells of a board, and literals.
 -- Assumes nothing.
-use Prim.Native.Nat.{ℕ}
+use Prim.Native.Nat.{ℕ, _+_, _*_}
 use mathlib.Core.Path.{_≡_}
 use mathlib.Core.Bool.{Bool, not}
 use mathlib.Core.List.{List, List·Memᴰ}
@@ -10,6 +10,10 @@ use lib.ListN.{getD}
 -- an index with a value
 abbrev pub Literal : Type 0
 Literal = ℕ × ℕ
+
+-- a literal as one number: value × 32,768 + index
+unfoldable pub word : Literal → ℕ
+word l = l .1 * 32768 + l .0
 
 -- cells: 0 empty, 1 square, 2 undecided
 module _ (cells : List ℕ) (i : ℕ) where

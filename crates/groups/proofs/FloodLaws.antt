@@ -12,7 +12,8 @@ use lib.Dec.{eqb}
 use lib.ListN.{length, getD, set, length-set, replicate, length-replicate, getD-replicate, List·getD-eq-default}
 use lib.Seq.{getD-set-same, getD-set-other}
 use borrow.Author.Tests.{eq-eqb, ne-eqb}
-use Rattle.grid.specs.Link.{here, step, linked-end}
+use Rattle.grid.specs.Link.{here, step}
+use Rattle.grid.proofs.LinkLaws.{linked-end}
 use Rattle.grid.specs.Grid.{Adjacent, Grid, size, neighbours}
 use Rattle.grid.specs.Side.{sized, besideOf, InPlace}
 use Rattle.grid.specs.declared.Side.the-variants.{At}

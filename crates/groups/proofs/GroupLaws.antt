@@ -12,7 +12,8 @@ use lib.ListN.{length, getD, length-map}
 use borrow.Author.Tests.{eqb-true, eq-eqb, leb-true, leb-false}
 use Rattle.grid.proofs.ListLaws.{distinct-filter, distinct-upto, split, and-true, true-and, filter-mem, mem-filter, flatMap-mem, mem-flatMap, upto-mem, mem-upto, length-range, getD-range, map-at}
 use Rattle.grid.proofs.RisingLaws.{Rising, filter-rising, cells-rising}
-use Rattle.grid.specs.Link.{here, step, linked-end, linked-start, linked-trans, linked-sym}
+use Rattle.grid.specs.Link.{here, step}
+use Rattle.grid.proofs.LinkLaws.{linked-end, linked-start, linked-trans, linked-sym}
 use Rattle.grid.proofs.GridLaws.{adj-sym, beside, on-grid}
 use Rattle.grid.specs.Lists.{Distinct, upto, filter}
 use Rattle.grid.specs.Grid.{Grid, size, cellsOf, neighbours}

@@ -12,7 +12,8 @@ use lib.Dec.{eqb}
 use lib.ListN.{length, getD, take}
 use lib.Seq.{ext-getD, getD-take}
 use borrow.Author.Tests.{ne-eqb}
-use Rattle.grid.specs.Link.{here, linked-end, linked-start, linked-map, linked-sym}
+use Rattle.grid.specs.Link.{here}
+use Rattle.grid.proofs.LinkLaws.{linked-end, linked-start, linked-map, linked-sym}
 use Rattle.grid.specs.Lists.{upto, filter}
 use Rattle.grid.specs.Grid.{Grid, size, cellsOf}
 use Rattle.grid.proofs.ListLaws.{split, so-false}

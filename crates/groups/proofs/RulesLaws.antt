@@ -14,7 +14,7 @@ use Rattle.grid.proofs.Finite.{dec-linked}
 use Rattle.grid.specs.Grid.{Adjacent, Grid, size, cellsOf}
 use Rattle.grid.proofs.GridLaws.{dec-adjacent}
 use Rattle.grid.proofs.ListLaws.{dec-so, only-one, single, in-single, of-single, distinct-filter, mem-upto, and-true, true-and, filter-mem, mem-filter, flatMap-mem, mem-flatMap, any-mem, all-mem, mem-all}
-use Rattle.grid.specs.Link.{linked-end}
+use Rattle.grid.proofs.LinkLaws.{linked-end}
 use Rattle.grid.specs.Lists.{upto, filter, any, all, flatMap}
 use Rattle.record.specs.Record.{Puzzle}
 use Rattle.grid.specs.Cells.{square}

@@ -1,4 +1,4 @@
-pub mod Arrows
-pub mod Flood
 pub mod Groups
+pub mod Arrows
 pub mod Rules
+pub mod Flood

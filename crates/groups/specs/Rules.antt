@@ -65,7 +65,7 @@ module _ (p : Puzzle) (cells : List ℕ) where
 
 -- the same as tests
 
--- the block, first cell f, shifted so that f comes to t, lies in the reach r
+-- the set b, shifted so that its cell f comes to t, lies in the set r
 unfoldable pub fits : Grid → List ℕ → List ℕ → ℕ → ℕ → Bool
 fits g b r f t =
     all (λ c. any (λ d. eqb (row g d + row g f) (row g c + row g t) && eqb (col g d + col g f) (col g c + col g t)) r) b

@@ -12,9 +12,9 @@ use borrow.Author.Tests.{lt-ltb, le-ltb}
 use Rattle.grid.specs.Lists.{filter, init, tail}
 use Rattle.grid.specs.Grid.{size}
 use Rattle.grid.proofs.AppendLaws.{filter-agree}
-use Rattle.grid.specs.Cells.{Literal, empty, undecided}
+use Rattle.grid.specs.Cells.{Literal, empty, undecided, word}
 use Rattle.groups.specs.Arrows.{Pair}
-use Rattle.kinds.specs.Kinds.{View, view, viewWith, block, reach, fence, word}
+use Rattle.kinds.specs.Kinds.{View, view, viewWith, block, reach, fence}
 use Rattle.kinds.specs.Inside.{Held}
 use Rattle.fence.specs.Inside.{Fenced}
 use Rattle.literals.specs.Buffer.{Wrote}

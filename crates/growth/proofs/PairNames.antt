@@ -10,7 +10,7 @@ use lib.Seq.{getD-take}
 use borrow.Author.Tests.{eqb-true, eq-eqb}
 use Rattle.grid.specs.Grid.{Grid, size, cellsOf}
 use Rattle.grid.specs.Side.{sized}
-use Rattle.grid.specs.Link.{linked-end}
+use Rattle.grid.proofs.LinkLaws.{linked-end}
 use Rattle.grid.proofs.ListLaws.{true-and, mem-any}
 use Rattle.grid.proofs.GridLaws.{in-cells}
 use Rattle.grid.proofs.FilledLaws.{filled-at}

@@ -6,8 +6,8 @@ use mathlib.Core.List.{List, map}
 use mathlib.Core.Option.{none, some}
 use lib.ListN.{length, drop, length-map}
 use lib.Seq.{drop-at}
+use Rattle.grid.specs.Cells.{word}
 use Rattle.record.specs.Record.{Outcome, ok, refused}
-use Rattle.kinds.specs.Kinds.{word}
 use Rattle.literals.specs.Literals.{Found}
 use Rattle.host.specs.Host.{bytesOf, outputAfter}
 use Rattle.host.proofs.OutputLaws.{bytes-length}

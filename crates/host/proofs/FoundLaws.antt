@@ -11,8 +11,7 @@ use lib.Seq.{take-at}
 use Rattle.grid.specs.Grid.{size}
 use Rattle.grid.specs.Side.{sized}
 use Rattle.record.specs.Record.{Outcome, ok, refused}
-use Rattle.grid.specs.Cells.{Literal}
-use Rattle.kinds.specs.Kinds.{word}
+use Rattle.grid.specs.Cells.{Literal, word}
 use Rattle.kinds.specs.Inside.{puzzleWith}
 use Rattle.literals.specs.Literals.{Found}
 use Rattle.reasons.specs.Reasons.{findReason}

@@ -12,11 +12,10 @@ use Rattle.grid.specs.Lists.{flatMap}
 use Rattle.grid.specs.Grid.{Grid}
 use Rattle.record.specs.Record.{Outcome, ok, refused, _>>=_, unless, readRecord}
 use Rattle.record.specs.declared.Answer.the-variants.{Done}
-use Rattle.grid.specs.Cells.{Literal}
+use Rattle.grid.specs.Cells.{Literal, word}
 use Rattle.board.specs.Board.{decide, after, refusal, enough}
 use Rattle.board.specs.Kept.{openOf}
 use Rattle.board.specs.declared.Board.{Board}
-use Rattle.kinds.specs.Kinds.{word}
 use Rattle.reasons.specs.Reasons.{findOn}
 use Rattle.literals.specs.Literals.{Found}
 

@@ -14,7 +14,7 @@ use Rattle.grid.proofs.ListLaws.{once-one, once-nil, filter-mem, mem-filter, me
 use Rattle.grid.proofs.GridLaws.{dec-adjacent, adj-sym}
 use Rattle.grid.specs.Lists.{filter}
 use Rattle.grid.specs.Grid.{Grid, size, cellsOf, neighbours, Adjacent}
-use Rattle.grid.specs.Link.{linked-end, linked-start, linked-trans}
+use Rattle.grid.proofs.LinkLaws.{linked-end, linked-start, linked-trans}
 use Rattle.record.specs.Record.{Puzzle}
 use Rattle.record.proofs.LineLaws.{ValidArrows}
 use Rattle.grid.proofs.CellLaws.{un-not-em, sq-not-un, sq-not-em, un-below, sq-below, cell-cases, ValidCells}

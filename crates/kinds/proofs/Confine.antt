@@ -4,7 +4,8 @@ use Prim.Native.Nat.{ℕ}
 use mathlib.Core.Path.{_≡_, subst}
 use mathlib.Core.Logic.{_⊎_, inl, inr}
 use Rattle.kinds.specs.Meaning.{PartialBoard, Block, InArrow, Touch, Foreign, Floating, Reach}
-use Rattle.grid.specs.Link.{Linked, here, step, linked-end, linked-trans, linked-sym, linked-inside, linked-map}
+use Rattle.grid.specs.Link.{Linked, here, step}
+use Rattle.grid.proofs.LinkLaws.{linked-end, linked-trans, linked-sym, linked-inside, linked-map}
 
 module _ (B : PartialBoard) where
   open PartialBoard B using (Adj, adj-sym, Arrow, Empty, Square, Undecided, cases)

@@ -3,7 +3,7 @@
 use Prim.Native.Nat.{ℕ, _<_}
 use mathlib.Core.Logic.{inl, inr}
 use native.Mathlib.Decide.{map-dec}
-use Rattle.grid.specs.Link.{linked-end, linked-start}
+use Rattle.grid.proofs.LinkLaws.{linked-end, linked-start}
 use Rattle.grid.proofs.Count.{dec-and, dec-or, dec-not, dec-some}
 use Rattle.grid.proofs.Finite.{dec-linked}
 use Rattle.kinds.specs.Meaning.{PartialBoard, Block, InArrow, Touch, Foreign, Floating, Neighbour, Reach}

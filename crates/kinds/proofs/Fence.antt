@@ -12,7 +12,8 @@ use borrow.Author.Tests.{eqb-true, eq-eqb}
 use Rattle.grid.proofs.GridLaws.{adjacent-touches, adj-sym}
 use Rattle.grid.proofs.ListLaws.{filter-mem, mem-filter, mem-upto, mem-flatMap, so-false, or-so, so-orl, so-orr, and-true, true-and, so-not, any-mem, mem-any}
 use Rattle.grid.specs.Grid.{Grid, size, cellsOf, neighbours, Adjacent}
-use Rattle.grid.specs.Link.{Linked, linked-end, linked-start, linked-map}
+use Rattle.grid.specs.Link.{Linked}
+use Rattle.grid.proofs.LinkLaws.{linked-end, linked-start, linked-map}
 use Rattle.grid.specs.Count.{count}
 use Rattle.grid.proofs.Count.{length-filter}
 use Rattle.grid.specs.Cells.{Agrees, empty, square, undecided}

@@ -12,7 +12,7 @@ use lib.ListN.{getD}
 use borrow.Author.Tests.{eqb-true, eq-eqb}
 use Rattle.grid.specs.Lists.{flatMap, member}
 use Rattle.grid.specs.Grid.{Grid, size, cellsOf, neighbours, touches, Adjacent}
-use Rattle.grid.specs.Link.{linked-start, linked-end}
+use Rattle.grid.proofs.LinkLaws.{linked-start, linked-end}
 use Rattle.grid.proofs.ListLaws.{and-true, true-and, any-mem, mem-any, member-mem, flatMap-mem, mem-flatMap, upto-mem, not-so, so-not}
 use Rattle.grid.proofs.GridLaws.{adj-sym, adjacent-touches, in-cells}
 use Rattle.grid.proofs.RisingLaws.{Rising, nil, cons, cells-rising}

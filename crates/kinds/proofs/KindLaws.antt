@@ -8,7 +8,7 @@ use mathlib.Core.List.{List, [], _∷_, List·Memᴰ, List·Memᴰ·head, List·
 use native.Mathlib.Omega.{arith}
 use Rattle.grid.specs.Lists.{Distinct, member, once}
 use Rattle.grid.specs.Grid.{Grid, size}
-use Rattle.grid.specs.Link.{linked-start}
+use Rattle.grid.proofs.LinkLaws.{linked-start}
 use Rattle.grid.proofs.ListLaws.{dec-so, so-false, mem-member, once-mem}
 use Rattle.grid.specs.Cells.{empty, square}
 use Rattle.kinds.specs.Kinds.{vacant, barrier, floating, inBlock, kindTouching, blocksTouched, kindAt}

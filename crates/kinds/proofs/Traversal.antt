@@ -10,7 +10,8 @@ use mathlib.Core.List.{List, [], _∷_, _++_, List·Memᴰ, List·Memᴰ·not-ni
 use lib.ListN.{getD, set, length-set}
 use lib.Seq.{getD-set-same, getD-set-other}
 use Rattle.grid.specs.Grid.{Grid, size, neighbours, Adjacent}
-use Rattle.grid.specs.Link.{here, step, linked-end, linked-start, linked-trans, linked-sym, linked-map}
+use Rattle.grid.specs.Link.{here, step}
+use Rattle.grid.proofs.LinkLaws.{linked-end, linked-start, linked-trans, linked-sym, linked-map}
 use Rattle.grid.proofs.GridLaws.{adj-sym}
 use Rattle.grid.proofs.ListLaws.{split, place-in}
 use Rattle.grid.proofs.ArrayLaws.{Entry, hit, miss, entry-at}

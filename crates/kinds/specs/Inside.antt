@@ -151,11 +151,12 @@ pub record Unnamed (p : ℕ → Bool) (L : List ℕ) : Type 0 where
   pub only : OnlyUnnamed p L
   pub all : (j : ℕ) → So (p j) → getD L j 0 ≡ unnamed
 
--- the groups with a cell below s are named; L₀ are the groups before the first walk
+-- the entry at j is no name yet, or a name below s: that of a cell joined to j that does not come behind j
 pub data Right (g : Grid) (p : ℕ → Bool) (s : ℕ) (L : List ℕ) (j : ℕ) : Type 0 where
   none : getD L j 0 ≡ unnamed → Right g p s L j
   some : getD L j 0 < s → getD L j 0 ≤ j → Joined g p (getD L j 0) j → Right g p s L j
 
+-- the groups with a cell below s are named; L₀ are the groups before the first walk
 pub record Sofar (g : Grid) (p : ℕ → Bool) (L₀ : List ℕ) (s : ℕ) (L : List ℕ) : Type 0 where
   pub long : length L ≡ length L₀
   pub right : (j : ℕ) → So (p j) → Right g p s L j

@@ -1,6 +1,6 @@
 -- Kinds of cells, the reach of an arrow block and its fence.
 -- Assumes nothing.
-use Prim.Native.Nat.{ℕ, _+_, _*_}
+use Prim.Native.Nat.{ℕ}
 use mathlib.Core.Bool.{Bool, true, false, cond, _&&_, _||_, not}
 use mathlib.Core.List.{List, [], _∷_, map}
 use lib.Dec.{eqb}
@@ -135,10 +135,6 @@ module _ (v : View) where
   fence f =
       let r = reach f in
       flatMap (λ i. fenceAt f r i (getD (v .kinds) i vacant)) (cellsOf (v .grid))
-
--- a literal as one number: value × 32,768 + index
-unfoldable pub word : Literal → ℕ
-word l = l .1 * 32768 + l .0
 
 -- the number of a kind
 unfoldable pub kindCode : Kind → ℕ

@@ -1,3 +1,3 @@
 pub mod Kinds
-pub mod Inside
 pub mod Meaning
+pub mod Inside

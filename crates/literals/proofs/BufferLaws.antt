@@ -7,8 +7,7 @@ use mathlib.Core.Path.{_≡_, refl, sym, ap, _∙_}
 use mathlib.Core.List.{List, [], _∷_, _++_, map, append-assoc, map-append}
 use lib.ListN.{length, getD, set, drop, length-append, length-map, length-drop}
 use lib.Seq.{drop-cons, set-at}
-use Rattle.grid.specs.Cells.{Literal}
-use Rattle.kinds.specs.Kinds.{word}
+use Rattle.grid.specs.Cells.{Literal, word}
 use Rattle.literals.specs.Buffer.{Wrote}
 
 -- nothing is written yet

@@ -8,8 +8,7 @@ use mathlib.Core.Option.{none, some}
 use lib.ListN.{length, take, drop, length-append, length-map, length-drop, drop-of-length-le}
 use lib.Seq.{take-all, take-at, drop-at, drop-drop}
 use borrow.Rule.Slice.PartMut.{putMid}
-use Rattle.grid.specs.Cells.{Literal}
-use Rattle.kinds.specs.Kinds.{word}
+use Rattle.grid.specs.Cells.{Literal, word}
 use Rattle.literals.specs.Buffer.{Wrote, findingBy, bufferBy, FoundAs}
 use Rattle.literals.specs.Literals.{Found, orElse, firstOf}
 use Rattle.literals.specs.declared.Finding.{Finding}

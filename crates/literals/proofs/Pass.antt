@@ -12,8 +12,7 @@ use lib.Seq.{slice, take-suc, drop-append-le, length-take-le}
 use Rattle.grid.specs.Lists.{range, upto, filter}
 use Rattle.grid.proofs.ListLaws.{filter-length}
 use Rattle.grid.proofs.AppendLaws.{upto-more, filter-more, upto-length}
-use Rattle.grid.specs.Cells.{Literal}
-use Rattle.kinds.specs.Kinds.{word}
+use Rattle.grid.specs.Cells.{Literal, word}
 use Rattle.literals.specs.Literals.{each}
 use Rattle.literals.specs.Buffer.{Wrote}
 use Rattle.literals.proofs.BufferLaws.{wrote-none, wrote-more}

@@ -4,8 +4,7 @@ use Prim.Native.Nat.{ℕ, zero, suc, _+_, _*_, _≤_}
 use mathlib.Core.Path.{_≡_}
 use mathlib.Core.List.{List, _++_, map}
 use lib.ListN.{length, drop}
-use Rattle.grid.specs.Cells.{Literal}
-use Rattle.kinds.specs.Kinds.{word}
+use Rattle.grid.specs.Cells.{Literal, word}
 use mathlib.Core.Option.{none, some}
 use Rattle.literals.specs.Literals.{Found}
 use Rattle.literals.specs.declared.Finding.{Finding}

@@ -3,7 +3,7 @@ ghost use mathlib.Core.Path.{_≡_};
 ghost use Prim.Native.Nat.{_+_, _*_, _<_, _≤_};
 ghost use lib.ListN.{length, set};
 ghost use mathlib.Core.Bool.{cond};
-ghost use Rattle.kinds.specs.Kinds.{word};
+ghost use Rattle.grid.specs.Cells.{word};
 
 // The answer of `find`: no reason applies, the number of literals that stand in the buffer, or a refusal by document 01's number.
 pub enum Finding {

@@ -7,10 +7,9 @@ use mathlib.Core.Bool.{So}
 use mathlib.Core.List.{List, [], _∷_, _++_, append-nil, append-assoc, List·Memᴰ·not-nil}
 use lib.ListN.{length, getD, set, take}
 use Rattle.grid.specs.Grid.{Grid, size}
-use Rattle.grid.specs.Cells.{square}
+use Rattle.grid.specs.Cells.{square, word}
 use Rattle.groups.specs.Groups.{Joined}
-use Rattle.grid.specs.Link.{linked-start}
-use Rattle.kinds.specs.Kinds.{word}
+use Rattle.grid.proofs.LinkLaws.{linked-start}
 use Rattle.units.specs.Units.{Entry, breadthFirst, parent, path}
 use Rattle.literals.specs.Literals.{each}
 use Rattle.literals.specs.Buffer.{Wrote}

@@ -12,7 +12,7 @@ use borrow.Author.Tests.{eqb-true, eq-eqb, ne-eqb}
 use Rattle.grid.specs.Lists.{upto, any, filter, member}
 use Rattle.grid.specs.Grid.{Grid, size, cellsOf, neighbours}
 use Rattle.grid.specs.Side.{sized}
-use Rattle.grid.specs.Link.{linked-end}
+use Rattle.grid.proofs.LinkLaws.{linked-end}
 use Rattle.grid.proofs.ListLaws.{so-false, and-true, any-mem, upto-mem, filter-mem, once-mem, member-mem, mem-member}
 use Rattle.grid.proofs.GridLaws.{beside as side, on-grid}
 use Rattle.grid.proofs.SideLaws.{area}

@@ -7,8 +7,8 @@ use mathlib.Core.List.{List, map}
 use mathlib.Core.Option.{none, some}
 use lib.ListN.{length, drop, length-map}
 use lib.Seq.{drop-at}
+use Rattle.grid.specs.Cells.{word}
 use Rattle.board.specs.declared.Board.{Board}
-use Rattle.kinds.specs.Kinds.{word}
 use Rattle.literals.specs.Literals.{Found}
 use Rattle.literals.specs.declared.Finding.the-variants.{Reason}
 use Rattle.literals.specs.Buffer.{findingBy, bufferBy}

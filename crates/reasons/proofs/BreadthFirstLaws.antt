@@ -13,7 +13,8 @@ use lib.Seq.{append-snoc}
 use borrow.Author.Tests.{eqb-true, eq-eqb}
 use Rattle.grid.specs.Lists.{Distinct, filter}
 use Rattle.grid.specs.Grid.{Grid, size, neighbours, Adjacent}
-use Rattle.grid.specs.Link.{Linked, linked-start}
+use Rattle.grid.specs.Link.{Linked}
+use Rattle.grid.proofs.LinkLaws.{linked-start}
 use Rattle.grid.proofs.ListLaws.{dec-so, so-false, and-true, true-and, not-so, so-not}
 use Rattle.grid.proofs.GridLaws.{apart}
 use Rattle.grid.specs.Cells.{Literal, square}

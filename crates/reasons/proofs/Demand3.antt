@@ -18,7 +18,7 @@ use Rattle.record.specs.Problem.{gridOf, problemOf}
 use Rattle.record.specs.Valid.{Valid}
 use Rattle.record.proofs.RecordLaws.{record-valid}
 use Rattle.record.proofs.ProblemLaws.{problem-puzzle}
-use Rattle.grid.specs.Cells.{Literal}
+use Rattle.grid.specs.Cells.{Literal, word}
 use Rattle.board.specs.Board.{Call, find, refusal, Full, cellsAfter, enough}
 use Rattle.groups.specs.Rules.{BlockRules}
 use Rattle.board.specs.Kept.{boardOf}
@@ -27,7 +27,6 @@ use Rattle.board.specs.Form.{wellFormed}
 use Rattle.board.proofs.Standing.{Standing, calls-standing, cells-valid, standing-low}
 use Rattle.board.proofs.BoardForm.{is-whole, standing-whole}
 use Rattle.board.proofs.CallLaws.{opened-left, after-calls}
-use Rattle.kinds.specs.Kinds.{word}
 use Rattle.literals.specs.Literals.{Found}
 use Rattle.reasons.specs.Reasons.{findOn}
 use Rattle.reasons.specs.Find.{cellsOn, reasonOn, findRefusal, findOf, bufferAfter, literalOf, told, answerOn}

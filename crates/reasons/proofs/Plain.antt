@@ -11,7 +11,7 @@ use Rattle.grid.proofs.GridLaws.{adj-sym}
 use Rattle.grid.specs.Lists.{member, last}
 use Rattle.grid.proofs.ListLaws.{mem-any, mem-member, at-mem, so-false}
 use Rattle.grid.specs.Grid.{Grid, size, Adjacent}
-use Rattle.grid.specs.Link.{linked-start, linked-trans, linked-sym}
+use Rattle.grid.proofs.LinkLaws.{linked-start, linked-trans, linked-sym}
 use Rattle.record.specs.Record.{Puzzle}
 use Rattle.grid.specs.Cells.{square}
 use Rattle.grid.proofs.CellLaws.{sq-below}

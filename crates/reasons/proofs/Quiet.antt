@@ -6,7 +6,8 @@ use mathlib.Core.Logic.{_⊎_, inl, inr, _≢_}
 use native.Mathlib.Decide.{ℕ-discrete}
 use native.Mathlib.Omega.{arith}
 use Rattle.grid.specs.Grid.{Grid, size}
-use Rattle.grid.specs.Link.{Linked, linked-end, linked-map}
+use Rattle.grid.specs.Link.{Linked}
+use Rattle.grid.proofs.LinkLaws.{linked-end, linked-map}
 use Rattle.grid.specs.Count.{count}
 use Rattle.grid.proofs.Count.{dec-and, dec-some, count-mono}
 use Rattle.groups.proofs.ArrowLaws.{NextAt}

@@ -7,7 +7,8 @@ use native.Mathlib.Decide.{decLt}
 use native.Mathlib.Nat.{le-trans}
 use native.Mathlib.Omega.{arith}
 use Rattle.grid.specs.Grid.{Grid, size}
-use Rattle.grid.specs.Link.{Linked, here, step, linked-end, linked-map}
+use Rattle.grid.specs.Link.{Linked, here, step}
+use Rattle.grid.proofs.LinkLaws.{linked-end, linked-map}
 use Rattle.grid.specs.Count.{count}
 use Rattle.grid.proofs.Count.{dec-and, count-inj, count-mono}
 use Rattle.groups.proofs.ArrowLaws.{NextAt}

@@ -12,7 +12,8 @@ use borrow.Author.Tests.{lt-ltb}
 use Rattle.grid.specs.Lists.{filter, any, flatMap, last, init, tail}
 use Rattle.grid.proofs.ListLaws.{mem-filter, dec-so, true-and, so-not, any-mem, mem-any, mem-flatMap}
 use Rattle.grid.specs.Grid.{Grid, size, Adjacent}
-use Rattle.grid.specs.Link.{Linked, linked-end, linked-map, here, linked-start}
+use Rattle.grid.specs.Link.{Linked, here}
+use Rattle.grid.proofs.LinkLaws.{linked-end, linked-map, linked-start}
 use Rattle.grid.specs.Count.{count}
 use Rattle.grid.specs.Cells.{Literal, empty, square, undecided, potential, Agrees}
 use Rattle.grid.proofs.CellLaws.{sq-not-em}

@@ -13,7 +13,8 @@ use Rattle.grid.proofs.GridLaws.{in-cells, adjacent-touches, adj-sym}
 use Rattle.grid.specs.Lists.{filter, any, last}
 use Rattle.grid.proofs.ListLaws.{filter-mem, mem-filter, and-true, true-and, not-so, so-not, any-mem, mem-any, last-mem}
 use Rattle.grid.specs.Grid.{Grid, size, cellsOf, touches, Adjacent}
-use Rattle.grid.specs.Link.{Linked, linked-end, linked-map}
+use Rattle.grid.specs.Link.{Linked}
+use Rattle.grid.proofs.LinkLaws.{linked-end, linked-map}
 use Rattle.grid.specs.Cells.{Literal, empty, square, undecided, potential, Agrees}
 use Rattle.grid.proofs.CellLaws.{sq-not-em}
 use Rattle.groups.proofs.GroupLaws.{mem-group, group-mem, Labels, labelled}

@@ -11,7 +11,7 @@ use mathlib.Core.Logic.{_≢_}
 use Rattle.grid.specs.Lists.{Distinct, filter}
 use Rattle.grid.proofs.ListLaws.{filter-mem, distinct-filter}
 use Rattle.grid.specs.Grid.{Grid, size}
-use Rattle.grid.specs.Link.{linked-start}
+use Rattle.grid.proofs.LinkLaws.{linked-start}
 use Rattle.grid.specs.Cells.{Literal, square, Agrees}
 use Rattle.groups.proofs.GroupLaws.{group-mem, group-distinct}
 use Rattle.groups.specs.Groups.{labels, group, names}

@@ -13,7 +13,7 @@ use lib.Dec.{eqb}
 use Rattle.grid.specs.Lists.{filter, any, last, init, tail}
 use Rattle.grid.proofs.ListLaws.{filter-mem, mem-filter, flatMap-mem, and-true, any-mem, last-mem, at-mem, mem-at, upto-mem}
 use Rattle.grid.specs.Grid.{Grid, size, cellsOf, touches}
-use Rattle.grid.specs.Link.{linked-end, linked-start}
+use Rattle.grid.proofs.LinkLaws.{linked-end, linked-start}
 use Rattle.grid.specs.Cells.{Literal, empty, square, potential}
 use Rattle.groups.specs.Groups.{labels, group, names}
 use Rattle.groups.specs.Arrows.{onArrow, Pair}

@@ -11,7 +11,7 @@ use Rattle.grid.specs.Grid.{Grid, size}
 use Rattle.fields.specs.Fields.{ok, refused, _>>=_, field}
 use Rattle.record.specs.Record.{cellCodes, arrowAt, arrowsAt, readRecord}
 use Rattle.record.specs.Problem.{endsFrom, arrowCells, problemOf, reading, readOf}
-use Rattle.fields.specs.Inside.{gridWith}
+use Rattle.grid.specs.Side.{sized}
 use Rattle.record.specs.declared.Reading.{Reading}
 use Rattle.record.specs.declared.Answer.the-variants.{Done}
 use Rattle.fields.proofs.OutcomeLaws.{bind-ok, ok-eq, field-ok}
@@ -58,13 +58,13 @@ module _ (s : List ℕ) where
 
         module _ {cs : List ℕ} (ec : cellCodes s 21 ((h + 1) * (w + 1)) ≡ ok cs) where
           -- a fault in the arrows, or behind them
-          pub whole-arrows : {k : ℕ} → arrowsAt s (gridWith (h + 1) (w + 1)) [] (21 + 2 * ((h + 1) * (w + 1))) m ≡ refused k → reading (refused k) ≡ readOf s
+          pub whole-arrows : {k : ℕ} → arrowsAt s (sized (h + 1) (w + 1)) [] (21 + 2 * ((h + 1) * (w + 1))) m ≡ refused k → reading (refused k) ≡ readOf s
           unfolding readOf readRecord _>>=_ size
           whole-arrows e = rw (eh, ew, em, ec, e) refl
 
           -- no fault
-          pub whole-done : {l : List (List ℕ)} {cells line ends : List ℕ} → cells ≡ arrayOf 0 cs → arrowsAt s (gridWith (h + 1) (w + 1)) [] (21 + 2 * ((h + 1) * (w + 1))) m ≡ ok l
+          pub whole-done : {l : List (List ℕ)} {cells line ends : List ℕ} → cells ≡ arrayOf 0 cs → arrowsAt s (sized (h + 1) (w + 1)) [] (21 + 2 * ((h + 1) * (w + 1))) m ≡ ok l
               → line ≡ arrayOf 0 (arrowCells l) → ends ≡ arrayOf 0 (endsFrom 0 l)
               → _≡_ {A = Reading} (record { answer = Done; problem = record { height = h + 1; width = w + 1; cells = cells; arrows = line; ends = ends; count = m } }) (readOf s)
           unfolding readOf readRecord _>>=_ size reading problemOf
-          whole-done {l} p e q r = rw (eh, ew, em, ec, e, p, q, r, arrows-count s (gridWith (h + 1) (w + 1)) [] (21 + 2 * ((h + 1) * (w + 1))) m e) refl
+          whole-done {l} p e q r = rw (eh, ew, em, ec, e, p, q, r, arrows-count s (sized (h + 1) (w + 1)) [] (21 + 2 * ((h + 1) * (w + 1))) m e) refl

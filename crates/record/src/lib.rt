@@ -9,7 +9,7 @@ ghost use Rattle.fields.specs.Fields.{refused, unless};
 ghost use Rattle.record.specs.Record.{cellCodes, stepCells, arrowsAt};
 ghost use Rattle.record.specs.Problem.{arrowCells, endsFrom, reading, readOf};
 ghost use Rattle.record.specs.Inside.{Answered, Kept, StepTaken, ArrowRead};
-ghost use Rattle.fields.specs.Inside.{gridWith};
+ghost use Rattle.grid.specs.Side.{sized};
 use fields::Field;
 use fields::Place;
 use fields::Start;
@@ -86,7 +86,7 @@ fn take_step(
 ) -> Place
     requires { ⌜ (row < height) × (col < width) × (height ≤ 32) × (width ≤ 32) × (at ≤ 65536) × ((l : List ℕ) × (length l ≡ count) × Kept l (now line) (now used)) ⌝ }
     ensures { λ r. ⌜ ((l : List ℕ) → length l ≡ count → Kept l (now (line .entry)) (now (used .entry))
-        → StepTaken (now (s .entry)) (gridWith height width) l (row * width + col) at (now (line .exit)) (now (used .exit)) r) ⌝ }
+        → StepTaken (now (s .entry)) (sized height width) l (row * width + col) at (now (line .exit)) (now (used .exit)) r) ⌝ }
 {
     let p = fields::read_step(s, height, width, row, col, at);
     match p {
@@ -117,7 +117,7 @@ fn read_steps(
     requires { ⌜ (row < height) × (col < width) × (height ≤ 32) × (width ≤ 32) × (at ≤ 60000) × (steps ≤ 1024)
         × ((l : List ℕ) × (length l ≡ count) × Kept l (now line) (now used)) ⌝ }
     ensures { λ r. ⌜ ((l : List ℕ) → length l ≡ count → Kept l (now (line .entry)) (now (used .entry))
-        → Answered (stepCells (now (s .entry)) (gridWith height width) l (row * width + col) at steps) (λ js. Kept (l ++ js) (now (line .exit)) (now (used .exit))) r) ⌝ }
+        → Answered (stepCells (now (s .entry)) (sized height width) l (row * width + col) at steps) (λ js. Kept (l ++ js) (now (line .exit)) (now (used .exit))) r) ⌝ }
 {
     let mut y = row;
     let mut x = col;
@@ -153,7 +153,7 @@ fn read_arrow(
 ) -> Field
     requires { ⌜ (height ≤ 32) × (width ≤ 32) × (at ≤ 50000) × ((l : List ℕ) × (length l ≡ count) × Kept l (now line) (now used)) ⌝ }
     ensures { λ r. ⌜ ((l : List ℕ) → length l ≡ count → Kept l (now (line .entry)) (now (used .entry))
-        → ArrowRead (now (s .entry)) (gridWith height width) l at (now (line .exit)) (now (used .exit)) r) ⌝ }
+        → ArrowRead (now (s .entry)) (sized height width) l at (now (line .exit)) (now (used .exit)) r) ⌝ }
 {
     let start = fields::read_start(s, height, width, at);
     match start {
@@ -197,7 +197,7 @@ fn read_arrows(
     used: &mut [u8; 1024],
 ) -> Answer
     requires { ⌜ (height ≤ 32) × (width ≤ 32) × (at ≤ 10000) × (arrows ≤ 2048) × (now line ≡ arrayOf 0 []) × (now ends ≡ arrayOf 0 []) × (now used ≡ arrayOf 0 []) ⌝ }
-    ensures { λ r. ⌜ Answered (arrowsAt (now (s .entry)) (gridWith height width) [] at arrows) (λ l. (now (line .exit) ≡ arrayOf 0 (arrowCells l)) × (now (ends .exit) ≡ arrayOf 0 (endsFrom 0 l))) r ⌝ }
+    ensures { λ r. ⌜ Answered (arrowsAt (now (s .entry)) (sized height width) [] at arrows) (λ l. (now (line .exit) ≡ arrayOf 0 (arrowCells l)) × (now (ends .exit) ≡ arrayOf 0 (endsFrom 0 l))) r ⌝ }
 {
     let mut count = 0;
     let mut i = 0;

@@ -21,13 +21,15 @@ digits n = digitsWithin 4 n
 unfoldable pub line : List ℕ → List ℕ
 line text = text ++ (10 ∷ [])
 
--- the words none, reason and refused
+-- the word none
 unfoldable pub noneText : List ℕ
 noneText = 110 ∷ 111 ∷ 110 ∷ 101 ∷ []
 
+-- the word reason
 unfoldable pub reasonText : List ℕ
 reasonText = 114 ∷ 101 ∷ 97 ∷ 115 ∷ 111 ∷ 110 ∷ []
 
+-- the word refused
 unfoldable pub refusedText : List ℕ
 refusedText = 114 ∷ 101 ∷ 102 ∷ 117 ∷ 115 ∷ 101 ∷ 100 ∷ []
 

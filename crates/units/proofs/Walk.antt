@@ -14,7 +14,8 @@ use borrow.Author.Tests.{eqb-true, eq-eqb}
 use Rattle.grid.specs.Lists.{Distinct, filter}
 use Rattle.grid.proofs.ListLaws.{filter-mem, mem-filter, dec-so, so-false, and-true, true-and, not-so, so-not, any-mem, mem-any, distinct-filter}
 use Rattle.grid.specs.Grid.{Grid, size, neighbours, Adjacent}
-use Rattle.grid.specs.Link.{Linked, here, step, linked-start, linked-trans, linked-inside}
+use Rattle.grid.specs.Link.{Linked, here, step}
+use Rattle.grid.proofs.LinkLaws.{linked-start, linked-trans, linked-inside}
 use Rattle.grid.specs.Count.{count}
 use Rattle.grid.proofs.Count.{count-except, count-inj-suc, count-le}
 use Rattle.grid.proofs.GridLaws.{adj-sym, apart}

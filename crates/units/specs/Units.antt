@@ -33,7 +33,8 @@ module _ (p : Puzzle) (cells : List ℕ) where
 abbrev pub Entry : Type 0
 Entry = ℕ × ℕ
 
--- the breadth-first list, each cell with its parent: walked cells are done, todo are listed and wait
+-- the breadth-first list, each cell with its parent, after k turns: done had theirs, todo are listed and wait. As many turns as the grid has
+-- cells are enough (reasons/proofs/BreadthFirstLaws.antt)
 unfoldable pub breadthFirst : Grid → List ℕ → ℕ → List Entry → List Entry → List Entry
 breadthFirst g cells zero done todo = done ++ todo
 breadthFirst g cells (suc k) done [] = done
@@ -47,7 +48,7 @@ unfoldable pub parent : List Entry → ℕ → ℕ
 parent [] i = i
 parent (c ∷ cs) i = cond (eqb (c .0) i) (c .1) (parent cs i)
 
--- from a by parents to b
+-- from a by parents to b, in k steps at most
 unfoldable pub path : ℕ → List Entry → ℕ → ℕ → List ℕ
 path zero cs a b = a ∷ []
 path (suc k) cs a b = cond (eqb a b) (a ∷ []) (a ∷ path k cs (parent cs a) b)

@@ -3,7 +3,7 @@
 use Prim.Native.Nat.{_+_}
 use mathlib.Core.Path.{_≡_}
 use Rattle.fields.specs.Fields.{ok, field}
-use Rattle.fields.specs.Inside.{gridWith}
+use Rattle.grid.specs.Side.{sized}
 use Rattle.fields.proofs.ReadLaws.{value-ok, fault-refused, start-cut, start-cut-2, start-cut-3, start-low, start-aside, start-on}
 use borrow.Author.Needs.{needs}
 use Rattle.fields.proofs.read_start.Statement.{statement}
@@ -31,7 +31,7 @@ enum-told c = search needs
 returns : tie.Need-returns
 returns c =
     let a = c .before .before .before .before in
-    start-cut (a .args .s .now) (gridWith (a .args .height) (a .args .width)) (a .args .at) (fault-refused (field (a .args .s .now) (a .args .at) 5) (c .before .before .read-field .ensures) (c .enum-told .given .1))
+    start-cut (a .args .s .now) (sized (a .args .height) (a .args .width)) (a .args .at) (fault-refused (field (a .args .s .now) (a .args .at) 5) (c .before .before .read-field .ensures) (c .enum-told .given .1))
 
 add-read-field : tie.Need-add-read-field
 add-read-field c = search needs
@@ -48,7 +48,7 @@ enum-told-2 c = search needs
 returns-2 : tie.Need-returns-2
 returns-2 c =
     let a = c .before .before .before .before .before .before .before .before in
-    start-cut-2 (a .args .s .now) (gridWith (a .args .height) (a .args .width)) (a .args .at) (row (c .before .before .before)) (fault-refused (field (a .args .s .now) (a .args .at + 5) 5) (c .before .before .read-field2 .ensures) (c .enum-told2 .given .1))
+    start-cut-2 (a .args .s .now) (sized (a .args .height) (a .args .width)) (a .args .at) (row (c .before .before .before)) (fault-refused (field (a .args .s .now) (a .args .at + 5) 5) (c .before .before .read-field2 .ensures) (c .enum-told2 .given .1))
 
 add-read-field-2 : tie.Need-add-read-field-2
 add-read-field-2 c = search needs
@@ -65,22 +65,22 @@ enum-told-3 c = search needs
 returns-3 : tie.Need-returns-3
 returns-3 c =
     let a = c .before .before .before .before .before .before .before .before .before .before .before .before in
-    start-cut-3 (a .args .s .now) (gridWith (a .args .height) (a .args .width)) (a .args .at) (row (c .before .before .before .before .before .before .before)) (col (c .before .before .before)) (fault-refused (field (a .args .s .now) (a .args .at + 10) 10) (c .before .before .read-field3 .ensures) (c .enum-told3 .given .1))
+    start-cut-3 (a .args .s .now) (sized (a .args .height) (a .args .width)) (a .args .at) (row (c .before .before .before .before .before .before .before)) (col (c .before .before .before)) (fault-refused (field (a .args .s .now) (a .args .at + 10) 10) (c .before .before .read-field3 .ensures) (c .enum-told3 .given .1))
 
 returns-4 : tie.Need-returns-4
 returns-4 c =
     let a = c .before .before .before .before .before .before .before .before .before .before .before .before .before .before in
-    start-low (a .args .s .now) (gridWith (a .args .height) (a .args .width)) (a .args .at) (row (c .before .before .before .before .before .before .before .before .before)) (col (c .before .before .before .before .before)) (steps (c .before)) (c .if1 .taken)
+    start-low (a .args .s .now) (sized (a .args .height) (a .args .width)) (a .args .at) (row (c .before .before .before .before .before .before .before .before .before)) (col (c .before .before .before .before .before)) (steps (c .before)) (c .if1 .taken)
 
 returns-5 : tie.Need-returns-5
 returns-5 c =
     let a = c .before .before .before .before .before .before .before .before .before .before .before .before .before .before .before in
-    start-aside (a .args .s .now) (gridWith (a .args .height) (a .args .width)) (a .args .at) (row (c .before .before .before .before .before .before .before .before .before .before)) (col (c .before .before .before .before .before .before)) (steps (c .before .before)) (c .before .if1 .left) (c .if2 .taken)
+    start-aside (a .args .s .now) (sized (a .args .height) (a .args .width)) (a .args .at) (row (c .before .before .before .before .before .before .before .before .before .before)) (col (c .before .before .before .before .before .before)) (steps (c .before .before)) (c .before .if1 .left) (c .if2 .taken)
 
 returns-6 : tie.Need-returns-6
 returns-6 c =
     let a = c .before .before .before .before .before .before .before .before .before .before .before .before .before .before .before in
-    start-on (a .args .s .now) (gridWith (a .args .height) (a .args .width)) (a .args .at) (row (c .before .before .before .before .before .before .before .before .before .before)) (col (c .before .before .before .before .before .before)) (steps (c .before .before)) (c .before .if1 .left) (c .if2 .left)
+    start-on (a .args .s .now) (sized (a .args .height) (a .args .width)) (a .args .at) (row (c .before .before .before .before .before .before .before .before .before .before)) (col (c .before .before .before .before .before .before)) (steps (c .before .before)) (c .before .if1 .left) (c .if2 .left)
 
 pub read-start-spec : {M : Type 1} → statement M
 read-start-spec =

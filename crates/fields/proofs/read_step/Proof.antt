@@ -3,7 +3,7 @@
 use Prim.Native.Nat.{_+_, _*_}
 use mathlib.Core.Path.{_≡_}
 use Rattle.fields.specs.Fields.{ok, field}
-use Rattle.fields.specs.Inside.{gridWith}
+use Rattle.grid.specs.Side.{sized}
 use Rattle.fields.proofs.OutcomeLaws.{field-ok}
 use Rattle.fields.proofs.ReadLaws.{value-ok, fault-refused, step-value, step-fault}
 use borrow.Author.Needs.{needs}
@@ -31,13 +31,13 @@ enum-known-f-2 c = search needs
 returns : tie.Need-returns
 returns c =
     let a = c .before .before .before .before .before .before in
-    step-value (a .args .s .now) (gridWith (a .args .height) (a .args .width)) (a .args .row * a .args .width + a .args .col) (a .args .at) (value (c .before)) (c .step-from .ensures)
+    step-value (a .args .s .now) (sized (a .args .height) (a .args .width)) (a .args .row * a .args .width + a .args .col) (a .args .at) (value (c .before)) (c .step-from .ensures)
 
 returns-2 : tie.Need-returns-2
 returns-2 c =
     let a = c .before .before .before .before .before in
     let e = fault-refused (field (a .args .s .now) (a .args .at) 2) (c .before .before .before .read-field .ensures) (c .before .f2 .given .1) in
-    step-fault (a .args .s .now) (gridWith (a .args .height) (a .args .width)) (a .args .row * a .args .width + a .args .col) (a .args .at) e
+    step-fault (a .args .s .now) (sized (a .args .height) (a .args .width)) (a .args .row * a .args .width + a .args .col) (a .args .at) e
 
 pub read-step-spec : {M : Type 1} → statement M
 read-step-spec =

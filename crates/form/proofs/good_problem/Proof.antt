@@ -10,7 +10,7 @@ use borrow.Author.Tests.{not-true, not-false}
 use Rattle.grid.specs.Grid.{Grid, size}
 use Rattle.record.specs.Problem.{gridOf}
 use Rattle.record.specs.declared.Problem.{Problem}
-use Rattle.form.specs.Form.{sized, rises, drawn}
+use Rattle.form.specs.Form.{goodSize, rises, drawn}
 use Rattle.form.proofs.Verdicts.{problem-size, problem-count, problem-rise, problem-drawn, problem-codes, problem-behind, problem-is, area-of}
 use borrow.Author.Needs.{needs}
 use Rattle.form.proofs.good_problem.Statement.{statement}
@@ -37,7 +37,7 @@ abbrev entry5 : tie.After-low-codes → tie.Start
 entry5 c = c .before .before .before .before .before .before .before .before
 
 -- what the tests passed say
-right-size : (c : tie.Else1) → sized (grid (c .before .before)) ≡ true
+right-size : (c : tie.Else1) → goodSize (grid (c .before .before)) ≡ true
 right-size c = sym (c .before .good-size .ensures) ∙ not-false (c .before .good-size .result) (c .if1 .left)
 
 area : (c : tie.Else1) → (c .before .before .args .height * c .before .before .args .width ≤ 1024) × (0 < c .before .before .args .width) × (c .before .before .args .width ≤ 32)

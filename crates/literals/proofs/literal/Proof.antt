@@ -2,7 +2,7 @@
 -- Assumes nothing.
 use native.Mathlib.Omega.{arith}
 use borrow.Author.Needs.{needs}
-use Rattle.kinds.specs.Kinds.{word}
+use Rattle.grid.specs.Cells.{word}
 use Rattle.literals.proofs.literal.Statement.{statement}
 use Rattle.literals.proofs.literal.Tie as tie
 

@@ -7,7 +7,7 @@ use lib.Seq.{getD-take}
 use borrow.Author.Tests.{eqb-true}
 use Rattle.grid.specs.Grid.{size}
 use Rattle.grid.specs.Side.{sized}
-use Rattle.grid.specs.Link.{linked-start}
+use Rattle.grid.proofs.LinkLaws.{linked-start}
 use Rattle.grid.specs.Cells.{square}
 use Rattle.grid.proofs.GridLaws.{size-most}
 use Rattle.literals.proofs.BufferLaws.{wrote-length}

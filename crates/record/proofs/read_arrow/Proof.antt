@@ -6,7 +6,8 @@ use mathlib.Core.Path.{_≡_, _∙_}
 use mathlib.Core.List.{List, [], _∷_, _++_}
 use lib.ListN.{length, length-append}
 use Rattle.fields.specs.Fields.{ok}
-use Rattle.fields.specs.Inside.{gridWith, openingAt}
+use Rattle.grid.specs.Side.{sized}
+use Rattle.fields.specs.Inside.{openingAt}
 use Rattle.record.specs.Inside.{Kept}
 use Rattle.record.proofs.KeptLaws.{kept-length}
 use Rattle.record.proofs.ArrowLaws.{answered-done, cell-small, start-ok, start-bad, opening-fits, arrow-bad, arrow-used, arrow-cut, arrow-whole}
@@ -22,15 +23,15 @@ enum-known-start c = search needs
 
 -- the start that was read, and that it lies on the grid
 opening : (c : tie.After-known-told)
-    → openingAt (c .before .before .before .before .before .args .s .now) (gridWith (c .before .before .before .before .before .args .height) (c .before .before .before .before .before .args .width)) (c .before .before .before .before .before .args .at)
+    → openingAt (c .before .before .before .before .before .args .s .now) (sized (c .before .before .before .before .before .args .height) (c .before .before .before .before .before .args .width)) (c .before .before .before .before .before .args .at)
     ≡ ok (record { row = c .before .start .given .0 .0; col = c .before .start .given .0 .1 .0; steps = c .before .start .given .0 .1 .1 .0 })
 opening c =
     let a = c .before .before .before .before .before in
-    start-ok (openingAt (a .args .s .now) (gridWith (a .args .height) (a .args .width)) (a .args .at)) (c .before .before .before .read-start .ensures) (c .before .start .given .1)
+    start-ok (openingAt (a .args .s .now) (sized (a .args .height) (a .args .width)) (a .args .at)) (c .before .before .before .read-start .ensures) (c .before .start .given .1)
 
 fits : (c : tie.After-known-told)
     → (c .before .start .given .0 .0 < c .before .before .before .before .before .args .height) × (c .before .start .given .0 .1 .0 < c .before .before .before .before .before .args .width) × (c .before .start .given .0 .1 .1 .0 < 1024)
-fits c = let a = c .before .before .before .before .before in opening-fits (a .args .s .now) (gridWith (a .args .height) (a .args .width)) (a .args .at) (opening c)
+fits c = let a = c .before .before .before .before .before in opening-fits (a .args .s .now) (sized (a .args .height) (a .args .width)) (a .args .at) (opening c)
 
 -- the cell is one of 1,024
 small : (c : tie.After-known-told) → c .before .start .given .0 .0 * c .before .before .before .before .before .args .width + c .before .start .given .0 .1 .0 < 1024
@@ -95,7 +96,7 @@ returns c =
     let a = c .before .before .before .before .before .before .before .before .before .before .before .before .before .before .before in
     let t = c .before .before .before .before .before .before .before .enter .ensures l e k in
     let d = answered-done t (c .before .before .before .before .before .enum-told .given .1) in
-    arrow-whole (a .args .s .now) (gridWith (a .args .height) (a .args .width)) l (a .args .at) _ _ (c .before .before .before .before .before .before .before .before .before .before .before .start .given .0 .0) (c .before .before .before .before .before .before .before .before .before .before .before .start .given .0 .1 .0) (c .before .before .before .before .before .before .before .before .before .before .before .start .given .0 .1 .1 .0) (opening (c .before .before .before .before .before .before .before .before .before .before)) t (c .before .before .before .before .before .enum-told .given .1)
+    arrow-whole (a .args .s .now) (sized (a .args .height) (a .args .width)) l (a .args .at) _ _ (c .before .before .before .before .before .before .before .before .before .before .before .start .given .0 .0) (c .before .before .before .before .before .before .before .before .before .before .before .start .given .0 .1 .0) (c .before .before .before .before .before .before .before .before .before .before .before .start .given .0 .1 .1 .0) (opening (c .before .before .before .before .before .before .before .before .before .before)) t (c .before .before .before .before .before .enum-told .given .1)
     (c .before .before .read-steps .ensures (l ++ (_ ∷ [])) (length-append l (_ ∷ []) ∙ omega (arith, e)) (d .2)) (a .args .count) e (c .enum-told2 .given .1)
 
 returns-2 : tie.Need-returns-2
@@ -104,20 +105,20 @@ returns-2 c =
     let a = c .before .before .before .before .before .before .before .before .before .before .before .before .before .before .before .before in
     let t = c .before .before .before .before .before .before .before .before .enter .ensures l e k in
     let d = answered-done t (c .before .before .before .before .before .before .enum-told .given .1) in
-    arrow-cut (a .args .s .now) (gridWith (a .args .height) (a .args .width)) l (a .args .at) _ _ (c .before .before .before .before .before .before .before .before .before .before .before .before .start .given .0 .0) (c .before .before .before .before .before .before .before .before .before .before .before .before .start .given .0 .1 .0) (c .before .before .before .before .before .before .before .before .before .before .before .before .start .given .0 .1 .1 .0) (opening (c .before .before .before .before .before .before .before .before .before .before .before)) t (c .before .before .before .before .before .before .enum-told .given .1)
+    arrow-cut (a .args .s .now) (sized (a .args .height) (a .args .width)) l (a .args .at) _ _ (c .before .before .before .before .before .before .before .before .before .before .before .before .start .given .0 .0) (c .before .before .before .before .before .before .before .before .before .before .before .before .start .given .0 .1 .0) (c .before .before .before .before .before .before .before .before .before .before .before .before .start .given .0 .1 .1 .0) (opening (c .before .before .before .before .before .before .before .before .before .before .before)) t (c .before .before .before .before .before .before .enum-told .given .1)
     (c .before .before .before .read-steps .ensures (l ++ (_ ∷ [])) (length-append l (_ ∷ []) ∙ omega (arith, e)) (d .2)) (c .before .b .given .1)
 
 returns-3 : tie.Need-returns-3
 returns-3 c =
     λ l e k.
     let a = c .before .before .before .before .before .before .before .before .before .before .before in
-    arrow-used (a .args .s .now) (gridWith (a .args .height) (a .args .width)) l (a .args .at) _ _ (c .before .before .before .before .before .before .before .start .given .0 .0) (c .before .before .before .before .before .before .before .start .given .0 .1 .0) (c .before .before .before .before .before .before .before .start .given .0 .1 .1 .0) (opening (c .before .before .before .before .before .before)) (c .before .before .before .enter .ensures l e k) (c .before .a .given .1)
+    arrow-used (a .args .s .now) (sized (a .args .height) (a .args .width)) l (a .args .at) _ _ (c .before .before .before .before .before .before .before .start .given .0 .0) (c .before .before .before .before .before .before .before .start .given .0 .1 .0) (c .before .before .before .before .before .before .before .start .given .0 .1 .1 .0) (opening (c .before .before .before .before .before .before)) (c .before .before .before .enter .ensures l e k) (c .before .a .given .1)
 
 returns-4 : tie.Need-returns-4
 returns-4 c =
     λ l e k.
     let a = c .before .before .before .before .before in
-    arrow-bad (a .args .s .now) (gridWith (a .args .height) (a .args .width)) l (a .args .at) _ _ (start-bad (openingAt (a .args .s .now) (gridWith (a .args .height) (a .args .width)) (a .args .at)) (c .before .before .before .read-start .ensures) (c .before .start2 .given .1))
+    arrow-bad (a .args .s .now) (sized (a .args .height) (a .args .width)) l (a .args .at) _ _ (start-bad (openingAt (a .args .s .now) (sized (a .args .height) (a .args .width)) (a .args .at)) (c .before .before .before .read-start .ensures) (c .before .start2 .given .1))
 
 pub read-arrow-spec : {M : Type 1} → statement M
 read-arrow-spec =

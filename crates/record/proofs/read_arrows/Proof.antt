@@ -9,7 +9,7 @@ use borrow.Author.Needs.{needs}
 use Rattle.fields.specs.Fields.{ok}
 use Rattle.record.specs.Record.{arrowAt}
 use Rattle.record.specs.Problem.{arrowCells}
-use Rattle.fields.specs.Inside.{gridWith}
+use Rattle.grid.specs.Side.{sized}
 use Rattle.record.specs.Inside.{fault, Kept}
 use Rattle.record.proofs.KeptLaws.{kept-length}
 use Rattle.record.proofs.ArrowsLaws.{read-arrow, read-fault, ArrowsSoFar, arrows-start, arrows-fault, arrows-room, arrows-more, arrows-filled, arrows-unfilled}
@@ -18,7 +18,7 @@ use Rattle.record.proofs.read_arrows.Tie as tie
 
 abbrev Inv-loop : tie.InvT-loop
 Inv-loop s height width at arrows line₀ ends₀ used₀ count₀ i₀ line ends used count i =
-    (i ≤ arrows) × (count ≤ 1024) × ArrowsSoFar s (gridWith height width) at arrows i count line ends used
+    (i ≤ arrows) × (count ≤ 1024) × ArrowsSoFar s (sized height width) at arrows i count line ends used
 
 abbrev μ-loop : tie.MeasureT-loop
 μ-loop s height width at arrows line₀ ends₀ used₀ count₀ i₀ line ends used count i = arrows - i
@@ -26,7 +26,7 @@ abbrev μ-loop : tie.MeasureT-loop
 loop-holds : tie.Need-loop-holds Inv-loop μ-loop
 loop-holds c =
     let a = c .before in
-    (omega arith, omega arith, arrows-start (a .args .s .now) (gridWith (a .args .height) (a .args .width)) (a .args .at) (a .args .arrows) (a .args .line .now) (a .args .ends .now) (a .args .used .now) (a .pre .4) (a .pre .5) (a .pre .6))
+    (omega arith, omega arith, arrows-start (a .args .s .now) (sized (a .args .height) (a .args .width)) (a .args .at) (a .args .arrows) (a .args .line .now) (a .args .ends .now) (a .args .used .now) (a .pre .4) (a .pre .5) (a .pre .6))
 
 mul-read-arrow : tie.Need-mul-read-arrow Inv-loop μ-loop
 mul-read-arrow c = search needs
@@ -52,7 +52,7 @@ enum-known-f c = search needs
 -- the arrow that was read
 next : (c : tie.After-known-told Inv-loop μ-loop)
     → (a : List ℕ)
-    × (arrowAt (c .before .before .before .before .before .before .before .before .before .args .s .now) (gridWith (c .before .before .before .before .before .before .before .before .before .args .height) (c .before .before .before .before .before .before .before .before .before .args .width)) (arrowCells (c .before .before .before .before .before .before .before .loop .inv .2 .read)) (c .before .before .before .before .before .before .before .before .before .args .at + 18 * c .before .before .before .before .before .before .before .loop .i + 2 * c .before .before .before .before .before .before .before .loop .count) ≡ ok a)
+    × (arrowAt (c .before .before .before .before .before .before .before .before .before .args .s .now) (sized (c .before .before .before .before .before .before .before .before .before .args .height) (c .before .before .before .before .before .before .before .before .before .args .width)) (arrowCells (c .before .before .before .before .before .before .before .loop .inv .2 .read)) (c .before .before .before .before .before .before .before .before .before .args .at + 18 * c .before .before .before .before .before .before .before .loop .i + 2 * c .before .before .before .before .before .before .before .loop .count) ≡ ok a)
     × (length (arrowCells (c .before .before .before .before .before .before .before .loop .inv .2 .read) ++ a) ≡ c .before .f .given .0 .0)
     × Kept (arrowCells (c .before .before .before .before .before .before .before .loop .inv .2 .read) ++ a) (c .before .before .before .read-arrow .last .1 .1 .1 .1 .1 .0) (c .before .before .before .read-arrow .last .1 .1 .1 .1 .1 .1 .0)
 next c =
@@ -64,7 +64,7 @@ room : (c : tie.After-known-told Inv-loop μ-loop) → (c .before .before .befor
 room c =
     let a = c .before .before .before .before .before .before .before .before .before in
     let r = next c in
-    (arrows-room (a .args .s .now) (gridWith (a .args .height) (a .args .width)) (a .args .at) (a .args .arrows) (c .before .before .before .before .before .before .before .loop .i) (c .before .before .before .before .before .before .before .loop .count) (c .before .before .before .before .before .before .before .loop .inv .2) (r .1) (r .3), omega (arith, r .2, kept-length (r .3)))
+    (arrows-room (a .args .s .now) (sized (a .args .height) (a .args .width)) (a .args .at) (a .args .arrows) (c .before .before .before .before .before .before .before .loop .i) (c .before .before .before .before .before .before .before .loop .count) (c .before .before .before .before .before .before .before .loop .inv .2) (r .1) (r .3), omega (arith, r .2, kept-length (r .3)))
 
 cast-ends : tie.Need-cast-ends Inv-loop μ-loop
 cast-ends c = omega (arith, room c .1)
@@ -82,7 +82,7 @@ returns : tie.Need-returns Inv-loop μ-loop
 returns c =
     let a = c .before .before .before .before .before .before .before .before .before in
     let w = c .before .before .before .before .before .before .before .loop .inv .2 in
-    fault (arrows-fault (a .args .s .now) (gridWith (a .args .height) (a .args .width)) (a .args .at) (a .args .arrows) (c .before .before .before .before .before .before .before .loop .i) (c .before .before .before .before .before .before .before .loop .count) (c .before .before .before .before .before .before .before .loop .inv .2) (c .before .before .before .before .before .before .loop-test .taken) (read-fault (c .before .before .before .read-arrow .ensures (arrowCells (w .read)) (w .cells) (w .kept)) (c .before .f2 .given .1)))
+    fault (arrows-fault (a .args .s .now) (sized (a .args .height) (a .args .width)) (a .args .at) (a .args .arrows) (c .before .before .before .before .before .before .before .loop .i) (c .before .before .before .before .before .before .before .loop .count) (c .before .before .before .before .before .before .before .loop .inv .2) (c .before .before .before .before .before .before .loop-test .taken) (read-fault (c .before .before .before .read-arrow .ensures (arrowCells (w .read)) (w .cells) (w .kept)) (c .before .f2 .given .1)))
 
 add-i : tie.Need-add-i Inv-loop μ-loop
 add-i c = search needs
@@ -94,7 +94,7 @@ loop-again : tie.Need-loop-again Inv-loop μ-loop
 loop-again c =
     let a = c .before .before .before .before .before .before .before .before .before in
     let r = next c in
-    (omega arith, room c .1, arrows-more (a .args .s .now) (gridWith (a .args .height) (a .args .width)) (a .args .at) (a .args .arrows) (c .before .before .before .before .before .before .before .loop .i) (c .before .before .before .before .before .before .before .loop .count) (c .before .before .before .before .before .before .before .loop .inv .2) (c .before .before .before .before .before .before .loop-test .taken) (r .1) (r .2) (r .3))
+    (omega arith, room c .1, arrows-more (a .args .s .now) (sized (a .args .height) (a .args .width)) (a .args .at) (a .args .arrows) (c .before .before .before .before .before .before .before .loop .i) (c .before .before .before .before .before .before .before .loop .count) (c .before .before .before .before .before .before .before .loop .inv .2) (c .before .before .before .before .before .before .loop-test .taken) (r .1) (r .2) (r .3))
 
 mul-is-filler : tie.Need-mul-is-filler Inv-loop μ-loop
 mul-is-filler c = search needs
@@ -114,12 +114,12 @@ is-filler-requires c κs = search needs
 returns-2 : tie.Need-returns-2 Inv-loop μ-loop
 returns-2 c =
     let a = c .before .before .before .before .before in
-    arrows-filled (a .args .s .now) (gridWith (a .args .height) (a .args .width)) (a .args .at) (a .args .arrows) (c .before .before .before .loop .i) (c .before .before .before .loop .count) (c .before .before .before .loop .inv .2) (c .before .before .before .loop .inv .0) (c .before .before .loop-test .left) (sym (c .before .is-filler .ensures) ∙ c .if1 .taken)
+    arrows-filled (a .args .s .now) (sized (a .args .height) (a .args .width)) (a .args .at) (a .args .arrows) (c .before .before .before .loop .i) (c .before .before .before .loop .count) (c .before .before .before .loop .inv .2) (c .before .before .before .loop .inv .0) (c .before .before .loop-test .left) (sym (c .before .is-filler .ensures) ∙ c .if1 .taken)
 
 returns-3 : tie.Need-returns-3 Inv-loop μ-loop
 returns-3 c =
     let a = c .before .before .before .before .before in
-    arrows-unfilled (a .args .s .now) (gridWith (a .args .height) (a .args .width)) (a .args .at) (a .args .arrows) (c .before .before .before .loop .i) (c .before .before .before .loop .count) (c .before .before .before .loop .inv .2) (c .before .before .before .loop .inv .0) (c .before .before .loop-test .left) (sym (c .before .is-filler .ensures) ∙ c .if1 .left)
+    arrows-unfilled (a .args .s .now) (sized (a .args .height) (a .args .width)) (a .args .at) (a .args .arrows) (c .before .before .before .loop .i) (c .before .before .before .loop .count) (c .before .before .before .loop .inv .2) (c .before .before .before .loop .inv .0) (c .before .before .loop-test .left) (sym (c .before .is-filler .ensures) ∙ c .if1 .left)
 
 pub read-arrows-spec : {M : Type 1} → statement M
 read-arrows-spec =

@@ -6,7 +6,7 @@ use mathlib.Core.Path.{_≡_, _∙_}
 use mathlib.Core.List.{List, _++_}
 use lib.ListN.{length, length-append}
 use borrow.Author.Needs.{needs}
-use Rattle.fields.specs.Inside.{gridWith}
+use Rattle.grid.specs.Side.{sized}
 use Rattle.record.specs.Inside.{fault, Kept}
 use Rattle.record.proofs.KeptLaws.{kept-length}
 use Rattle.record.proofs.ArrowLaws.{taken-to, taken-lost, StepsSoFar, steps-start, steps-fault, steps-more, steps-end}
@@ -18,7 +18,7 @@ Inv-loop s height width row col at steps count line₀ used₀ y₀ x₀ i₀ li
     (i ≤ steps)
     × (y < height)
     × (x < width)
-    × ((l : List ℕ) → length l ≡ count → Kept l line₀ used₀ → StepsSoFar s (gridWith height width) l (row * width + col) at steps i (y * width + x) line used)
+    × ((l : List ℕ) → length l ≡ count → Kept l line₀ used₀ → StepsSoFar s (sized height width) l (row * width + col) at steps i (y * width + x) line used)
 
 abbrev μ-loop : tie.MeasureT-loop
 μ-loop s height width row col at steps count line₀ used₀ y₀ x₀ i₀ line used y x i = steps - i
@@ -26,7 +26,7 @@ abbrev μ-loop : tie.MeasureT-loop
 loop-holds : tie.Need-loop-holds Inv-loop μ-loop
 loop-holds c =
     let a = c .before in
-    (omega arith, a .pre .0, a .pre .1, λ l e k. steps-start (a .args .s .now) (gridWith (a .args .height) (a .args .width)) l (a .args .row * a .args .width + a .args .col) (a .args .at) (a .args .steps) (a .args .line .now) (a .args .used .now) k)
+    (omega arith, a .pre .0, a .pre .1, λ l e k. steps-start (a .args .s .now) (sized (a .args .height) (a .args .width)) l (a .args .row * a .args .width + a .args .col) (a .args .at) (a .args .steps) (a .args .line .now) (a .args .used .now) k)
 
 -- the arrow cells so far, with those of the steps taken
 so-far : (c : tie.In-loop Inv-loop μ-loop) → (l : List ℕ) × (length l ≡ c .before .before .before .args .count + c .before .loop .i) × Kept l (c .before .loop .line) (c .before .loop .used)
@@ -62,7 +62,7 @@ returns c =
     let a = c .before .before .before .before .before .before .before .before .before in
     let w = c .before .before .before .before .before .before .before .loop .inv .3 l e k in
     let t = c .before .before .before .take-step .ensures (l ++ w .js) (length-append l (w .js) ∙ omega (arith, e, w .many)) (w .kept) in
-    fault (steps-fault (a .args .s .now) (gridWith (a .args .height) (a .args .width)) l (a .args .row * a .args .width + a .args .col) (a .args .at) (a .args .steps) (c .before .before .before .before .before .before .loop-test .taken) w (taken-lost t (c .before .p2 .given .1)))
+    fault (steps-fault (a .args .s .now) (sized (a .args .height) (a .args .width)) l (a .args .row * a .args .width + a .args .col) (a .args .at) (a .args .steps) (c .before .before .before .before .before .before .loop-test .taken) w (taken-lost t (c .before .p2 .given .1)))
 
 add-i : tie.Need-add-i Inv-loop μ-loop
 add-i c = search needs
@@ -81,14 +81,14 @@ loop-again c =
       λ l e k.
           let w = c .before .before .before .before .before .before .before .loop .inv .3 l e k in
           let u = taken-to (c .before .before .before .take-step .ensures (l ++ w .js) (length-append l (w .js) ∙ omega (arith, e, w .many)) (w .kept)) (c .before .p .given .1) in
-          steps-more (a .args .s .now) (gridWith (a .args .height) (a .args .width)) l (a .args .row * a .args .width + a .args .col) (a .args .at) (a .args .steps) (c .before .before .before .before .before .before .loop-test .taken) w (u .0) (u .3),
+          steps-more (a .args .s .now) (sized (a .args .height) (a .args .width)) l (a .args .row * a .args .width + a .args .col) (a .args .at) (a .args .steps) (c .before .before .before .before .before .before .loop-test .taken) w (u .0) (u .3),
     )
 
 returns-2 : tie.Need-returns-2 Inv-loop μ-loop
 returns-2 c =
     λ l e k.
     let a = c .before .before .before in
-    steps-end (a .args .s .now) (gridWith (a .args .height) (a .args .width)) l (a .args .row * a .args .width + a .args .col) (a .args .at) (a .args .steps) (c .before .loop .inv .0) (c .loop-test .left) (c .before .loop .inv .3 l e k)
+    steps-end (a .args .s .now) (sized (a .args .height) (a .args .width)) l (a .args .row * a .args .width + a .args .col) (a .args .at) (a .args .steps) (c .before .loop .inv .0) (c .loop-test .left) (c .before .loop .inv .3 l e k)
 
 pub read-steps-spec : {M : Type 1} → statement M
 read-steps-spec =

@@ -2,7 +2,7 @@
 -- Assumes nothing.
 use Prim.Native.Nat.{_+_, _*_, _<_}
 use native.Mathlib.Omega.{arith}
-use Rattle.fields.specs.Inside.{gridWith}
+use Rattle.grid.specs.Side.{sized}
 use Rattle.record.proofs.ArrowLaws.{stepped-to, stepped-off, cell-small, step-lost, step-used, step-new}
 use borrow.Author.Needs.{needs}
 use Rattle.record.proofs.take_step.Statement.{statement}
@@ -44,20 +44,20 @@ returns c =
     λ l e k.
     let a = c .before .before .before .before .before .before .before .before .before .before in
     let t = stepped-to (c .before .before .before .before .before .before .before .before .read-step .ensures) (c .before .before .before .before .before .before .p .given .1) in
-    step-new (a .args .s .now) (gridWith (a .args .height) (a .args .width)) l (a .args .row * a .args .width + a .args .col) (a .args .at) (c .before .before .before .before .before .before .p .given .0 .0) (c .before .before .before .before .before .before .p .given .0 .1 .0) (t .0) (c .before .before .enter .ensures l e k) (t .1) (t .2) (c .enum-told .given .1)
+    step-new (a .args .s .now) (sized (a .args .height) (a .args .width)) l (a .args .row * a .args .width + a .args .col) (a .args .at) (c .before .before .before .before .before .before .p .given .0 .0) (c .before .before .before .before .before .before .p .given .0 .1 .0) (t .0) (c .before .before .enter .ensures l e k) (t .1) (t .2) (c .enum-told .given .1)
 
 returns-2 : tie.Need-returns-2
 returns-2 c =
     λ l e k.
     let a = c .before .before .before .before .before .before .before .before .before .before .before in
     let t = stepped-to (c .before .before .before .before .before .before .before .before .before .read-step .ensures) (c .before .before .before .before .before .before .before .p .given .1) in
-    step-used (a .args .s .now) (gridWith (a .args .height) (a .args .width)) l (a .args .row * a .args .width + a .args .col) (a .args .at) (c .before .before .before .before .before .before .before .p .given .0 .0) (c .before .before .before .before .before .before .before .p .given .0 .1 .0) (t .0) (c .before .before .before .enter .ensures l e k) (c .before .a .given .1)
+    step-used (a .args .s .now) (sized (a .args .height) (a .args .width)) l (a .args .row * a .args .width + a .args .col) (a .args .at) (c .before .before .before .before .before .before .before .p .given .0 .0) (c .before .before .before .before .before .before .before .p .given .0 .1 .0) (t .0) (c .before .before .before .enter .ensures l e k) (c .before .a .given .1)
 
 returns-3 : tie.Need-returns-3
 returns-3 c =
     λ l e k.
     let a = c .before .before .before .before .before in
-    step-lost (a .args .s .now) (gridWith (a .args .height) (a .args .width)) l (a .args .row * a .args .width + a .args .col) (a .args .at) _ _ (stepped-off (c .before .before .before .read-step .ensures) (c .before .p2 .given .1))
+    step-lost (a .args .s .now) (sized (a .args .height) (a .args .width)) l (a .args .row * a .args .width + a .args .col) (a .args .at) _ _ (stepped-off (c .before .before .before .read-step .ensures) (c .before .p2 .given .1))
 
 pub take-step-spec : {M : Type 1} → statement M
 take-step-spec =

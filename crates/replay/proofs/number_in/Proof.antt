@@ -11,7 +11,7 @@ wide-requires c κs = search needs
 
 returns : tie.Need-returns
 unfolding numberIn
-returns c = simp (le-leb _ _ (c .before .if1 .taken)) (c .wide .ensures)
+returns c = simp (le-leb _ _ (c .before .if1 .taken)) (c .wide .ensures .0)
 
 mul-number-at : tie.Need-mul-number-at
 mul-number-at c = search needs

@@ -39,7 +39,7 @@ returns c =
     let l = s .args .numbers .now in
     let said = numberIn (s .args .list .now) (s .args .at) (s .args .n) (s .args .behind) in
     another l said (differs l said 0) (t .i) (omega arith)
-    (λ e. c .if1 .taken (c .before .before .wide .ensures ∙ (e ∙ sym (c .before .number-in .ensures))))
+    (λ e. c .if1 .taken (c .before .before .wide .ensures .0 ∙ (e ∙ sym (c .before .number-in .ensures))))
     (t .inv)
 
 add-i : tie.Need-add-i Inv-loop μ-loop
@@ -55,7 +55,7 @@ loop-again c =
     let l = s .args .numbers .now in
     let said = numberIn (s .args .list .now) (s .args .at) (s .args .n) (s .args .behind) in
     same l said (differs l said 0) (t .i) (omega arith)
-    (sym (c .before .before .wide .ensures) ∙ (c .if1 .left ∙ c .before .number-in .ensures))
+    (sym (c .before .before .wide .ensures .0) ∙ (c .if1 .left ∙ c .before .number-in .ensures))
     (t .inv)
 
 returns-2 : tie.Need-returns-2 Inv-loop μ-loop
