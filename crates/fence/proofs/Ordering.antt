@@ -12,39 +12,11 @@ use lib.Seq.{getD-take, drop-drop}
 use borrow.Author.Tests.{eqb-true, eq-eqb}
 use Rattle.grid.specs.Lists.{upto, filter}
 use Rattle.grid.proofs.ListLaws.{filter-mem, mem-filter, upto-mem, mem-upto, at-mem, so-orl, so-orr, or-so, filter-length, length-range, map-at}
-use Rattle.grid.proofs.RisingLaws.{Rising, nil, cons, range-rising, filter-rising}
+use Rattle.grid.proofs.RisingLaws.{Rising, nil, cons, range-rising, filter-rising, rising-same}
 use Rattle.grid.proofs.AppendLaws.{filter-agree}
 use Rattle.fence.specs.Inside.{key, litAt, Place, Inserted, old, new, Ordered}
 
 -- ---- rising lists
-
-rising-same : {a b : List ℕ} → Rising a → Rising b → ((x : ℕ) → List·Memᴰ x a → List·Memᴰ x b) → ((x : ℕ) → List·Memᴰ x b → List·Memᴰ x a) → a ≡ b
-rising-same nil nil f g = refl
-rising-same nil (cons {x} h r) f g = absurd (List·Memᴰ·not-nil (g x (List·Memᴰ·head refl)))
-rising-same (cons {x} h r) nil f g = absurd (List·Memᴰ·not-nil (f x (List·Memᴰ·head refl)))
-rising-same (cons {x} {xs} h r) (cons {x = y} {xs = ys} k s) f g = rw (first, rising-same r s tail-in in-tail)
-  where
-    pick : List·Memᴰ x (y ∷ ys) → List·Memᴰ y (x ∷ xs) → x ≡ y
-    pick (List·Memᴰ·head e) n = e
-    pick (List·Memᴰ·tail m) (List·Memᴰ·head e) = sym e
-    pick (List·Memᴰ·tail m) (List·Memᴰ·tail n) = absurd (omega (arith, k x m, h y n))
-
-    first : x ≡ y
-    first = pick (f x (List·Memᴰ·head refl)) (g y (List·Memᴰ·head refl))
-
-    drop-first : (z : ℕ) → x < z → List·Memᴰ z (y ∷ ys) → List·Memᴰ z ys
-    drop-first z l (List·Memᴰ·head e) = absurd (omega (arith, first, e))
-    drop-first z l (List·Memᴰ·tail m) = m
-
-    drop-other : (z : ℕ) → y < z → List·Memᴰ z (x ∷ xs) → List·Memᴰ z xs
-    drop-other z l (List·Memᴰ·head e) = absurd (omega (arith, first, e))
-    drop-other z l (List·Memᴰ·tail m) = m
-
-    tail-in : (z : ℕ) → List·Memᴰ z xs → List·Memᴰ z ys
-    tail-in z m = drop-first z (h z m) (f z (List·Memᴰ·tail m))
-
-    in-tail : (z : ℕ) → List·Memᴰ z ys → List·Memᴰ z xs
-    in-tail z m = drop-other z (k z m) (g z (List·Memᴰ·tail m))
 
 -- the members of a list with one more at place p
 more-mem : (l : List ℕ) (p i : ℕ) {x : ℕ} → List·Memᴰ x (take p l ++ (i ∷ drop p l)) → List·Memᴰ x l ⊎ (x ≡ i)

@@ -1,6 +1,6 @@
 -- Lists of numbers, and tests on them.
 -- Assumes nothing.
-use Prim.Native.Nat.{ℕ, zero, suc, _-_}
+use Prim.Native.Nat.{ℕ, zero, suc, _-_, _<_}
 use mathlib.Core.Bool.{Bool, true, false, cond, _&&_, _||_}
 use mathlib.Core.List.{List, [], _∷_, _++_, List·Memᴰ}
 use lib.Dec.{eqb}
@@ -66,6 +66,11 @@ once (x ∷ xs) = cond (member x xs) (once xs) (x ∷ once xs)
 abbrev pub Distinct : List ℕ → Type 0
 Distinct [] = Unit {0}
 Distinct (x ∷ xs) = (¬ List·Memᴰ x xs) × Distinct xs
+
+-- each member is less than all behind it
+pub data Rising : List ℕ → Type 0 where
+  nil : Rising []
+  cons : {x : ℕ} {xs : List ℕ} → ((y : ℕ) → List·Memᴰ y xs → x < y) → Rising xs → Rising (x ∷ xs)
 
 -- a list kept in an array of 1,024 places: d stands behind it
 unfoldable pub arrayOf : {A : Type 0} → A → List A → List A

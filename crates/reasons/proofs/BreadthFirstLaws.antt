@@ -6,7 +6,6 @@ use mathlib.Core.Logic.{_⊎_, inl, inr, _≢_}
 use mathlib.Core.Path.{_≡_, refl, sym, ap, _∙_, subst}
 use mathlib.Core.Bool.{Bool, So, cond, _&&_, not}
 use mathlib.Core.List.{List, [], _∷_, _++_, map, append-assoc, append-nil, List·Memᴰ, List·Memᴰ·head, List·Memᴰ·tail, List·Memᴰ·not-nil, List·Memᴰ·append-cases, Memᴰ·append-right, List·Memᴰ·eq-of-singleton}
-use mathlib.Core.Option.{some}
 use lib.Dec.{eqb}
 use lib.ListN.{length, length-append}
 use lib.Seq.{append-snoc}
@@ -14,17 +13,13 @@ use borrow.Author.Tests.{eqb-true, eq-eqb}
 use Rattle.grid.specs.Lists.{Distinct, filter}
 use Rattle.grid.specs.Grid.{Grid, size, neighbours, Adjacent}
 use Rattle.grid.specs.Link.{Linked}
-use Rattle.grid.proofs.LinkLaws.{linked-start}
 use Rattle.grid.proofs.ListLaws.{dec-so, so-false, and-true, true-and, not-so, so-not}
 use Rattle.grid.proofs.GridLaws.{apart}
 use Rattle.grid.specs.Cells.{Literal, square}
-use Rattle.kinds.specs.Meaning.{Block}
-use Rattle.kinds.proofs.Bridge.{Setting, boardOf, sq<}
-use Rattle.units.specs.Units.{Entry, breadthFirst, parent, path, reason2}
+use Rattle.units.specs.Units.{Entry, breadthFirst, parent, path}
 use Rattle.literals.specs.Literals.{each}
 use Rattle.units.specs.Search.{seen, appended}
 use Rattle.units.specs.BreadthFirst.{Listed, Appends, through, append, pass, Builds, built, turn, BreadthFirst, Runs, arrived, onward, ByParents}
-use Rattle.reasons.proofs.Sound2.{two-of}
 use Rattle.units.proofs.Walk.{seen-so, so-seen, listed-left, listed-cases, listed-one, Tree, root, grow, tree-square, tree-length, tree-step, whole-tree, whole-listed, Early, parent-early}
 
 -- ---- what a cell appends
@@ -176,24 +171,9 @@ module _ (g : Grid) (cells : List ℕ)
   pub path-runs-only : (a : ℕ) → Linked (Adjacent g) (λ c. So (square cells c)) b a → (r : List ℕ) → Runs whole b a r → r ≡ path (size g) whole a b
   path-runs-only a l r q = runs-same q (path-runs a l)
 
--- what reason 2 found runs from a by parents to b
-pub found-by-parents : (set : Setting) (r : List Literal) (e : reason2 (set .puzzle) (set .cells) ≡ some r)
-    → ByParents (set .puzzle .grid) (set .cells) (two-of set r e .a) (two-of set r e .b) r
-found-by-parents set r e =
-    let w = two-of set r e in
-    let sb = linked-start (w .joined) in
-    record {
-      list = breadthFirst (set .puzzle .grid) (set .cells) (size (set .puzzle .grid)) [] ((w .b, w .b) ∷ []);
-      breadth = breadth-first (set .puzzle .grid) (set .cells) (sq< set) (w .b) sb;
-      way = path (size (set .puzzle .grid)) (breadthFirst (set .puzzle .grid) (set .cells) (size (set .puzzle .grid)) [] ((w .b, w .b) ∷ [])) (w .a) (w .b);
-      runs = path-runs (set .puzzle .grid) (set .cells) (sq< set) (w .b) sb (w .a) (w .joined);
-      ones = w .is;
-    }
+  -- as literals, all 1
+  pub path-by-parents : (a : ℕ) → Linked (Adjacent g) (λ c. So (square cells c)) b a → ByParents g cells a b (each 1 (path (size g) whole a b))
+  path-by-parents a l = record { list = whole; breadth = breadth-first; way = path (size g) whole a b; runs = path-runs a l; ones = refl }
 
--- nothing else does
-pub by-parents-only : (set : Setting) (a b : ℕ) → Block (boardOf set) b a → (r : List Literal) → ByParents (set .puzzle .grid) (set .cells) a b r → r ≡ each 1 (path (size (set .puzzle .grid)) (breadthFirst (set .puzzle .grid) (set .cells) (size (set .puzzle .grid)) [] ((b, b) ∷ [])) a b)
-by-parents-only set a b l r w =
-    let g = set .puzzle .grid in
-    let sb = linked-start l in
-    w .ones ∙ ap (each 1) (path-runs-only g (set .cells) (sq< set) b sb a l (w .way)
-    (subst (λ z. Runs z b a (w .way)) (breadth-first-only g (set .cells) (sq< set) b sb (w .list) (w .breadth)) (w .runs)))
+  pub by-parents-only : (a : ℕ) → Linked (Adjacent g) (λ c. So (square cells c)) b a → (r : List Literal) → ByParents g cells a b r → r ≡ each 1 (path (size g) whole a b)
+  by-parents-only a l r w = w .ones ∙ ap (each 1) (path-runs-only a l (w .way) (subst (λ z. Runs z b a (w .way)) (breadth-first-only (w .list) (w .breadth)) (w .runs)))

@@ -5,6 +5,7 @@ pub mod Plain
 pub mod Quiet
 pub mod Sound1
 pub mod BreadthFirstLaws
+pub mod Chosen
 pub mod Sound2
 pub mod Sound34
 pub mod Stands

@@ -1,4 +1,5 @@
 pub mod Units
 pub mod BreadthFirst
+pub mod Chosen
 pub mod Search
 pub mod Arrays
