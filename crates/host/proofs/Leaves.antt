@@ -9,7 +9,7 @@ use Rattle.grid.specs.Lists.{range, upto, filter, any, all, last, init, tail, f
 use Rattle.grid.specs.Grid.{size, cellsOf, row, col, only, up, down, left, right, neighbours, touches}
 use Rattle.record.specs.Record.{_>>=_, unless, bit, number, field, cellCodes, there, stepFrom, stepCells, arrowAt, filler, arrowsAt, readRecord, Puzzle, Outcome, ok, refused}
 use Rattle.grid.specs.Cells.{empty, square, undecided, potential}
-use Rattle.board.specs.Board.{valueAt, cellsAfter, decided, after, refusal, afterAll, Call, decide, enough}
+use Rattle.board.specs.Board.{valueAt, cellsAfter, decided, after, refusal, afterAll, Call, decide, find, enough}
 use Rattle.groups.specs.Groups.{rename, join, joinAll, edges, labels, group, names}
 use Rattle.groups.specs.Arrows.{onArrow, pairsFrom, pairs}
 use Rattle.groups.specs.Rules.{fits}
@@ -21,27 +21,31 @@ use Rattle.reasons.specs.Reasons.{findReason, findOn}
 use Rattle.host.specs.Host.{acceptOr, decideBytes, hostFinds}
 
 -- open a record, decide in order, find
-unfoldable pub findAfter : List ℕ → List Call → Outcome Found
+abbrev pub findAfter : List ℕ → List Call → Outcome Found
 findAfter s cs = readRecord s >>= λ p. ok (findReason p (cellsAfter (p .grid) (afterAll (p .grid) cs [])))
 
+-- open a record, make the calls, and ask for the refusal of one more: 0 for none
+abbrev pub refusalAfter : List ℕ → List Call → Call → Outcome ℕ
+refusalAfter s cs c = readRecord s >>= λ p. ok (refusal (p .grid) c (afterAll (p .grid) cs []))
+
 -- strip S of document 01, with its last byte
-S : ℕ → List ℕ
+abbrev pub S : ℕ → List ℕ
 S z = 0x00 ∷ 0x80 ∷ 0x08 ∷ 0x00 ∷ 0x00 ∷ 0x05 ∷ z ∷ []
 
 -- pair T
-pairT : List ℕ
+abbrev pub pairT : List ℕ
 pairT = 0x00 ∷ 0x40 ∷ 0x00 ∷ 0x00 ∷ []
 
 -- the grid of 2 by 5, one arrow along row 0
-grid25 : List ℕ
+abbrev pub grid25 : List ℕ
 grid25 = 0x09 ∷ 0x00 ∷ 0x08 ∷ 0x00 ∷ 0x00 ∷ 0x00 ∷ 0x00 ∷ 0x27 ∷ 0xF8 ∷ []
 
 -- 0, 4, 8, 9 square, 1 and 5 empty
-some25 : List Call
+abbrev pub some25 : List Call
 some25 = decide 0 1 ∷ decide 4 1 ∷ decide 8 1 ∷ decide 9 1 ∷ decide 1 0 ∷ decide 5 0 ∷ []
 
 -- the leaves marked *
-starred :
+pub starred :
     _≡_ {A = List (Outcome Found)}
     (findAfter (S 0xE0) []
     ∷ findAfter (S 0xE0) (decide 0 1 ∷ decide 1 1 ∷ [])
@@ -71,11 +75,23 @@ starred :
     ∷ refused 3
     ∷ refused 2
     ∷ [])
-unfolding findAfter S pairT grid25 some25 range upto filter any all last init tail flatMap member once size cellsOf row col only up down left right neighbours touches rename join joinAll edges labels group names _>>=_ unless bit number field cellCodes there stepFrom stepCells arrowAt filler arrowsAt readRecord valueAt cellsAfter empty square undecided potential decided after refusal afterAll isFloating isIn isNeighbour kindTouching onArrow arrowBlock blocksTouched kindAt kindsOf has viewWith view block floatNear inReach reach disturbing fenceAt fence orElse reasonIf firstOf each reason1At reason1 breadthFirst parent path reason2At reason2 pairsFrom pairs fits mostApart blockName reasonGrow reason3At gap reasonShrink reason4At reason4aAt reason4bAt reason34 findReason
+unfolding range upto filter any all last init tail flatMap member once size cellsOf row col only up down left right neighbours touches rename join joinAll edges labels group names _>>=_ unless bit number field cellCodes there stepFrom stepCells arrowAt filler arrowsAt readRecord valueAt cellsAfter empty square undecided potential decided after afterAll isFloating isIn isNeighbour kindTouching onArrow arrowBlock blocksTouched kindAt kindsOf has viewWith view block floatNear inReach reach disturbing fenceAt fence orElse reasonIf firstOf each reason1At reason1 breadthFirst parent path reason2At reason2 pairsFrom pairs fits mostApart blockName reasonGrow reason3At gap reasonShrink reason4At reason4aAt reason4bAt reason34 findReason
 starred = refl
 
+-- S: index 3 gives 7, cell 0 twice 9; find with 9 literals gives 11, with 10 not
+pub refusals :
+    _≡_ {A = List (Outcome ℕ)}
+    (refusalAfter (S 0xE0) [] (decide 3 1)
+    ∷ refusalAfter (S 0xE0) (decide 0 1 ∷ []) (decide 0 1)
+    ∷ refusalAfter (S 0xE0) [] (find 9)
+    ∷ refusalAfter (S 0xE0) [] (find 10)
+    ∷ [])
+    (ok 7 ∷ ok 9 ∷ ok 11 ∷ ok 0 ∷ [])
+unfolding any member size col only right _>>=_ unless bit number field cellCodes there stepFrom stepCells arrowAt filler arrowsAt readRecord decided after refusal afterAll enough
+refusals = refl
+
 -- the host call on S: its answer, and its refusals in their order
-hosts :
+pub hosts :
     _≡_ {A = List (Outcome Found)}
     (hostFinds (S 0xE0) (0x80 ∷ 0x00 ∷ 0x80 ∷ 0x02 ∷ []) 20
     ∷ hostFinds (S 0xE0) (0x80 ∷ 0x00 ∷ 0x80 ∷ 0x02 ∷ []) 19
@@ -85,15 +101,15 @@ hosts :
     ∷ hostFinds (S 0xE0) (0x84 ∷ 0x03 ∷ []) 20
     ∷ [])
     (ok (some ((0, 1) ∷ (2, 1) ∷ (0, 1) ∷ [])) ∷ refused 11 ∷ refused 12 ∷ refused 7 ∷ refused 9 ∷ refused 12 ∷ [])
-unfolding S range upto filter any all last init tail flatMap member once size cellsOf row col only up down left right neighbours touches rename join joinAll edges labels group names _>>=_ unless bit number field cellCodes there stepFrom stepCells arrowAt filler arrowsAt readRecord valueAt cellsAfter empty square undecided potential decided after refusal afterAll isFloating isIn isNeighbour kindTouching onArrow arrowBlock blocksTouched kindAt kindsOf has viewWith view block floatNear inReach reach disturbing fenceAt fence orElse reasonIf firstOf each reason1At reason1 breadthFirst parent path reason2At reason2 pairsFrom pairs fits mostApart blockName reasonGrow reason3At gap reasonShrink reason4At reason4aAt reason4bAt reason34 findReason findOn acceptOr decideBytes enough hostFinds
+unfolding range upto filter any all flatMap member once size cellsOf row col only up down left right neighbours touches rename join joinAll edges labels group names _>>=_ unless bit number field cellCodes there stepFrom stepCells arrowAt filler arrowsAt readRecord valueAt cellsAfter empty square undecided potential decided after refusal isFloating isIn isNeighbour kindTouching onArrow arrowBlock blocksTouched kindAt kindsOf has viewWith view block inReach reach disturbing fenceAt fence orElse reasonIf firstOf each reason1At reason1 reason2At reason2 pairsFrom pairs fits blockName reasonGrow reason3At reason4At reason4aAt reason34 findReason findOn acceptOr decideBytes enough hostFinds
 hosts = refl
 
 -- a puzzle of h rows and w columns, all plain, with one arrow
-plain : ℕ → ℕ → List ℕ → Puzzle
+abbrev pub plain : ℕ → ℕ → List ℕ → Puzzle
 plain h w a = record { grid = record { height = h; width = w }; given = replicate (h * w) 0; arrows = a ∷ [] }
 
 -- two boards that tell the tempting faults: a barrier taken for reachable, and 4 tested before every pair has passed 3
-tempting :
+pub tempting :
     _≡_ {A = List Found}
     (findReason (plain 1 3 (2 ∷ 1 ∷ 0 ∷ [])) (1 ∷ 2 ∷ 1 ∷ [])
     ∷ findReason (plain 2 4 (7 ∷ 6 ∷ 5 ∷ 1 ∷ 2 ∷ 3 ∷ [])) (1 ∷ 0 ∷ 1 ∷ 0 ∷ 1 ∷ 1 ∷ 0 ∷ 1 ∷ [])
@@ -101,5 +117,5 @@ tempting :
     (some ((2, 1) ∷ (0, 1) ∷ (2, 1) ∷ [])
     ∷ some ((0, 1) ∷ (4, 1) ∷ (5, 1) ∷ (2, 1) ∷ (1, 0) ∷ (3, 0) ∷ (6, 0) ∷ [])
     ∷ [])
-unfolding plain range upto filter any all last init tail flatMap member once size cellsOf row col only up down left right neighbours touches rename join joinAll edges labels group names _>>=_ unless bit number field cellCodes there stepFrom stepCells arrowAt filler arrowsAt readRecord valueAt cellsAfter empty square undecided potential decided after refusal afterAll isFloating isIn isNeighbour kindTouching onArrow arrowBlock blocksTouched kindAt kindsOf has viewWith view block floatNear inReach reach disturbing fenceAt fence orElse reasonIf firstOf each reason1At reason1 breadthFirst parent path reason2At reason2 pairsFrom pairs fits mostApart blockName reasonGrow reason3At gap reasonShrink reason4At reason4aAt reason4bAt reason34 findReason findOn acceptOr decideBytes enough hostFinds
+unfolding range upto filter any all flatMap member once size cellsOf row col only up down left right neighbours touches rename join joinAll edges labels group names empty square undecided potential isFloating isIn isNeighbour kindTouching onArrow arrowBlock blocksTouched kindAt kindsOf has viewWith view block inReach reach disturbing fenceAt fence orElse reasonIf firstOf each reason1At reason1 reason2At reason2 pairsFrom pairs fits blockName reasonGrow reason3At reason4At reason4aAt reason34 findReason
 tempting = refl
