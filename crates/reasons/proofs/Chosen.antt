@@ -13,7 +13,8 @@ use lib.ListN.{length, List·getD-eq-default}
 use borrow.Author.Tests.{eq-eqb}
 use Rattle.grid.specs.Lists.{Rising, nil, cons, any, filter, last}
 use Rattle.grid.specs.Grid.{Grid, size, cellsOf, touches, Adjacent}
-use Rattle.grid.specs.Link.{here, linked-end, linked-start, linked-trans, linked-sym}
+use Rattle.grid.specs.Link.{here}
+use Rattle.grid.proofs.LinkLaws.{linked-end, linked-start, linked-trans, linked-sym}
 use Rattle.grid.specs.Cells.{Literal, empty, square, potential}
 use Rattle.grid.proofs.ListLaws.{and-true, true-and, not-so, so-not, filter-mem, mem-filter, any-mem, mem-any, member-mem, upto-mem, last-mem}
 use Rattle.grid.proofs.RisingLaws.{filter-rising, cells-rising, first-least, last-greatest, rising-same}

@@ -10,7 +10,7 @@ use Rattle.record.specs.Record.{Outcome}
 use Rattle.literals.specs.Literals.{Found}
 use Rattle.host.specs.Host.{returned, outputAfter}
 use Rattle.host.proofs.FoundLaws.{refused-told}
-use Rattle.answer.proofs.Inputs.{too-long, too-short, cut-short, whole-input}
+use Rattle.answer.proofs.Inputs.{too-long, too-short, cut-short, whole-parts}
 use Rattle.answer.proofs.find_in.Statement.{statement}
 use Rattle.answer.proofs.find_in.Tie as tie
 
@@ -72,7 +72,7 @@ returns-4 c =
     let s = c .before .before .before .before .before .before .before .before .before .before .before .before .before .before in
     let n = c .before .before .before .before .before .before .before .record-length in
     let tests = c .before .before .before .before .before .before .before .before .before .before in
-    let e = whole-input (s .args .input .now) (tests .before .if1 .left) (n .result) (length (s .args .found .now)) (n .ensures .0) (s .pre) (tests .if2 .left) (c .before .before .before .before .before .before .if3 .left) in
+    let e = whole-parts (s .args .input .now) (tests .before .if1 .left) (n .result) (length (s .args .found .now)) (n .ensures .0) (s .pre) (c .before .before .before .before .before .before .if3 .left) in
     let f = c .before .before .evolmino-find in
     (toZ-ofZ w32 (f .result) (record { sfits = f .ok }) ∙ f .ensures .0 ∙ ap returned e, f .ensures .1 ∙ ap (λ (o : Outcome Found). outputAfter o (s .args .found .now)) e)
 
