@@ -8,15 +8,32 @@ use crate::record::{Problem, Record, RecordError};
 ///
 /// The trait is cspuz_core's, so a solver that uses it wraps this type in one of its own and hands each call on:
 ///
-/// ```ignore
+/// ```
+/// # trait SimpleCustomConstraint {
+/// #     fn initialize_sat(&mut self, num_inputs: usize);
+/// #     fn notify(&mut self, index: usize, value: bool);
+/// #     fn find_inconsistency(&mut self) -> Option<Vec<(usize, bool)>>;
+/// #     fn undo(&mut self);
+/// #     fn lazy_propagation(&self) -> bool;
+/// # }
 /// struct Evolmino(evolmino::Constraint);
 ///
 /// impl SimpleCustomConstraint for Evolmino {
-///     fn initialize_sat(&mut self, num_inputs: usize) { self.0.initialize_sat(num_inputs) }
-///     fn notify(&mut self, index: usize, value: bool) { self.0.notify(index, value) }
-///     fn find_inconsistency(&mut self) -> Option<Vec<(usize, bool)>> { self.0.find_inconsistency() }
-///     fn undo(&mut self) { self.0.undo() }
-///     fn lazy_propagation(&self) -> bool { self.0.lazy_propagation() }
+///     fn initialize_sat(&mut self, num_inputs: usize) {
+///         self.0.initialize_sat(num_inputs)
+///     }
+///     fn notify(&mut self, index: usize, value: bool) {
+///         self.0.notify(index, value)
+///     }
+///     fn find_inconsistency(&mut self) -> Option<Vec<(usize, bool)>> {
+///         self.0.find_inconsistency()
+///     }
+///     fn undo(&mut self) {
+///         self.0.undo()
+///     }
+///     fn lazy_propagation(&self) -> bool {
+///         self.0.lazy_propagation()
+///     }
 /// }
 /// ```
 #[derive(Clone, Debug)]
