@@ -7,214 +7,18 @@
 // group; for each cell a u16 name of its block; for each cell a u8 kind; for each cell a u16 name of its owner. Then the u16 number of arrow
 // blocks, and for each by rising name: u16 name, u16 size of its reach, for each cell a u8 mark of its reach, u16 number of literals of its
 // fence, and the literals, u16 each. A u16 has its high byte first; where there is no group, the name is 1024.
+mod arrays;
+mod arrows;
+mod blocks;
+mod rounds;
+
 use board::Board;
 use replay::Run;
 use replay::Tally;
-ghost use mathlib.Core.Bool.{true};
+use rounds::Rounds;
 ghost use mathlib.Core.Path.{_≡_};
 ghost use Prim.Native.Nat.{_+_, _*_, _≤_, _<_};
-ghost use lib.ListN.{length, replicate};
-ghost use Rattle.groups.specs.Arrows.{Line};
-
-// How often labels and kinds are computed.
-struct Rounds {
-    labels: usize,
-    kinds: usize,
-}
-
-fn no_marks() -> [u8; 1024]
-    ensures { λ r. ⌜ r ≡ replicate 1024 0 ⌝ }
-{
-    [0; 1024]
-}
-
-fn no_names() -> [u16; 1024]
-    ensures { λ r. ⌜ r ≡ replicate 1024 0 ⌝ }
-{
-    [0; 1024]
-}
-
-// Whether the reach and the fence of the arrow block f differ from those that the list has at at and at fence, with so many literals.
-fn block_differs(
-    list: &[u8],
-    at: usize,
-    fence: usize,
-    count: usize,
-    cells: &[u8; 1024],
-    kinds: &[u8; 1024],
-    owners: &[u16; 1024],
-    h: usize,
-    w: usize,
-    f: usize,
-) -> bool
-    requires { ⌜ (at + 4 ≤ length (now list)) × (fence + 2 ≤ length (now list)) × (h ≤ 32) × (w ≤ 32) × (f < 1024) ⌝ }
-{
-    let name = f as u16;
-    let mut near = no_marks();
-    let mut marks = no_marks();
-    let size = reach::compute_reach(kinds, owners, h, w, name, &mut near, &mut marks);
-    let mut part = replay::fresh_buffer();
-    let written = fence::reason_for_adjacent_floating_boundary(
-        cells,
-        kinds,
-        owners,
-        &marks,
-        h,
-        w,
-        name,
-        &mut part,
-    );
-    replay::number_at(list, at + 2) != size
-        || replay::cells_differ(list, at + 4, replay::area(h, w), &marks, 0)
-        || count != written
-        || replay::literals_differ(list, fence + 2, count, &part)
-}
-
-// Compares the arrow block f with the block that the list has at at.
-fn run_block(
-    list: &[u8],
-    at: usize,
-    cells: &[u8; 1024],
-    kinds: &[u8; 1024],
-    owners: &[u16; 1024],
-    h: usize,
-    w: usize,
-    f: usize,
-) -> Run
-    requires { ⌜ (at ≤ length (now list)) × (h ≤ 32) × (w ≤ 32) × (f < 1024) ⌝ }
-{
-    let fence = at + 4 + replay::area(h, w);
-    let count = replay::number_at(list, fence);
-    let end = fence + 2 + 2 * count;
-    if list.len() < end {
-        return Run::broken();
-    }
-    let differs = block_differs(list, at, fence, count, cells, kinds, owners, h, w, f);
-    Run::of(differs || replay::number_at(list, at) != f, end)
-}
-
-// Goes through the arrow blocks, whose names are marked; the list has their number at start, and then the blocks.
-fn run_blocks(
-    list: &[u8],
-    start: usize,
-    cells: &[u8; 1024],
-    kinds: &[u8; 1024],
-    owners: &[u16; 1024],
-    arrowed: &[u8; 1024],
-    h: usize,
-    w: usize,
-) -> Run
-    requires { ⌜ (start + 2 ≤ length (now list)) × (h ≤ 32) × (w ≤ 32) ⌝ }
-{
-    let mut found = Run {
-        parts: 0,
-        differ: 0,
-        end: start + 2,
-    };
-    let mut f = 0;
-    while f < 1024 {
-        if arrowed[f] == 1 {
-            if list.len() < found.end {
-                return Run::broken();
-            }
-            found = found.then(run_block(list, found.end, cells, kinds, owners, h, w, f));
-        }
-        f += 1;
-    }
-    found.also(replay::number_at(list, start) != found.parts)
-}
-
-// The end of the last arrow, 0 where there is none.
-fn arrow_total(ends: &[u16; 1024], count: usize) -> usize {
-    if count == 0 {
-        return 0;
-    }
-    if 1024 < count {
-        return 0;
-    }
-    grid::wide(ends[count - 1])
-}
-
-// Whether the first total places hold indices of cells.
-fn in_line(arrows: &[u16; 1024], total: usize) -> bool
-    requires { ⌜ length (now arrows) ≡ 1024 ⌝ }
-    ensures { λ r. ⌜ (r ≡ true → Line (now (arrows .entry)) total) ⌝ }
-{
-    if 1024 < total {
-        return false;
-    }
-    let mut k = 0;
-    while k < total {
-        if 1024 <= arrows[k] {
-            return false;
-        }
-        k += 1;
-    }
-    true
-}
-
-// Marks the names of the arrow blocks; whether the first total places of arrows hold indices of cells.
-fn mark_arrows(
-    arrows: &[u16; 1024],
-    total: usize,
-    blocks: &[u16; 1024],
-    marks: &mut [u8; 1024],
-) -> bool
-    requires { ⌜ length (now arrows) ≡ 1024 ⌝ }
-{
-    if in_line(arrows, total) {
-        kinds::mark_arrow_blocks(arrows, total, blocks, marks);
-        return true;
-    }
-    false
-}
-
-// Computes the names of blocks or of potential groups this many times, each time in the same array.
-fn label_in_rounds(
-    rounds: usize,
-    cells: &[u8; 1024],
-    is_potential: bool,
-    h: usize,
-    w: usize,
-    names: &mut [u16; 1024],
-)
-    requires { ⌜ (h ≤ 32) × (w ≤ 32) ⌝ }
-{
-    let mut i = 0;
-    while i < rounds {
-        groups::compute_connected_components(cells, is_potential, h, w, names);
-        i += 1;
-    }
-}
-
-// Each place has 1024, which stands for none.
-fn unname(owners: &mut [u16; 1024])
-    ensures { λ _. ⌜ now (owners .exit) ≡ replicate 1024 1024 ⌝ }
-{
-    *owners = [1024u16; 1024];
-}
-
-// Computes kinds and owners this many times, each time in the same arrays.
-fn kinds_in_rounds(
-    rounds: usize,
-    cells: &[u8; 1024],
-    blocks: &[u16; 1024],
-    arrowed: &[u8; 1024],
-    h: usize,
-    w: usize,
-    kinds: &mut [u8; 1024],
-    owners: &mut [u16; 1024],
-)
-    requires { ⌜ (h ≤ 32) × (w ≤ 32) ⌝ }
-{
-    let mut i = 0;
-    while i < rounds {
-        kinds::clear(kinds);
-        unname(owners);
-        kinds::compute_board_info_detailed(cells, blocks, arrowed, h, w, kinds, owners);
-        i += 1;
-    }
-}
+ghost use lib.ListN.{length};
 
 // Whether the names of the potential groups differ from those that the list has at at.
 fn potential_groups_differ(
@@ -228,8 +32,8 @@ fn potential_groups_differ(
 ) -> bool
     requires { ⌜ (at + 2 * n ≤ length (now list)) × (h ≤ 32) × (w ≤ 32) ⌝ }
 {
-    let mut names = no_names();
-    label_in_rounds(rounds.labels, cells, true, h, w, &mut names);
+    let mut names = arrays::no_names();
+    rounds::label_in_rounds(rounds.labels, cells, true, h, w, &mut names);
     rounds.labels == 0 || rounds.kinds == 0 || replay::names_differ(list, at, n, &names)
 }
 
@@ -263,9 +67,9 @@ fn run_kinds(
 ) -> Run
     requires { ⌜ (at + 5 * n + 2 ≤ length (now list)) × (n ≤ 1024) × (h ≤ 32) × (w ≤ 32) ⌝ }
 {
-    let mut kinds = no_marks();
-    let mut owners = no_names();
-    kinds_in_rounds(
+    let mut kinds = arrays::no_marks();
+    let mut owners = arrays::no_names();
+    rounds::kinds_in_rounds(
         rounds.kinds,
         cells,
         blocks,
@@ -276,7 +80,7 @@ fn run_kinds(
         &mut owners,
     );
     let differs = kinds_differ(list, at, n, blocks, &kinds, &owners);
-    let found = run_blocks(list, at + 5 * n, cells, &kinds, &owners, arrowed, h, w);
+    let found = blocks::run_blocks(list, at + 5 * n, cells, &kinds, &owners, arrowed, h, w);
     found.also(differs)
 }
 
@@ -294,10 +98,10 @@ fn run_arrows(
 ) -> Run
     requires { ⌜ (at + 5 * n + 2 ≤ length (now list)) × (n ≤ 1024) × (h ≤ 32) × (w ≤ 32) × (length (now arrows) ≡ 1024) ⌝ }
 {
-    let mut blocks = no_names();
-    label_in_rounds(rounds.labels, cells, false, h, w, &mut blocks);
-    let mut arrowed = no_marks();
-    if !mark_arrows(arrows, total, &blocks, &mut arrowed) {
+    let mut blocks = arrays::no_names();
+    rounds::label_in_rounds(rounds.labels, cells, false, h, w, &mut blocks);
+    let mut arrowed = arrays::no_marks();
+    if !arrows::mark_arrows(arrows, total, &blocks, &mut arrowed) {
         return Run::broken();
     }
     run_kinds(list, rounds, at, n, cells, &blocks, &arrowed, h, w)
@@ -321,7 +125,7 @@ fn run_board(list: &[u8], rounds: Rounds, at: usize, b: Board) -> Run
     }
     let arrows = b.problem.arrows;
     let ends = b.problem.ends;
-    let total = arrow_total(&ends, b.problem.count);
+    let total = arrows::arrow_total(&ends, b.problem.count);
     let cells = b.cells;
     let differs = potential_groups_differ(list, rounds, at, n, &cells, h, w);
     let found = run_arrows(list, rounds, at + 2 * n, n, &cells, &arrows, total, h, w);

@@ -1,9 +1,9 @@
--- `groups_replay::run_blocks` is safe and ends.
+-- `groups_replay::blocks::run_blocks` is safe and ends.
 -- Assumes nothing.
 use borrow.Author.Needs.{needs}
 use Prim.Native.Nat.{_-_, _≤_}
-use Rattle.groups_replay.proofs.run_blocks.Statement.{statement}
-use Rattle.groups_replay.proofs.run_blocks.Tie as tie
+use Rattle.groups_replay.proofs.blocks.run_blocks.Statement.{statement}
+use Rattle.groups_replay.proofs.blocks.run_blocks.Tie as tie
 
 abbrev Inv-loop : tie.InvT-loop
 Inv-loop list start cells kinds owners arrowed h w found₀ f₀ found f = f ≤ 1024

@@ -1,11 +1,11 @@
--- `groups_replay::block_differs` is safe and ends: the buffer has a place for each cell and one more.
+-- `groups_replay::blocks::block_differs` is safe and ends: the buffer has a place for each cell and one more.
 -- Assumes nothing.
 use borrow.Author.Needs.{needs}
 use Prim.Native.Nat.{_≤_}
 use native.Mathlib.Omega.{arith}
 use native.Mathlib.Nat.{mul-le-mul}
-use Rattle.groups_replay.proofs.block_differs.Statement.{statement}
-use Rattle.groups_replay.proofs.block_differs.Tie as tie
+use Rattle.groups_replay.proofs.blocks.block_differs.Statement.{statement}
+use Rattle.groups_replay.proofs.blocks.block_differs.Tie as tie
 
 cast-name : tie.Need-cast-name
 cast-name c = search needs

@@ -1,9 +1,9 @@
--- `groups_replay::kinds_in_rounds` is safe and ends: the rounds run out.
+-- `groups_replay::rounds::kinds_in_rounds` is safe and ends: the rounds run out.
 -- Assumes nothing.
 use borrow.Author.Needs.{needs}
 use Prim.Native.Nat.{_-_}
-use Rattle.groups_replay.proofs.kinds_in_rounds.Statement.{statement}
-use Rattle.groups_replay.proofs.kinds_in_rounds.Tie as tie
+use Rattle.groups_replay.proofs.rounds.kinds_in_rounds.Statement.{statement}
+use Rattle.groups_replay.proofs.rounds.kinds_in_rounds.Tie as tie
 
 abbrev Inv-loop : tie.InvT-loop
 Inv-loop rounds cells blocks arrowed h w kinds₀ owners₀ i₀ kinds owners i = Unit {0}

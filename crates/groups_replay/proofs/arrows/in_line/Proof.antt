@@ -1,4 +1,4 @@
--- `groups_replay::in_line` meets its contract: the places passed hold indices of cells.
+-- `groups_replay::arrows::in_line` meets its contract: the places passed hold indices of cells.
 -- Assumes nothing.
 use Prim.Native.Nat.{ℕ, _≤_, _<_, _-_}
 use native.Mathlib.Omega.{arith}
@@ -6,8 +6,8 @@ use mathlib.Core.Bool.{false≢true}
 use borrow.Author.Needs.{needs}
 use borrow.Author.Count.{below-more}
 use lib.ListN.{getD}
-use Rattle.groups_replay.proofs.in_line.Statement.{statement}
-use Rattle.groups_replay.proofs.in_line.Tie as tie
+use Rattle.groups_replay.proofs.arrows.in_line.Statement.{statement}
+use Rattle.groups_replay.proofs.arrows.in_line.Tie as tie
 
 abbrev Inv-loop : tie.InvT-loop
 Inv-loop arrows total k₀ k = (k ≤ total) × ((j : ℕ) → j < k → getD arrows j 0 < 1024)

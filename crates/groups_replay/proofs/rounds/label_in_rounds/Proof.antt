@@ -1,9 +1,9 @@
--- `groups_replay::label_in_rounds` is safe and ends: the rounds run out.
+-- `groups_replay::rounds::label_in_rounds` is safe and ends: the rounds run out.
 -- Assumes nothing.
 use borrow.Author.Needs.{needs}
 use Prim.Native.Nat.{_-_}
-use Rattle.groups_replay.proofs.label_in_rounds.Statement.{statement}
-use Rattle.groups_replay.proofs.label_in_rounds.Tie as tie
+use Rattle.groups_replay.proofs.rounds.label_in_rounds.Statement.{statement}
+use Rattle.groups_replay.proofs.rounds.label_in_rounds.Tie as tie
 
 abbrev Inv-loop : tie.InvT-loop
 Inv-loop rounds cells is-potential h w names₀ i₀ names i = Unit {0}

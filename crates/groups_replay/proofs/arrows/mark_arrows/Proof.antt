@@ -1,8 +1,8 @@
--- `groups_replay::mark_arrows` marks the arrow blocks by a line that was tested.
+-- `groups_replay::arrows::mark_arrows` marks the arrow blocks by a line that was tested.
 -- Assumes nothing.
 use borrow.Author.Needs.{needs}
-use Rattle.groups_replay.proofs.mark_arrows.Statement.{statement}
-use Rattle.groups_replay.proofs.mark_arrows.Tie as tie
+use Rattle.groups_replay.proofs.arrows.mark_arrows.Statement.{statement}
+use Rattle.groups_replay.proofs.arrows.mark_arrows.Tie as tie
 
 in-line-requires : tie.Need-in-line-requires
 in-line-requires c κs = search needs

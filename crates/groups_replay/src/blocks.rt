@@ -1,0 +1,95 @@
+// The arrow blocks of a board: the reach and the fence of each, compared with those that the list has.
+use super::arrays;
+use replay::Run;
+ghost use Prim.Native.Nat.{_+_, _≤_, _<_};
+ghost use lib.ListN.{length};
+
+// Whether the reach and the fence of the arrow block f differ from those that the list has at at and at fence, with so many literals.
+fn block_differs(
+    list: &[u8],
+    at: usize,
+    fence: usize,
+    count: usize,
+    cells: &[u8; 1024],
+    kinds: &[u8; 1024],
+    owners: &[u16; 1024],
+    h: usize,
+    w: usize,
+    f: usize,
+) -> bool
+    requires { ⌜ (at + 4 ≤ length (now list)) × (fence + 2 ≤ length (now list)) × (h ≤ 32) × (w ≤ 32) × (f < 1024) ⌝ }
+{
+    let name = f as u16;
+    let mut near = arrays::no_marks();
+    let mut marks = arrays::no_marks();
+    let size = reach::compute_reach(kinds, owners, h, w, name, &mut near, &mut marks);
+    let mut part = replay::fresh_buffer();
+    let written = fence::reason_for_adjacent_floating_boundary(
+        cells,
+        kinds,
+        owners,
+        &marks,
+        h,
+        w,
+        name,
+        &mut part,
+    );
+    replay::number_at(list, at + 2) != size
+        || replay::cells_differ(list, at + 4, replay::area(h, w), &marks, 0)
+        || count != written
+        || replay::literals_differ(list, fence + 2, count, &part)
+}
+
+// Compares the arrow block f with the block that the list has at at.
+fn run_block(
+    list: &[u8],
+    at: usize,
+    cells: &[u8; 1024],
+    kinds: &[u8; 1024],
+    owners: &[u16; 1024],
+    h: usize,
+    w: usize,
+    f: usize,
+) -> Run
+    requires { ⌜ (at ≤ length (now list)) × (h ≤ 32) × (w ≤ 32) × (f < 1024) ⌝ }
+{
+    let fence = at + 4 + replay::area(h, w);
+    let count = replay::number_at(list, fence);
+    let end = fence + 2 + 2 * count;
+    if list.len() < end {
+        return Run::broken();
+    }
+    let differs = block_differs(list, at, fence, count, cells, kinds, owners, h, w, f);
+    Run::of(differs || replay::number_at(list, at) != f, end)
+}
+
+// Goes through the arrow blocks, whose names are marked; the list has their number at start, and then the blocks.
+pub fn run_blocks(
+    list: &[u8],
+    start: usize,
+    cells: &[u8; 1024],
+    kinds: &[u8; 1024],
+    owners: &[u16; 1024],
+    arrowed: &[u8; 1024],
+    h: usize,
+    w: usize,
+) -> Run
+    requires { ⌜ (start + 2 ≤ length (now list)) × (h ≤ 32) × (w ≤ 32) ⌝ }
+{
+    let mut found = Run {
+        parts: 0,
+        differ: 0,
+        end: start + 2,
+    };
+    let mut f = 0;
+    while f < 1024 {
+        if arrowed[f] == 1 {
+            if list.len() < found.end {
+                return Run::broken();
+            }
+            found = found.then(run_block(list, found.end, cells, kinds, owners, h, w, f));
+        }
+        f += 1;
+    }
+    found.also(replay::number_at(list, start) != found.parts)
+}

@@ -1,0 +1,49 @@
+// Names and kinds, computed as often as the list says.
+use super::arrays;
+ghost use Prim.Native.Nat.{_≤_};
+
+// How often labels and kinds are computed.
+pub struct Rounds {
+    pub labels: usize,
+    pub kinds: usize,
+}
+
+// Computes the names of blocks or of potential groups this many times, each time in the same array.
+pub fn label_in_rounds(
+    rounds: usize,
+    cells: &[u8; 1024],
+    is_potential: bool,
+    h: usize,
+    w: usize,
+    names: &mut [u16; 1024],
+)
+    requires { ⌜ (h ≤ 32) × (w ≤ 32) ⌝ }
+{
+    let mut i = 0;
+    while i < rounds {
+        groups::compute_connected_components(cells, is_potential, h, w, names);
+        i += 1;
+    }
+}
+
+// Computes kinds and owners this many times, each time in the same arrays.
+pub fn kinds_in_rounds(
+    rounds: usize,
+    cells: &[u8; 1024],
+    blocks: &[u16; 1024],
+    arrowed: &[u8; 1024],
+    h: usize,
+    w: usize,
+    kinds: &mut [u8; 1024],
+    owners: &mut [u16; 1024],
+)
+    requires { ⌜ (h ≤ 32) × (w ≤ 32) ⌝ }
+{
+    let mut i = 0;
+    while i < rounds {
+        kinds::clear(kinds);
+        arrays::unname(owners);
+        kinds::compute_board_info_detailed(cells, blocks, arrowed, h, w, kinds, owners);
+        i += 1;
+    }
+}
