@@ -23,7 +23,7 @@ fn no_bytes() -> [u8; 6146]
 fn record_length(high: u8, low: u8) -> usize
     ensures { λ r. ⌜ (r ≡ high * 256 + low) × (r < 65536) ⌝ }
 {
-    text::wide(high) * 256 + text::wide(low)
+    grid::byte(high) * 256 + grid::byte(low)
 }
 
 // Takes the input apart and calls the host call, with an output that is long enough for every record.

@@ -35,13 +35,6 @@ pub struct Decided {
 
 // ---- lists of decisions
 
-// A byte as a number.
-fn number(x: u8) -> usize
-    ensures { λ r. ⌜ r ≡ x ⌝ }
-{
-    x as usize
-}
-
 // Adds the decision in a word of 16 bits: value (1 bit), five zero bits, index (10). Refused: 12 a bit that is not zero, 7 an index
 // off the grid of n cells, 9 a cell that is decided already.
 fn place(
@@ -92,7 +85,7 @@ pub fn place_all(
     let mut count = decided;
     let mut at = 0;
     while at + 1 < bytes.len() {
-        let word = number(bytes[at]) * 256 + number(bytes[at + 1]);
+        let word = grid::byte(bytes[at]) * 256 + grid::byte(bytes[at + 1]);
         let answer = place(cells, order, n, count, word);
         match answer {
             Answer::Done => {}

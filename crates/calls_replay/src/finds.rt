@@ -10,7 +10,7 @@ fn finding_differs(found: Finding, refusal: usize, count: usize) -> bool {
     match found {
         Finding::Nothing => refusal != 0 || count != 0,
         Finding::Reason(n) => refusal != 0 || n == 0 || n != count,
-        Finding::Refused(k) => refusal == 0 || replay::wide(k) != refusal,
+        Finding::Refused(k) => refusal == 0 || grid::byte(k) != refusal,
     }
 }
 

@@ -62,7 +62,7 @@ fn make_decide(list: &[u8], at: usize, b: Board) -> Step
         b,
         b.decide(index, value),
         boards::decide_lent(b, index, value),
-        replay::wide(list[at + 4]),
+        grid::byte(list[at + 4]),
         at + 5,
     )
 }
@@ -78,7 +78,7 @@ fn make_undo(list: &[u8], at: usize, b: Board) -> Step
         b,
         b.undo(),
         boards::undo_lent(b),
-        replay::wide(list[at + 1]),
+        grid::byte(list[at + 1]),
         at + 2,
     )
 }
@@ -94,7 +94,7 @@ fn make_find(list: &[u8], at: usize, b: Board) -> Step
     if 4096 < size {
         return broken(b);
     }
-    let refusal = replay::wide(list[at + 3]);
+    let refusal = grid::byte(list[at + 3]);
     if refusal != 0 {
         return Step {
             board: b,

@@ -35,6 +35,13 @@ pub fn wide(x: u16) -> usize
     x as usize
 }
 
+// A byte, as a number.
+pub fn byte(b: u8) -> usize
+    ensures { λ r. ⌜ (r ≡ b) × (r < 256) ⌝ }
+{
+    b as usize
+}
+
 // One of two numbers. A function of its own, so that it can be compiled without a branch: the choice is hard to predict where it is used.
 pub fn pick(first: bool, a: u16, b: u16) -> u16
     ensures { λ r. ⌜ r ≡ cond first a b ⌝ }

@@ -42,20 +42,13 @@ pub fn fresh_buffer() -> [u16; 4096]
     [65535; 4096]
 }
 
-// A byte as a number.
-pub fn wide(x: u8) -> usize
-    ensures { λ r. ⌜ (r ≡ x) × (r < 256) ⌝ }
-{
-    x as usize
-}
-
 // The number of an answer: 0 where it is no refusal.
 pub fn number(answer: Answer) -> usize
     ensures { λ r. ⌜ r ≡ numberOf answer ⌝ }
 {
     match answer {
         Answer::Done => 0,
-        Answer::Refused(k) => wide(k),
+        Answer::Refused(k) => grid::byte(k),
     }
 }
 
@@ -84,7 +77,7 @@ pub fn byte_at(list: &[u8], at: usize) -> usize
     ensures { λ r. ⌜ (r ≡ getD (now (list .entry)) at 0) × (r < 256) ⌝ }
 {
     if at < list.len() {
-        return wide(list[at]);
+        return grid::byte(list[at]);
     }
     0
 }
@@ -127,10 +120,10 @@ fn byte_in(list: &[u8], at: usize, n: usize, from: usize, other: u8, i: usize) -
     ensures { λ r. ⌜ r ≡ byteIn (now (list .entry)) at n from other i ⌝ }
 {
     if i < from {
-        return wide(other);
+        return grid::byte(other);
     }
     if n <= i - from {
-        return wide(other);
+        return grid::byte(other);
     }
     byte_at(list, at + (i - from))
 }
@@ -142,7 +135,7 @@ pub fn bytes_differ(list: &[u8], at: usize, n: usize, bytes: &[u8], from: usize,
 {
     let mut i = 0;
     while i < bytes.len() {
-        if wide(bytes[i]) != byte_in(list, at, n, from, other, i) {
+        if grid::byte(bytes[i]) != byte_in(list, at, n, from, other, i) {
             return true;
         }
         i += 1;

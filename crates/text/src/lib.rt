@@ -62,20 +62,13 @@ fn write_head(out: &mut [u8], word: &[u8], n: usize) -> usize
     put(out, newline, 10)
 }
 
-// A byte as a number.
-pub fn wide(x: u8) -> usize
-    ensures { λ r. ⌜ r ≡ x ⌝ }
-{
-    x as usize
-}
-
 // Writes the line of the literal in two bytes, and returns the place behind it.
 fn write_literal(out: &mut [u8], at: usize, high: u8, low: u8) -> usize
     requires { ⌜ at + 7 ≤ length (now out) ⌝ }
     ensures { λ r. ⌜ Written (now (out .entry)) at (literalLine (literalIn high low)) (now (out .exit)) r ⌝ }
 {
-    let index = (wide(high) * 256 + wide(low)) % 1024;
-    let value = wide(high) / 128;
+    let index = (grid::byte(high) * 256 + grid::byte(low)) % 1024;
+    let value = grid::byte(high) / 128;
     let space = write_digits(out, at, index, 4);
     let digit = put(out, space, 32);
     let newline = put(out, digit, last_digit(value));

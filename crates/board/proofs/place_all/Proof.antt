@@ -33,16 +33,14 @@ abbrev μ-loop : tie.MeasureT-loop
 
 -- the bytes read
 abbrev first : tie.After-place Inv-loop μ-loop → ℕ
-first c = c .before .before .before .before .before .number .result
+first c = c .before .before .before .before .before .byte .result
 
 abbrev second : tie.After-place Inv-loop μ-loop → ℕ
-second c = c .before .before .before .number2 .result
+second c = c .before .before .before .byte2 .result
 
 -- two bytes make a word of 16 bits
-low-word : (c : tie.After-number2 Inv-loop μ-loop) → c .before .before .number .result * 256 + c .number2 .result < 65536
-low-word c =
-    let t = c .before .before .before .before .before .loop in
-    omega (arith, c .before .before .number .ensures, c .number2 .ensures, c .before .before .before .shared-slice-known2 .given (t .at), c .before .shared-slice-known3 .given (t .at + 1))
+low-word : (c : tie.After-byte2 Inv-loop μ-loop) → c .before .before .byte .result * 256 + c .byte2 .result < 65536
+low-word c = omega (arith, c .before .before .byte .ensures .1, c .byte2 .ensures .1)
 
 -- what is left begins with them
 next-two : (c : tie.After-place Inv-loop μ-loop) →
@@ -51,7 +49,7 @@ next-two : (c : tie.After-place Inv-loop μ-loop) →
 next-two c =
     let a = c .before .before .before .before .before .before .before .before in
     two-left (a .before .before .args .bytes .now) (a .loop .at) (first c) (second c) (c .before .before .before .before .before .before .before .loop-test .taken)
-    (c .before .before .before .before .before .number .ensures) (c .before .before .before .number2 .ensures)
+    (c .before .before .before .before .before .byte .ensures .0) (c .before .before .before .byte2 .ensures .0)
 
 -- the board after a decision that is put
 after-put : (c : tie.After-enum-told Inv-loop μ-loop) (q : Problem) →
@@ -77,23 +75,23 @@ loop-holds c = record { within = omega arith; same = λ q e w. (w, refl) }
 add-loop : tie.Need-add-loop Inv-loop μ-loop
 add-loop c = search needs
 
-shared-slice-read-number : tie.Need-shared-slice-read-number Inv-loop μ-loop
-shared-slice-read-number c = search needs
+shared-slice-read-byte : tie.Need-shared-slice-read-byte Inv-loop μ-loop
+shared-slice-read-byte c = search needs
 
-number-requires : tie.Need-number-requires Inv-loop μ-loop
-number-requires c κs = search needs
+byte-requires : tie.Need-byte-requires Inv-loop μ-loop
+byte-requires c κs = search needs
 
 mul-word : tie.Need-mul-word Inv-loop μ-loop
-mul-word c = omega (arith, c .number .ensures, c .before .shared-slice-known2 .given (c .before .before .before .loop .at))
+mul-word c = search needs
 
-add-number : tie.Need-add-number Inv-loop μ-loop
-add-number c = search needs
+add-byte : tie.Need-add-byte Inv-loop μ-loop
+add-byte c = search needs
 
-shared-slice-read-number-2 : tie.Need-shared-slice-read-number-2 Inv-loop μ-loop
-shared-slice-read-number-2 c = search needs
+shared-slice-read-byte-2 : tie.Need-shared-slice-read-byte-2 Inv-loop μ-loop
+shared-slice-read-byte-2 c = search needs
 
-number-requires-2 : tie.Need-number-requires-2 Inv-loop μ-loop
-number-requires-2 c κs = search needs
+byte-requires-2 : tie.Need-byte-requires-2 Inv-loop μ-loop
+byte-requires-2 c κs = search needs
 
 add-word : tie.Need-add-word Inv-loop μ-loop
 add-word c = omega (arith, low-word c)
@@ -165,12 +163,12 @@ place-all-spec =
     μ-loop
     loop-holds
     add-loop
-    shared-slice-read-number
-    number-requires
+    shared-slice-read-byte
+    byte-requires
     mul-word
-    add-number
-    shared-slice-read-number-2
-    number-requires-2
+    add-byte
+    shared-slice-read-byte-2
+    byte-requires-2
     add-word
     place-requires
     enum-told

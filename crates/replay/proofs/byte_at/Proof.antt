@@ -7,11 +7,11 @@ use lib.ListN.{List·getD-eq-default}
 use Rattle.replay.proofs.byte_at.Statement.{statement}
 use Rattle.replay.proofs.byte_at.Tie as tie
 
-shared-slice-read-wide : tie.Need-shared-slice-read-wide
-shared-slice-read-wide c = search needs
+shared-slice-read-byte : tie.Need-shared-slice-read-byte
+shared-slice-read-byte c = search needs
 
-wide-requires : tie.Need-wide-requires
-wide-requires c κs = search needs
+byte-requires : tie.Need-byte-requires
+byte-requires c κs = search needs
 
 returns : tie.Need-returns
 returns c = search needs
@@ -20,4 +20,4 @@ returns-2 : tie.Need-returns-2
 returns-2 c = (sym (List·getD-eq-default (c .before .before .args .list .now) 0 (c .if1 .left)), omega arith)
 
 pub byte-at-spec : {M : Type 1} → statement M
-byte-at-spec = tie.close (tie.spec shared-slice-read-wide wide-requires returns returns-2)
+byte-at-spec = tie.close (tie.spec shared-slice-read-byte byte-requires returns returns-2)

@@ -6,20 +6,20 @@ use borrow.Author.Needs.{needs}
 use Rattle.replay.proofs.byte_in.Statement.{statement}
 use Rattle.replay.proofs.byte_in.Tie as tie
 
-wide-requires : tie.Need-wide-requires
-wide-requires c κs = search needs
+byte-requires : tie.Need-byte-requires
+byte-requires c κs = search needs
 
 returns : tie.Need-returns
 unfolding byteIn
-returns c = simp (lt-ltb _ _ (c .before .if1 .taken)) (c .wide .ensures .0)
+returns c = simp (lt-ltb _ _ (c .before .if1 .taken)) (c .byte .ensures .0)
 
-wide-requires-2 : tie.Need-wide-requires-2
-wide-requires-2 c κs = search needs
+byte-requires-2 : tie.Need-byte-requires-2
+byte-requires-2 c κs = search needs
 
 returns-2 : tie.Need-returns-2
 unfolding byteIn
 returns-2 c =
-    simp (le-ltb _ _ (c .before .before .if1 .left), le-leb _ _ (c .before .if2 .taken)) (c .wide2 .ensures .0)
+    simp (le-ltb _ _ (c .before .before .if1 .left), le-leb _ _ (c .before .if2 .taken)) (c .byte2 .ensures .0)
 
 add-byte-at : tie.Need-add-byte-at
 add-byte-at c = search needs
@@ -36,9 +36,9 @@ pub byte-in-spec : {M : Type 1} → statement M
 byte-in-spec =
     tie.close
     (tie.spec
-    wide-requires
+    byte-requires
     returns
-    wide-requires-2
+    byte-requires-2
     returns-2
     add-byte-at
     byte-at-requires

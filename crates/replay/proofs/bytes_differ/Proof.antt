@@ -20,11 +20,11 @@ abbrev μ-loop : tie.MeasureT-loop
 loop-holds : tie.Need-loop-holds Inv-loop μ-loop
 loop-holds c = refl
 
-shared-slice-read-wide : tie.Need-shared-slice-read-wide Inv-loop μ-loop
-shared-slice-read-wide c = search needs
+shared-slice-read-byte : tie.Need-shared-slice-read-byte Inv-loop μ-loop
+shared-slice-read-byte c = search needs
 
-wide-requires : tie.Need-wide-requires Inv-loop μ-loop
-wide-requires c κs = search needs
+byte-requires : tie.Need-byte-requires Inv-loop μ-loop
+byte-requires c κs = search needs
 
 byte-in-requires : tie.Need-byte-in-requires Inv-loop μ-loop
 byte-in-requires c κs = search needs
@@ -36,7 +36,7 @@ returns c =
     let l = s .args .bytes .now in
     let said = byteIn (s .args .list .now) (s .args .at) (s .args .n) (s .args .from) (s .args .other) in
     another l said (differs l said 0) (t .i) (omega arith)
-    (λ e. c .if1 .taken (c .before .before .wide .ensures .0 ∙ (e ∙ sym (c .before .byte-in .ensures))))
+    (λ e. c .if1 .taken (c .before .before .byte .ensures .0 ∙ (e ∙ sym (c .before .byte-in .ensures))))
     (t .inv)
 
 add-i : tie.Need-add-i Inv-loop μ-loop
@@ -52,7 +52,7 @@ loop-again c =
     let l = s .args .bytes .now in
     let said = byteIn (s .args .list .now) (s .args .at) (s .args .n) (s .args .from) (s .args .other) in
     same l said (differs l said 0) (t .i) (omega arith)
-    (sym (c .before .before .wide .ensures .0) ∙ (c .if1 .left ∙ c .before .byte-in .ensures))
+    (sym (c .before .before .byte .ensures .0) ∙ (c .if1 .left ∙ c .before .byte-in .ensures))
     (t .inv)
 
 returns-2 : tie.Need-returns-2 Inv-loop μ-loop
@@ -70,8 +70,8 @@ bytes-differ-spec =
     Inv-loop
     μ-loop
     loop-holds
-    shared-slice-read-wide
-    wide-requires
+    shared-slice-read-byte
+    byte-requires
     byte-in-requires
     returns
     add-i

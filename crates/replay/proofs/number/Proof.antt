@@ -11,8 +11,8 @@ enum-told c = search needs
 enum-known-answer : tie.Need-enum-known-answer
 enum-known-answer c = search needs
 
-wide-requires : tie.Need-wide-requires
-wide-requires c κs = search needs
+byte-requires : tie.Need-byte-requires
+byte-requires c κs = search needs
 
 returns : tie.Need-returns
 unfolding numberOf
@@ -23,4 +23,4 @@ unfolding numberOf
 returns-2 c = search needs
 
 pub number-spec : {M : Type 1} → statement M
-number-spec = tie.close (tie.spec enum-told enum-known-answer wide-requires returns returns-2)
+number-spec = tie.close (tie.spec enum-told enum-known-answer byte-requires returns returns-2)
