@@ -16,14 +16,14 @@ fn text_room() -> [u8; answer::TEXT]
     [255; answer::TEXT]
 }
 
-// Whether what was written differs from the text of the list from at on, with nothing written behind it.
+// Whether what was written differs from the text of the list from `at` on, with nothing written behind it.
 fn text_differs(list: &[u8], at: usize, count: usize, text: &[u8; answer::TEXT]) -> bool
     requires { ⌜ at ≤ length (now list) ⌝ }
 {
     replay::bytes_differ(list, at, count, text, 0, 255)
 }
 
-// Whether the answer to the input differs from the text of the list from at on.
+// Whether the answer to the input differs from the text of the list from `at` on.
 fn entry_differs(list: &[u8], input: &[u8], at: usize, count: usize) -> bool
     requires { ⌜ at ≤ length (now list) ⌝ }
 {
@@ -32,7 +32,7 @@ fn entry_differs(list: &[u8], input: &[u8], at: usize, count: usize) -> bool
     n != count || text_differs(list, at, count, &text)
 }
 
-// Goes through the entry at at.
+// Goes through the entry at `at`.
 fn run_entry(list: &[u8], at: usize) -> Run
     requires { ⌜ at < length (now list) ⌝ }
 {

@@ -14,7 +14,7 @@ fn finding_differs(found: Finding, refusal: usize, count: usize) -> bool {
     }
 }
 
-// Whether find on the board, with size places lent, differs from this refusal and the literals of the list from at on.
+// Whether find on the board, with `size` places lent, differs from this refusal and the literals of the list from `at` on.
 pub fn find_differs(
     list: &[u8],
     at: usize,

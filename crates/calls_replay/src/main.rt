@@ -49,7 +49,7 @@ fn broken(board: Board) -> Step {
     }
 }
 
-// Makes the decide at at.
+// Makes the decide at `at`.
 fn make_decide(list: &[u8], at: usize, b: Board) -> Step
     requires { ⌜ at < length (now list) ⌝ }
 {
@@ -67,7 +67,7 @@ fn make_decide(list: &[u8], at: usize, b: Board) -> Step
     )
 }
 
-// Makes the undo at at.
+// Makes the undo at `at`.
 fn make_undo(list: &[u8], at: usize, b: Board) -> Step
     requires { ⌜ at < length (now list) ⌝ }
 {
@@ -83,7 +83,7 @@ fn make_undo(list: &[u8], at: usize, b: Board) -> Step
     )
 }
 
-// Makes the find at at. A refused one has no literals.
+// Makes the find at `at`. A refused one has no literals.
 fn make_find(list: &[u8], at: usize, b: Board) -> Step
     requires { ⌜ at < length (now list) ⌝ }
 {
@@ -114,7 +114,7 @@ fn make_find(list: &[u8], at: usize, b: Board) -> Step
     }
 }
 
-// Compares the cells at at.
+// Compares the cells at `at`.
 fn compare_cells(list: &[u8], at: usize, b: Board) -> Step
     requires { ⌜ at < length (now list) ⌝ }
 {
@@ -127,7 +127,7 @@ fn compare_cells(list: &[u8], at: usize, b: Board) -> Step
     }
 }
 
-// Makes the call at at.
+// Makes the call at `at`.
 fn make_call(list: &[u8], at: usize, b: Board) -> Step
     requires { ⌜ at < length (now list) ⌝ }
 {
@@ -141,7 +141,7 @@ fn make_call(list: &[u8], at: usize, b: Board) -> Step
     }
 }
 
-// Makes the calls of an entry, which begin at start, on a fresh board of its record.
+// Makes the calls of an entry, which begin at `start`, on a fresh board of its record.
 fn run_calls(list: &[u8], start: usize, calls: usize, fresh: Board) -> Run {
     let mut b = fresh;
     let mut made = Run {
@@ -163,7 +163,7 @@ fn run_calls(list: &[u8], start: usize, calls: usize, fresh: Board) -> Run {
     made
 }
 
-// Opens the record of the entry at at, and makes its calls.
+// Opens the record of the entry at `at`, and makes its calls.
 fn run_entry(list: &[u8], at: usize) -> Run
     requires { ⌜ at < length (now list) ⌝ }
 {

@@ -32,7 +32,7 @@ unfoldable pub number : List ℕ → ℕ → ℕ → ℕ
 number s at zero = 0
 number s at (suc k) = 2 * number s at k + bit s (at + k)
 
--- a field of k bits at at, or 1 where the record ends before its end
+-- a field of k bits at `at`, or 1 where the record ends before its end
 unfoldable pub field : List ℕ → ℕ → ℕ → Outcome ℕ
 field s at k = cond (leb (at + k) (8 * length s)) (ok (number s at k)) (refused 1)
 

@@ -23,7 +23,7 @@ fieldOf (refused k) = Fault k
 unfoldable pub cellCode : ℕ → Outcome ℕ
 cellCode c = unless (ltb c 3) 2 >>= λ _. ok c
 
--- the code of the cell at at
+-- the code of the cell at `at`
 unfoldable pub codeAt : List ℕ → ℕ → Outcome ℕ
 codeAt s at = field s at 2 >>= cellCode
 
@@ -32,7 +32,7 @@ pub data Stepped (g : Grid) (o : Outcome ℕ) : Place → Type 0 where
   to : {row col : ℕ} → o ≡ ok (row * g .width + col) → row < g .height → col < g .width → Stepped g o (At row col)
   off : {k : ℕ} → o ≡ refused k → Stepped g o (Lost k)
 
--- the cell that the step at at leads to
+-- the cell that the step at `at` leads to
 unfoldable pub stepAt : List ℕ → Grid → ℕ → ℕ → Outcome ℕ
 stepAt s g i at = field s at 2 >>= λ d. stepFrom g i d
 
@@ -42,7 +42,7 @@ pub record Opening : Type 0 where
   pub col : ℕ
   pub steps : ℕ
 
--- the start of the arrow at at: three fields, and then the test of the first two
+-- the start of the arrow at `at`: three fields, and then the test of the first two
 unfoldable pub openingAt : List ℕ → Grid → ℕ → Outcome Opening
 openingAt s g at =
     field s at 5 >>= λ y.

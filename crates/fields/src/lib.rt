@@ -51,7 +51,7 @@ fn number_at(s: &[u8], at: usize, n: usize) -> usize
     ((window >> (24 - at % 8 - n)) % (1u32 << n)) as usize
 }
 
-// The field of n bits at at, or 1 where the record ends before its end.
+// The field of n bits at `at`, or 1 where the record ends before its end.
 pub fn read_field(s: &[u8], at: usize, n: usize) -> Field
     requires { ⌜ (at ≤ 65536) × (n ≤ 16) ⌝ }
     ensures { λ r. ⌜ r ≡ fieldOf (field (now (s .entry)) at n) ⌝ }
@@ -75,7 +75,7 @@ fn cell_code(code: usize) -> Field
     }
 }
 
-// The code of the cell at at.
+// The code of the cell at `at`.
 pub fn read_code(s: &[u8], at: usize) -> Field
     requires { ⌜ at ≤ 65536 ⌝ }
     ensures { λ r. ⌜ r ≡ fieldOf (codeAt (now (s .entry)) at) ⌝ }
@@ -121,7 +121,7 @@ fn step_from(height: usize, width: usize, row: usize, col: usize, direction: usi
     }
 }
 
-// The cell that the step at at leads to.
+// The cell that the step at `at` leads to.
 pub fn read_step(s: &[u8], height: usize, width: usize, row: usize, col: usize, at: usize) -> Place
     requires { ⌜ (row < height) × (col < width) × (height ≤ 32) × (at ≤ 65536) ⌝ }
     ensures { λ r. ⌜ Stepped (sized height width) (stepAt (now (s .entry)) (sized height width) (row * width + col) at) r ⌝ }
@@ -133,7 +133,7 @@ pub fn read_step(s: &[u8], height: usize, width: usize, row: usize, col: usize, 
     }
 }
 
-// The start of the arrow at at: its three fields are read before the start is tested.
+// The start of the arrow at `at`: its three fields are read before the start is tested.
 pub fn read_start(s: &[u8], height: usize, width: usize, at: usize) -> Start
     requires { ⌜ at ≤ 65000 ⌝ }
     ensures { λ r. ⌜ r ≡ startOf (openingAt (now (s .entry)) (sized height width) at) ⌝ }

@@ -34,7 +34,7 @@ fn find_in_rounds(rounds: usize, board: Board, buffer: &mut [u16]) -> Finding {
     found
 }
 
-// Whether find on the board differs from the literals of the list from at on.
+// Whether find on the board differs from the literals of the list from `at` on.
 fn find_differs(list: &[u8], rounds: usize, at: usize, count: usize, board: Board) -> bool
     requires { ⌜ at ≤ length (now list) ⌝ }
 {
@@ -52,7 +52,7 @@ fn verdict_differs(verdict: Verdict, number: usize) -> bool {
     }
 }
 
-// Whether the board of a record with these decisions is refused, or find or finished on it differs from the list from at on.
+// Whether the board of a record with these decisions is refused, or find or finished on it differs from the list from `at` on.
 fn entry_differs(
     list: &[u8],
     rounds: usize,
@@ -80,7 +80,7 @@ fn entry_differs(
         )
 }
 
-// Goes through the entry at at.
+// Goes through the entry at `at`.
 fn run_entry(list: &[u8], rounds: usize, at: usize) -> Run
     requires { ⌜ at < length (now list) ⌝ }
 {

@@ -15,7 +15,7 @@ pub fn arrow_total(ends: &[u16; 1024], count: usize) -> usize {
     grid::wide(ends[count - 1])
 }
 
-// Whether the first total places hold indices of cells.
+// Whether the first `total` places hold indices of cells.
 fn in_line(arrows: &[u16; 1024], total: usize) -> bool
     requires { ⌜ length (now arrows) ≡ 1024 ⌝ }
     ensures { λ r. ⌜ (r ≡ true → Line (now (arrows .entry)) total) ⌝ }
@@ -33,7 +33,7 @@ fn in_line(arrows: &[u16; 1024], total: usize) -> bool
     true
 }
 
-// Marks the names of the arrow blocks; whether the first total places of arrows hold indices of cells.
+// Marks the names of the arrow blocks; whether the first `total` places of arrows hold indices of cells.
 pub fn mark_arrows(
     arrows: &[u16; 1024],
     total: usize,

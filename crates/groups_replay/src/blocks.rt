@@ -4,7 +4,7 @@ use replay::Run;
 ghost use Prim.Native.Nat.{_+_, _≤_, _<_};
 ghost use lib.ListN.{length};
 
-// Whether the reach and the fence of the arrow block f differ from those that the list has at at and at fence, with so many literals.
+// Whether the reach and the fence of the arrow block f differ from those that the list has at `at` and at `fence`, with so many literals.
 fn block_differs(
     list: &[u8],
     at: usize,
@@ -40,7 +40,7 @@ fn block_differs(
         || replay::literals_differ(list, fence + 2, count, &part)
 }
 
-// Compares the arrow block f with the block that the list has at at.
+// Compares the arrow block f with the block that the list has at `at`.
 fn run_block(
     list: &[u8],
     at: usize,
@@ -63,7 +63,7 @@ fn run_block(
     Run::of(differs || replay::number_at(list, at) != f, end)
 }
 
-// Goes through the arrow blocks, whose names are marked; the list has their number at start, and then the blocks.
+// Goes through the arrow blocks, whose names are marked; the list has their number at `start`, and then the blocks.
 pub fn run_blocks(
     list: &[u8],
     start: usize,

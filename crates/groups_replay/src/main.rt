@@ -20,7 +20,7 @@ ghost use mathlib.Core.Path.{_≡_};
 ghost use Prim.Native.Nat.{_+_, _*_, _≤_, _<_};
 ghost use lib.ListN.{length};
 
-// Whether the names of the potential groups differ from those that the list has at at.
+// Whether the names of the potential groups differ from those that the list has at `at`.
 fn potential_groups_differ(
     list: &[u8],
     rounds: Rounds,
@@ -37,7 +37,7 @@ fn potential_groups_differ(
     rounds.labels == 0 || rounds.kinds == 0 || replay::names_differ(list, at, n, &names)
 }
 
-// Whether the names of the blocks, the kinds or the owners differ from those that the list has at at.
+// Whether the names of the blocks, the kinds or the owners differ from those that the list has at `at`.
 fn kinds_differ(
     list: &[u8],
     at: usize,
@@ -53,7 +53,7 @@ fn kinds_differ(
         || replay::names_differ(list, at + 3 * n, n, owners)
 }
 
-// Computes kinds and owners, and compares them, the blocks and the arrow blocks with those that the list has at at.
+// Computes kinds and owners, and compares them, the blocks and the arrow blocks with those that the list has at `at`.
 fn run_kinds(
     list: &[u8],
     rounds: Rounds,
@@ -84,7 +84,7 @@ fn run_kinds(
     found.also(differs)
 }
 
-// Computes blocks and arrow blocks, and compares them and the kinds with those that the list has at at.
+// Computes blocks and arrow blocks, and compares them and the kinds with those that the list has at `at`.
 fn run_arrows(
     list: &[u8],
     rounds: Rounds,
@@ -107,7 +107,7 @@ fn run_arrows(
     run_kinds(list, rounds, at, n, cells, &blocks, &arrowed, h, w)
 }
 
-// Computes the groups and kinds of a board, and compares them with those that the list has at at.
+// Computes the groups and kinds of a board, and compares them with those that the list has at `at`.
 fn run_board(list: &[u8], rounds: Rounds, at: usize, b: Board) -> Run
     requires { ⌜ at ≤ length (now list) ⌝ }
 {
@@ -132,7 +132,7 @@ fn run_board(list: &[u8], rounds: Rounds, at: usize, b: Board) -> Run
     found.also(differs)
 }
 
-// Opens the record, adds the decisions and compares the board with what the list has at at.
+// Opens the record, adds the decisions and compares the board with what the list has at `at`.
 fn run_record(list: &[u8], rounds: Rounds, record: &[u8], decisions: &[u8], at: usize) -> Run
     requires { ⌜ at ≤ length (now list) ⌝ }
 {
@@ -151,7 +151,7 @@ fn run_record(list: &[u8], rounds: Rounds, record: &[u8], decisions: &[u8], at: 
     run_board(list, rounds, at, board)
 }
 
-// Goes through the entry at at.
+// Goes through the entry at `at`.
 fn run_entry(list: &[u8], rounds: Rounds, at: usize) -> Run
     requires { ⌜ at < length (now list) ⌝ }
 {

@@ -65,14 +65,14 @@ fn literal_bytes(high: usize, low: usize) -> usize
     0
 }
 
-// Whether the array differs from what a call that wrote the n bytes of the list from at on leaves.
+// Whether the array differs from what a call that wrote the n bytes of the list from `at` on leaves.
 fn array_differs(list: &[u8], at: usize, n: usize, array: &[u8; 8192]) -> bool
     requires { ⌜ at ≤ length (now list) ⌝ }
 {
     replay::bytes_differ(list, at, n, array, GUARD, BEFORE)
 }
 
-// Whether the host call with an output of this size returns another number, or leaves anything but the n bytes of the list from at on.
+// Whether the host call with an output of this size returns another number, or leaves anything but the n bytes of the list from `at` on.
 fn call_differs(
     list: &[u8],
     record: &[u8],
@@ -89,7 +89,7 @@ fn call_differs(
     returned != expected || array_differs(list, at, n, &array)
 }
 
-// Makes the call of the entry at at.
+// Makes the call of the entry at `at`.
 fn run_entry(list: &[u8], at: usize) -> Run
     requires { ⌜ at < length (now list) ⌝ }
 {

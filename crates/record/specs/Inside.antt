@@ -36,7 +36,7 @@ pub record Kept (l line marks : List ℕ) : Type 0 where
   pub long : length marks ≡ 1024
   pub marked : (x : ℕ) → x < 1024 → getD marks x 0 ≡ mark (member x l)
 
--- the cell that the step at at leads to, if no arrow uses it
+-- the cell that the step at `at` leads to, if no arrow uses it
 unfoldable pub takeAt : List ℕ → Grid → List ℕ → ℕ → ℕ → Outcome ℕ
 takeAt s g used i at =
     stepAt s g i at >>= λ j.

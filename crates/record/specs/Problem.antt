@@ -17,7 +17,7 @@ unfoldable pub numberOf : Answer → ℕ
 numberOf Done = 0
 numberOf (Refused k) = k
 
--- where each arrow ends, when their cells stand one after another from at on
+-- where each arrow ends, when their cells stand one after another from `at` on
 unfoldable pub endsFrom : ℕ → List (List ℕ) → List ℕ
 endsFrom at [] = []
 endsFrom at (a ∷ rest) = (at + length a) ∷ endsFrom (at + length a) rest
@@ -41,7 +41,7 @@ problemOf p = record {
 unfoldable pub gridOf : Problem → Grid
 gridOf q = record { height = q .height; width = q .width }
 
--- the arrows that end at the places es, the first from at on
+-- the arrows that end at the places es, the first from `at` on
 unfoldable pub arrowsFrom : List ℕ → ℕ → List ℕ → List (List ℕ)
 arrowsFrom line at [] = []
 arrowsFrom line at (e ∷ es) = take (e - at) (drop at line) ∷ arrowsFrom line e es

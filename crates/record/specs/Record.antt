@@ -39,7 +39,7 @@ stepCells s g used i at (suc k) =
     stepCells s g (j ∷ used) j (at + 2) k >>= λ js.
     ok (j ∷ js)
 
--- the arrow at at
+-- the arrow at `at`
 unfoldable pub arrowAt : List ℕ → Grid → List ℕ → ℕ → Outcome (List ℕ)
 arrowAt s g used at =
     field s at 5 >>= λ y.

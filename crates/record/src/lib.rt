@@ -58,7 +58,7 @@ fn read_cells(s: &[u8], n: usize, cells: &mut [u8; 1024]) -> Answer
     Answer::Done
 }
 
-// Puts a cell behind the count arrow cells of the line and marks it; 4 where it is marked already.
+// Puts a cell behind the `count` arrow cells of the line and marks it; 4 where it is marked already.
 fn enter(cell: usize, count: usize, line: &mut [u16; 1024], used: &mut [u8; 1024]) -> Answer
     requires { ⌜ (cell < 1024) × ((l : List ℕ) × (length l ≡ count) × Kept l (now line) (now used)) ⌝ }
     ensures { λ r. ⌜ ((l : List ℕ) → length l ≡ count → Kept l (now (line .entry)) (now (used .entry))
@@ -72,7 +72,7 @@ fn enter(cell: usize, count: usize, line: &mut [u16; 1024], used: &mut [u8; 1024
     Answer::Done
 }
 
-// Takes the step at at, from a cell that stands last of the count arrow cells.
+// Takes the step at `at`, from a cell that stands last of the `count` arrow cells.
 fn take_step(
     s: &[u8],
     height: usize,
@@ -101,7 +101,7 @@ fn take_step(
     }
 }
 
-// Takes the steps of an arrow from at on.
+// Takes the steps of an arrow from `at` on.
 fn read_steps(
     s: &[u8],
     height: usize,
@@ -141,7 +141,7 @@ fn read_steps(
     Answer::Done
 }
 
-// Reads the arrow at at behind the count arrow cells; the answer is the count with its own.
+// Reads the arrow at `at` behind the `count` arrow cells; the answer is the count with its own.
 fn read_arrow(
     s: &[u8],
     height: usize,
@@ -185,7 +185,7 @@ fn read_arrow(
     }
 }
 
-// Reads the arrows, from at on, and the filler behind them; the arrays come empty.
+// Reads the arrows, from `at` on, and the filler behind them; the arrays come empty.
 fn read_arrows(
     s: &[u8],
     height: usize,

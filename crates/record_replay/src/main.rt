@@ -18,7 +18,7 @@ fn zeros() -> [u8; 131072]
     [0; 131072]
 }
 
-// The product of the two bytes from at on: the number of cells of a grid.
+// The product of the two bytes from `at` on: the number of cells of a grid.
 fn area_at(list: &[u8], at: usize) -> usize
     requires { ⌜ at ≤ length (now list) ⌝ }
     ensures { λ r. ⌜ r < 65536 ⌝ }
@@ -26,7 +26,7 @@ fn area_at(list: &[u8], at: usize) -> usize
     replay::byte_at(list, at) * replay::byte_at(list, at + 1)
 }
 
-// Where the arrows of an entry end that begin at at, or behind the end of the list where they go on there.
+// Where the arrows of an entry end that begin at `at`, or behind the end of the list where they go on there.
 fn arrows_end(list: &[u8], start: usize, arrows: usize) -> usize {
     let mut at = start;
     let mut i = 0;
@@ -40,7 +40,7 @@ fn arrows_end(list: &[u8], start: usize, arrows: usize) -> usize {
     at
 }
 
-// Where the problem ends that begins at at, or behind the end of the list where the list ends inside it.
+// Where the problem ends that begins at `at`, or behind the end of the list where the list ends inside it.
 fn problem_end(list: &[u8], at: usize) -> usize
     requires { ⌜ at ≤ length (now list) ⌝ }
 {
@@ -48,7 +48,7 @@ fn problem_end(list: &[u8], at: usize) -> usize
     arrows_end(list, arrows + 2, replay::number_at(list, arrows))
 }
 
-// Whether something but zeros stands among the numbers from place from on.
+// Whether something but zeros stands among the numbers from place `from` on.
 fn tail_differs(numbers: &[u16], from: usize) -> bool
     requires { ⌜ from ≤ length (now numbers) ⌝ }
 {
@@ -87,7 +87,7 @@ fn arrows_differ(list: &[u8], start: usize, arrows: usize, line: &[u16], ends: &
     tail_differs(line, end) || tail_differs(ends, i)
 }
 
-// Whether the problem differs from the one that the list says from at on.
+// Whether the problem differs from the one that the list says from `at` on.
 fn problem_differs(list: &[u8], at: usize, p: Problem) -> bool
     requires { ⌜ at + 2 ≤ length (now list) ⌝ }
 {
@@ -106,7 +106,7 @@ fn problem_differs(list: &[u8], at: usize, p: Problem) -> bool
         || arrows_differ(list, at + 4 + n, count, &line, &ends)
 }
 
-// Whether what is read of a record differs from this refusal or from the problem that the list says from at on.
+// Whether what is read of a record differs from this refusal or from the problem that the list says from `at` on.
 fn record_differs(record: &[u8], refusal: usize, list: &[u8], at: usize) -> bool
     requires { ⌜ at + 2 ≤ length (now list) ⌝ }
 {
@@ -116,7 +116,7 @@ fn record_differs(record: &[u8], refusal: usize, list: &[u8], at: usize) -> bool
     replay::number(answer) != refusal || problem_differs(list, at, problem)
 }
 
-// Reads the record of the entry at at. A refused one has the blank problem: no cells and no arrows.
+// Reads the record of the entry at `at`. A refused one has the blank problem: no cells and no arrows.
 fn run_entry(list: &[u8], at: usize) -> Run
     requires { ⌜ at < length (now list) ⌝ }
 {

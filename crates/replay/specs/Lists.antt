@@ -24,11 +24,11 @@ unfoldable pub dataStart : List ℕ → ℕ
 dataStart [] = 0
 dataStart (b ∷ rest) = cond (eqb b 35) (dataFrom rest 1 b) 0
 
--- what stands at place i where the n bytes of a list from at on stand from place from on, and another byte in every other place
+-- what stands at place i where the n bytes of a list from `at` on stand from place `from` on, and another byte in every other place
 unfoldable pub byteIn : List ℕ → ℕ → ℕ → ℕ → ℕ → ℕ → ℕ
 byteIn l at n from other i = cond (ltb i from) other (cond (leb n (i - from)) other (getD l (at + (i - from)) 0))
 
--- what stands at place i where the n numbers of a list from at on stand in the first places, and another number behind them
+-- what stands at place i where the n numbers of a list from `at` on stand in the first places, and another number behind them
 unfoldable pub numberIn : List ℕ → ℕ → ℕ → ℕ → ℕ → ℕ
 numberIn l at n behind i = cond (leb n i) behind (numberAt l (at + 2 * i))
 

@@ -72,7 +72,7 @@ pub fn area(height: usize, width: usize) -> usize
     height * width
 }
 
-// The byte at at, 0 behind the end.
+// The byte at `at`, 0 behind the end.
 pub fn byte_at(list: &[u8], at: usize) -> usize
     ensures { λ r. ⌜ (r ≡ getD (now (list .entry)) at 0) × (r < 256) ⌝ }
 {
@@ -82,7 +82,7 @@ pub fn byte_at(list: &[u8], at: usize) -> usize
     0
 }
 
-// The u16 at at, with 0 for each byte behind the end.
+// The u16 at `at`, with 0 for each byte behind the end.
 pub fn number_at(list: &[u8], at: usize) -> usize
     ensures { λ r. ⌜ (r ≡ numberAt (now (list .entry)) at) × (r < 65536) ⌝ }
 {
@@ -114,7 +114,7 @@ pub fn data_start(list: &[u8]) -> usize
     0
 }
 
-// What stands at place i where the n bytes of the list from at on stand from place from on, and this byte in every other place.
+// What stands at place i where the n bytes of the list from `at` on stand from place `from` on, and this byte in every other place.
 fn byte_in(list: &[u8], at: usize, n: usize, from: usize, other: u8, i: usize) -> usize
     requires { ⌜ (at ≤ length (now list)) × (i < 9223372036854775808) ⌝ }
     ensures { λ r. ⌜ r ≡ byteIn (now (list .entry)) at n from other i ⌝ }
@@ -128,7 +128,7 @@ fn byte_in(list: &[u8], at: usize, n: usize, from: usize, other: u8, i: usize) -
     byte_at(list, at + (i - from))
 }
 
-// Whether the bytes are not, from place from on, the n bytes of the list from at on, and in every other place this one.
+// Whether the bytes are not, from place `from` on, the n bytes of the list from `at` on, and in every other place this one.
 pub fn bytes_differ(list: &[u8], at: usize, n: usize, bytes: &[u8], from: usize, other: u8) -> bool
     requires { ⌜ at ≤ length (now list) ⌝ }
     ensures { λ r. ⌜ r ≡ differs (now (bytes .entry)) (byteIn (now (list .entry)) at n from other) 0 ⌝ }
@@ -143,7 +143,7 @@ pub fn bytes_differ(list: &[u8], at: usize, n: usize, bytes: &[u8], from: usize,
     false
 }
 
-// Whether an array with a place for each cell differs from the n bytes of the list from at on, with this byte behind them.
+// Whether an array with a place for each cell differs from the n bytes of the list from `at` on, with this byte behind them.
 pub fn cells_differ(list: &[u8], at: usize, n: usize, cells: &[u8; 1024], behind: u8) -> bool
     requires { ⌜ at ≤ length (now list) ⌝ }
     ensures { λ r. ⌜ r ≡ differs (now (cells .entry)) (byteIn (now (list .entry)) at n 0 behind) 0 ⌝ }
@@ -151,7 +151,7 @@ pub fn cells_differ(list: &[u8], at: usize, n: usize, cells: &[u8; 1024], behind
     bytes_differ(list, at, n, cells, 0, behind)
 }
 
-// What stands at place i where the n numbers of the list from at on stand in the first places, and this number behind them.
+// What stands at place i where the n numbers of the list from `at` on stand in the first places, and this number behind them.
 fn number_in(list: &[u8], at: usize, n: usize, behind: u16, i: usize) -> usize
     requires { ⌜ (at ≤ length (now list)) × (i < 4611686018427387904) ⌝ }
     ensures { λ r. ⌜ r ≡ numberIn (now (list .entry)) at n behind i ⌝ }
@@ -162,7 +162,7 @@ fn number_in(list: &[u8], at: usize, n: usize, behind: u16, i: usize) -> usize
     number_at(list, at + 2 * i)
 }
 
-// Whether the numbers are not the n numbers of the list from at on, with this number behind them.
+// Whether the numbers are not the n numbers of the list from `at` on, with this number behind them.
 pub fn numbers_differ(list: &[u8], at: usize, n: usize, numbers: &[u16], behind: u16) -> bool
     requires { ⌜ at ≤ length (now list) ⌝ }
     ensures { λ r. ⌜ r ≡ differs (now (numbers .entry)) (numberIn (now (list .entry)) at n behind) 0 ⌝ }
