@@ -1,8 +1,9 @@
 -- `record::read` meets its contract: each way out by its own law.
 -- Assumes nothing.
-use Prim.Native.Nat.{_+_, _*_, _≤_, _<_}
+use Prim.Native.Nat.{ℕ, _+_, _*_, _≤_, _<_}
 use native.Mathlib.Omega.{arith}
 use mathlib.Core.Path.{_≡_, _∙_}
+use mathlib.Core.List.{List}
 use Rattle.fields.specs.Fields.{ok, field}
 use Rattle.fields.proofs.OutcomeLaws.{field-ok}
 use Rattle.fields.proofs.ReadLaws.{value-ok, fault-refused}
@@ -12,20 +13,45 @@ use borrow.Author.Needs.{needs}
 use Rattle.record.proofs.read.Statement.{statement}
 use Rattle.record.proofs.read.Tie as tie
 
+-- the places passed: the rows, the columns and the count are told, then the cells
+abbrev rows-told : tie.After-known-told2 → tie.After-known-told
+rows-told c = c .before .before .before .before
+
+abbrev columns-told : tie.After-known-told3 → tie.After-known-told2
+columns-told c = c .before .before .before .before
+
+abbrev count-told : tie.After-enum-told4 → tie.After-known-told3
+count-told c = c .before .before .before .before .before
+
+abbrev cells-told : tie.After-read-arrows → tie.After-enum-told4
+cells-told c = c .before .before .before .before .before .before .before
+
+-- the record
+abbrev bytes : tie.After-known-told → List ℕ
+bytes c = c .before .before .before .before .before .args .s .now
+
+abbrev bytes-2 : tie.After-known-told2 → List ℕ
+bytes-2 c = bytes (rows-told c)
+
+abbrev bytes-3 : tie.After-known-told3 → List ℕ
+bytes-3 c = bytes-2 (columns-told c)
+
 -- the three fields
-rows : (c : tie.After-known-told) → field (c .before .before .before .before .before .args .s .now) 0 5 ≡ ok (c .before .h .given .0 .0)
-rows c = value-ok (field (c .before .before .before .before .before .args .s .now) 0 5) (c .before .before .before .read-field .ensures) (c .before .h .given .1)
+rows : (c : tie.After-known-told) → field (bytes c) 0 5 ≡ ok (c .before .h .given .0 .0)
+rows c = value-ok (field (bytes c) 0 5) (c .before .before .before .read-field .ensures) (c .before .h .given .1)
 
-columns : (c : tie.After-known-told2) → field (c .before .before .before .before .before .before .before .before .before .args .s .now) 5 5 ≡ ok (c .before .w .given .0 .0)
-columns c = value-ok (field (c .before .before .before .before .before .before .before .before .before .args .s .now) 5 5) (c .before .before .before .read-field2 .ensures) (c .before .w .given .1)
+columns : (c : tie.After-known-told2) → field (bytes-2 c) 5 5 ≡ ok (c .before .w .given .0 .0)
+columns c = value-ok (field (bytes-2 c) 5 5) (c .before .before .before .read-field2 .ensures) (c .before .w .given .1)
 
-count : (c : tie.After-known-told3) → field (c .before .before .before .before .before .before .before .before .before .before .before .before .before .args .s .now) 10 11 ≡ ok (c .before .m .given .0 .0)
-count c = value-ok (field (c .before .before .before .before .before .before .before .before .before .before .before .before .before .args .s .now) 10 11) (c .before .before .before .read-field3 .ensures) (c .before .m .given .1)
+count : (c : tie.After-known-told3) → field (bytes-3 c) 10 11 ≡ ok (c .before .m .given .0 .0)
+count c = value-ok (field (bytes-3 c) 10 11) (c .before .before .before .read-field3 .ensures) (c .before .m .given .1)
 
 -- the grid is within the limits
-limits : (c : tie.After-known-told3)
-    → (c .before .before .before .before .before .before .before .before .before .h .given .0 .0 < 32) × (c .before .before .before .before .before .w .given .0 .0 < 32) × ((c .before .before .before .before .before .before .before .before .before .h .given .0 .0 + 1) * (c .before .before .before .before .before .w .given .0 .0 + 1) ≤ 1024)
-limits c = whole-size (c .before .before .before .before .before .before .before .before .before .before .before .before .before .args .s .now) (rows (c .before .before .before .before .before .before .before .before)) (columns (c .before .before .before .before))
+limits : (c : tie.After-known-told3) →
+    let h = rows-told (columns-told c) .before .h .given .0 .0 in
+    let w = columns-told c .before .w .given .0 .0 in
+    (h < 32) × (w < 32) × ((h + 1) * (w + 1) ≤ 1024)
+limits c = whole-size (bytes-3 c) (rows (rows-told (columns-told c))) (columns (columns-told c))
 
 read-field-requires : tie.Need-read-field-requires
 read-field-requires c κs = search needs
@@ -40,7 +66,9 @@ refusal-requires : tie.Need-refusal-requires
 refusal-requires c κs = search needs
 
 returns : tie.Need-returns
-returns c = c .refusal .ensures ∙ whole-cut (c .before .before .before .before .before .args .s .now) (fault-refused (field (c .before .before .before .before .before .args .s .now) 0 5) (c .before .before .before .read-field .ensures) (c .before .enum-told .given .1))
+returns c =
+    let s = c .before .before .before .before .before .args .s .now in
+    c .refusal .ensures ∙ whole-cut s (fault-refused (field s 0 5) (c .before .before .before .read-field .ensures) (c .before .enum-told .given .1))
 
 read-field-requires-2 : tie.Need-read-field-requires-2
 read-field-requires-2 c κs = search needs
@@ -55,7 +83,9 @@ refusal-requires-2 : tie.Need-refusal-requires-2
 refusal-requires-2 c κs = search needs
 
 returns-2 : tie.Need-returns-2
-returns-2 c = c .refusal2 .ensures ∙ whole-cut-2 (c .before .before .before .before .before .before .before .before .before .args .s .now) (rows (c .before .before .before .before)) (fault-refused (field (c .before .before .before .before .before .before .before .before .before .args .s .now) 5 5) (c .before .before .before .read-field2 .ensures) (c .before .enum-told2 .given .1))
+returns-2 c =
+    let r = c .before .before .before .before in
+    c .refusal2 .ensures ∙ whole-cut-2 (bytes r) (rows r) (fault-refused (field (bytes r) 5 5) (c .before .before .before .read-field2 .ensures) (c .before .enum-told2 .given .1))
 
 read-field-requires-3 : tie.Need-read-field-requires-3
 read-field-requires-3 c κs = search needs
@@ -70,7 +100,10 @@ refusal-requires-3 : tie.Need-refusal-requires-3
 refusal-requires-3 c κs = search needs
 
 returns-3 : tie.Need-returns-3
-returns-3 c = c .refusal3 .ensures ∙ whole-cut-3 (c .before .before .before .before .before .before .before .before .before .before .before .before .before .args .s .now) (rows (c .before .before .before .before .before .before .before .before)) (columns (c .before .before .before .before)) (fault-refused (field (c .before .before .before .before .before .before .before .before .before .before .before .before .before .args .s .now) 10 11) (c .before .before .before .read-field3 .ensures) (c .before .enum-told3 .given .1))
+returns-3 c =
+    let k = c .before .before .before .before in
+    c .refusal3 .ensures
+    ∙ whole-cut-3 (bytes-2 k) (rows (rows-told k)) (columns k) (fault-refused (field (bytes-2 k) 10 11) (c .before .before .before .read-field3 .ensures) (c .before .enum-told3 .given .1))
 
 add-height : tie.Need-add-height
 add-height c = omega (arith, limits c .0)
@@ -94,7 +127,11 @@ refusal-requires-4 : tie.Need-refusal-requires-4
 refusal-requires-4 c κs = search needs
 
 returns-4 : tie.Need-returns-4
-returns-4 c = c .refusal4 .ensures ∙ whole-cells (c .before .before .before .before .before .before .before .before .before .before .before .before .before .before .before .before .before .before .before .before .args .s .now) (rows (c .before .before .before .before .before .before .before .before .before .before .before .before .before .before .before)) (columns (c .before .before .before .before .before .before .before .before .before .before .before)) (count (c .before .before .before .before .before .before .before)) (answered-fault (c .before .before .before .before .read-cells .ensures) (c .before .before .a .given .1))
+returns-4 c =
+    let m = c .before .before .before .before .before .before .before in
+    let k = columns-told m in
+    c .refusal4 .ensures
+    ∙ whole-cells (bytes-3 m) (rows (rows-told k)) (columns k) (count m) (answered-fault (c .before .before .before .before .read-cells .ensures) (c .before .before .a .given .1))
 
 enum-told-4 : tie.Need-enum-told-4
 enum-told-4 c = search needs
@@ -119,8 +156,16 @@ add-read-arrows c = omega (arith, limits (c .before .before .before .before .bef
 
 read-arrows-requires : tie.Need-read-arrows-requires
 read-arrows-requires c κs =
-    let z = limits (c .before .before .before .before .before .before .before .before .before .before .before) in
-    (omega (arith, z .0), omega (arith, z .1), omega (arith, z .2), omega (arith, field-ok (c .before .before .before .before .before .before .before .before .before .before .before .before .before .before .before .before .before .before .before .before .before .before .before .before .args .s .now) 10 11 (count (c .before .before .before .before .before .before .before .before .before .before .before))), c .before .before .before .before .before .no-cells .ensures, c .before .before .before .before .no-cells2 .ensures, c .before .before .before .no-codes2 .ensures)
+    let m = c .before .before .before .before .before .before .before .before .before .before .before in
+    let z = limits m in (
+      omega (arith, z .0),
+      omega (arith, z .1),
+      omega (arith, z .2),
+      omega (arith, field-ok (bytes-3 m) 10 11 (count m)),
+      c .before .before .before .before .before .no-cells .ensures,
+      c .before .before .before .before .no-cells2 .ensures,
+      c .before .before .before .no-codes2 .ensures,
+    )
 
 enum-known-b : tie.Need-enum-known-b
 enum-known-b c = search needs
@@ -130,17 +175,26 @@ refusal-requires-5 c κs = search needs
 
 returns-5 : tie.Need-returns-5
 returns-5 c =
-    let d = answered-done (c .before .before .before .before .before .before .before .before .before .before .before .before .before .read-cells .ensures) (c .before .before .before .before .before .before .before .before .before .before .before .enum-told4 .given .1) in
-    c .refusal5 .ensures ∙ whole-arrows (c .before .before .before .before .before .before .before .before .before .before .before .before .before .before .before .before .before .before .before .before .before .before .before .before .before .before .before .before .before .args .s .now) (rows (c .before .before .before .before .before .before .before .before .before .before .before .before .before .before .before .before .before .before .before .before .before .before .before .before)) (columns (c .before .before .before .before .before .before .before .before .before .before .before .before .before .before .before .before .before .before .before .before)) (count (c .before .before .before .before .before .before .before .before .before .before .before .before .before .before .before .before)) (d .1) (answered-fault (c .before .before .before .before .read-arrows .ensures) (c .before .before .b .given .1))
+    let p = c .before .before .before .before in
+    let q = cells-told p in
+    let m = count-told q in
+    let k = columns-told m in
+    let d = answered-done (q .before .before .read-cells .ensures) (q .enum-told4 .given .1) in
+    c .refusal5 .ensures
+    ∙ whole-arrows (bytes-3 m) (rows (rows-told k)) (columns k) (count m) (d .1) (answered-fault (p .read-arrows .ensures) (c .before .before .b .given .1))
 
 enum-told-5 : tie.Need-enum-told-5
 enum-told-5 c = search needs
 
 returns-6 : tie.Need-returns-6
 returns-6 c =
-    let d = answered-done (c .before .before .before .before .before .before .before .before .before .before .before .read-cells .ensures) (c .before .before .before .before .before .before .before .before .before .enum-told4 .given .1) in
-    let e = answered-done (c .before .before .read-arrows .ensures) (c .enum-told5 .given .1) in
-    whole-done (c .before .before .before .before .before .before .before .before .before .before .before .before .before .before .before .before .before .before .before .before .before .before .before .before .before .before .before .args .s .now) (rows (c .before .before .before .before .before .before .before .before .before .before .before .before .before .before .before .before .before .before .before .before .before .before)) (columns (c .before .before .before .before .before .before .before .before .before .before .before .before .before .before .before .before .before .before)) (count (c .before .before .before .before .before .before .before .before .before .before .before .before .before .before)) (d .1) (d .2) (e .1) (e .2 .0) (e .2 .1)
+    let p = c .before .before in
+    let q = cells-told p in
+    let m = count-told q in
+    let k = columns-told m in
+    let d = answered-done (q .before .before .read-cells .ensures) (q .enum-told4 .given .1) in
+    let e = answered-done (p .read-arrows .ensures) (c .enum-told5 .given .1) in
+    whole-done (bytes-3 m) (rows (rows-told k)) (columns k) (count m) (d .1) (d .2) (e .1) (e .2 .0) (e .2 .1)
 
 pub read-spec : {M : Type 1} → statement M
 read-spec =

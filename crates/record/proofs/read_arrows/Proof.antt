@@ -9,6 +9,7 @@ use borrow.Author.Needs.{needs}
 use Rattle.fields.specs.Fields.{ok}
 use Rattle.record.specs.Record.{arrowAt}
 use Rattle.record.specs.Problem.{arrowCells}
+use Rattle.grid.specs.Grid.{Grid}
 use Rattle.grid.specs.Side.{sized}
 use Rattle.record.specs.Inside.{fault, Kept}
 use Rattle.record.proofs.KeptLaws.{kept-length}
@@ -23,10 +24,21 @@ Inv-loop s height width at arrows line₀ ends₀ used₀ count₀ i₀ line end
 abbrev μ-loop : tie.MeasureT-loop
 μ-loop s height width at arrows line₀ ends₀ used₀ count₀ i₀ line ends used count i = arrows - i
 
+-- the places passed: the start, and the head of the loop
+abbrev start : tie.At-loop Inv-loop μ-loop → tie.Start Inv-loop μ-loop
+start c = c .before .before
+
+abbrev head : tie.After-read-arrow Inv-loop μ-loop → tie.At-loop Inv-loop μ-loop
+head c = c .before .before .before .before
+
+-- the grid
+abbrev grid : tie.Start Inv-loop μ-loop → Grid
+grid a = sized (a .args .height) (a .args .width)
+
 loop-holds : tie.Need-loop-holds Inv-loop μ-loop
 loop-holds c =
     let a = c .before in
-    (omega arith, omega arith, arrows-start (a .args .s .now) (sized (a .args .height) (a .args .width)) (a .args .at) (a .args .arrows) (a .args .line .now) (a .args .ends .now) (a .args .used .now) (a .pre .4) (a .pre .5) (a .pre .6))
+    (omega arith, omega arith, arrows-start (a .args .s .now) (grid a) (a .args .at) (a .args .arrows) (a .args .line .now) (a .args .ends .now) (a .args .used .now) (a .pre .4) (a .pre .5) (a .pre .6))
 
 mul-read-arrow : tie.Need-mul-read-arrow Inv-loop μ-loop
 mul-read-arrow c = search needs
@@ -42,29 +54,37 @@ add-read-arrow-2 c = search needs
 
 read-arrow-requires : tie.Need-read-arrow-requires Inv-loop μ-loop
 read-arrow-requires c κs =
-    let a = c .before .before .before .before .before in
-    let w = c .before .before .before .loop .inv .2 in
+    let h = c .before .before .before in
+    let a = start h in
+    let w = h .loop .inv .2 in
     (a .pre .0, a .pre .1, omega arith, (arrowCells (w .read), w .cells, w .kept))
 
 enum-known-f : tie.Need-enum-known-f Inv-loop μ-loop
 enum-known-f c = search needs
 
 -- the arrow that was read
-next : (c : tie.After-known-told Inv-loop μ-loop)
-    → (a : List ℕ)
-    × (arrowAt (c .before .before .before .before .before .before .before .before .before .args .s .now) (sized (c .before .before .before .before .before .before .before .before .before .args .height) (c .before .before .before .before .before .before .before .before .before .args .width)) (arrowCells (c .before .before .before .before .before .before .before .loop .inv .2 .read)) (c .before .before .before .before .before .before .before .before .before .args .at + 18 * c .before .before .before .before .before .before .before .loop .i + 2 * c .before .before .before .before .before .before .before .loop .count) ≡ ok a)
-    × (length (arrowCells (c .before .before .before .before .before .before .before .loop .inv .2 .read) ++ a) ≡ c .before .f .given .0 .0)
-    × Kept (arrowCells (c .before .before .before .before .before .before .before .loop .inv .2 .read) ++ a) (c .before .before .before .read-arrow .last .1 .1 .1 .1 .1 .0) (c .before .before .before .read-arrow .last .1 .1 .1 .1 .1 .1 .0)
+next : (c : tie.After-known-told Inv-loop μ-loop) →
+    let f = c .before .before .before in
+    let h = head f in
+    let a = start h in
+    let l = arrowCells (h .loop .inv .2 .read) in
+    (js : List ℕ)
+    × (arrowAt (a .args .s .now) (grid a) l (a .args .at + 18 * h .loop .i + 2 * h .loop .count) ≡ ok js)
+    × (length (l ++ js) ≡ c .before .f .given .0 .0)
+    × Kept (l ++ js) (f .read-arrow .last .1 .1 .1 .1 .1 .0) (f .read-arrow .last .1 .1 .1 .1 .1 .1 .0)
 next c =
-    let w = c .before .before .before .before .before .before .before .loop .inv .2 in
-    read-arrow (c .before .before .before .read-arrow .ensures (arrowCells (w .read)) (w .cells) (w .kept)) (c .before .f .given .1)
+    let f = c .before .before .before in
+    let w = head f .loop .inv .2 in
+    read-arrow (f .read-arrow .ensures (arrowCells (w .read)) (w .cells) (w .kept)) (c .before .f .given .1)
 
 -- there is room for its end
-room : (c : tie.After-known-told Inv-loop μ-loop) → (c .before .before .before .before .before .before .before .loop .i < 1024) × (c .before .f .given .0 .0 ≤ 1024)
+room : (c : tie.After-known-told Inv-loop μ-loop) → (head (c .before .before .before) .loop .i < 1024) × (c .before .f .given .0 .0 ≤ 1024)
 room c =
-    let a = c .before .before .before .before .before .before .before .before .before in
+    let h = head (c .before .before .before) in
+    let t = h .loop in
+    let a = start h in
     let r = next c in
-    (arrows-room (a .args .s .now) (sized (a .args .height) (a .args .width)) (a .args .at) (a .args .arrows) (c .before .before .before .before .before .before .before .loop .i) (c .before .before .before .before .before .before .before .loop .count) (c .before .before .before .before .before .before .before .loop .inv .2) (r .1) (r .3), omega (arith, r .2, kept-length (r .3)))
+    (arrows-room (a .args .s .now) (grid a) (a .args .at) (a .args .arrows) (t .i) (t .count) (t .inv .2) (r .1) (r .3), omega (arith, r .2, kept-length (r .3)))
 
 cast-ends : tie.Need-cast-ends Inv-loop μ-loop
 cast-ends c = omega (arith, room c .1)
@@ -80,9 +100,13 @@ enum-known-f-2 c = search needs
 
 returns : tie.Need-returns Inv-loop μ-loop
 returns c =
-    let a = c .before .before .before .before .before .before .before .before .before in
-    let w = c .before .before .before .before .before .before .before .loop .inv .2 in
-    fault (arrows-fault (a .args .s .now) (sized (a .args .height) (a .args .width)) (a .args .at) (a .args .arrows) (c .before .before .before .before .before .before .before .loop .i) (c .before .before .before .before .before .before .before .loop .count) (c .before .before .before .before .before .before .before .loop .inv .2) (c .before .before .before .before .before .before .loop-test .taken) (read-fault (c .before .before .before .read-arrow .ensures (arrowCells (w .read)) (w .cells) (w .kept)) (c .before .f2 .given .1)))
+    let f = c .before .before .before in
+    let h = head f in
+    let t = h .loop in
+    let a = start h in
+    let w = t .inv .2 in
+    let lost = read-fault (f .read-arrow .ensures (arrowCells (w .read)) (w .cells) (w .kept)) (c .before .f2 .given .1) in
+    fault (arrows-fault (a .args .s .now) (grid a) (a .args .at) (a .args .arrows) (t .i) (t .count) w (f .before .before .before .loop-test .taken) lost)
 
 add-i : tie.Need-add-i Inv-loop μ-loop
 add-i c = search needs
@@ -92,9 +116,12 @@ loop-less c = search needs
 
 loop-again : tie.Need-loop-again Inv-loop μ-loop
 loop-again c =
-    let a = c .before .before .before .before .before .before .before .before .before in
+    let f = c .before .before .before in
+    let h = head f in
+    let t = h .loop in
+    let a = start h in
     let r = next c in
-    (omega arith, room c .1, arrows-more (a .args .s .now) (sized (a .args .height) (a .args .width)) (a .args .at) (a .args .arrows) (c .before .before .before .before .before .before .before .loop .i) (c .before .before .before .before .before .before .before .loop .count) (c .before .before .before .before .before .before .before .loop .inv .2) (c .before .before .before .before .before .before .loop-test .taken) (r .1) (r .2) (r .3))
+    (omega arith, room c .1, arrows-more (a .args .s .now) (grid a) (a .args .at) (a .args .arrows) (t .i) (t .count) (t .inv .2) (f .before .before .before .loop-test .taken) (r .1) (r .2) (r .3))
 
 mul-is-filler : tie.Need-mul-is-filler Inv-loop μ-loop
 mul-is-filler c = search needs
@@ -113,13 +140,17 @@ is-filler-requires c κs = search needs
 
 returns-2 : tie.Need-returns-2 Inv-loop μ-loop
 returns-2 c =
-    let a = c .before .before .before .before .before in
-    arrows-filled (a .args .s .now) (sized (a .args .height) (a .args .width)) (a .args .at) (a .args .arrows) (c .before .before .before .loop .i) (c .before .before .before .loop .count) (c .before .before .before .loop .inv .2) (c .before .before .before .loop .inv .0) (c .before .before .loop-test .left) (sym (c .before .is-filler .ensures) ∙ c .if1 .taken)
+    let h = c .before .before .before in
+    let t = h .loop in
+    let a = start h in
+    arrows-filled (a .args .s .now) (grid a) (a .args .at) (a .args .arrows) (t .i) (t .count) (t .inv .2) (t .inv .0) (c .before .before .loop-test .left) (sym (c .before .is-filler .ensures) ∙ c .if1 .taken)
 
 returns-3 : tie.Need-returns-3 Inv-loop μ-loop
 returns-3 c =
-    let a = c .before .before .before .before .before in
-    arrows-unfilled (a .args .s .now) (sized (a .args .height) (a .args .width)) (a .args .at) (a .args .arrows) (c .before .before .before .loop .i) (c .before .before .before .loop .count) (c .before .before .before .loop .inv .2) (c .before .before .before .loop .inv .0) (c .before .before .loop-test .left) (sym (c .before .is-filler .ensures) ∙ c .if1 .left)
+    let h = c .before .before .before in
+    let t = h .loop in
+    let a = start h in
+    arrows-unfilled (a .args .s .now) (grid a) (a .args .at) (a .args .arrows) (t .i) (t .count) (t .inv .2) (t .inv .0) (c .before .before .loop-test .left) (sym (c .before .is-filler .ensures) ∙ c .if1 .left)
 
 pub read-arrows-spec : {M : Type 1} → statement M
 read-arrows-spec =

@@ -7,6 +7,23 @@ use Rattle.text.proofs.Lines.{space-place, digit-place, end-place, part
 use Rattle.text.proofs.write_literal.Statement.{statement}
 use Rattle.text.proofs.write_literal.Tie as tie
 
+-- the places passed: the start, and where the index, the space and the value are written
+abbrev start : tie.After-write-digits → tie.Start
+start c = c .before .before .before .before .before .before
+
+abbrev index-put : tie.After-put → tie.After-write-digits
+index-put c = c .before .before .before .before
+
+abbrev space-put : tie.After-put2 → tie.After-put
+space-put c = c .before .before .before .before .before
+
+abbrev value-put : tie.After-put3 → tie.After-put2
+value-put c = c .before .before .before .before
+
+-- the number that is written first
+abbrev index : tie.After-write-digits → ℕ
+index c = (c .before .before .before .before .byte .result * 256 + c .before .before .before .byte2 .result) % 1024
+
 byte-requires : tie.Need-byte-requires
 byte-requires c κs = search needs
 
@@ -27,36 +44,40 @@ write-digits-requires c κs = search needs
 
 put-requires : tie.Need-put-requires
 put-requires c κs =
-    let s = c .before .before .before .before .before .before .before .before .before in
-    let i : ℕ = (c .before .before .before .before .before .before .before .byte .result * 256 + c .before .before .before .before .before .before .byte2 .result) % 1024 in
-    space-place i (s .pre) (c .before .before .before .write-digits .ensures)
+    let i = c .before .before .before in
+    space-place (index i) (start i .pre) (i .write-digits .ensures)
 
 last-digit-requires : tie.Need-last-digit-requires
 last-digit-requires c κs = search needs
 
 put-requires-2 : tie.Need-put-requires-2
 put-requires-2 c κs =
-    let s = c .before .before .before .before .before .before .before .before .before .before .before .before .before .before in
-    let i : ℕ = (c .before .before .before .before .before .before .before .before .before .before .before .before .byte .result * 256 + c .before .before .before .before .before .before .before .before .before .before .before .byte2 .result) % 1024 in
-    digit-place i (s .pre) (c .before .before .before .before .before .before .before .before .write-digits .ensures) (c .before .before .before .before .put .ensures)
+    let p = c .before .before .before .before in
+    let i = index-put p in
+    digit-place (index i) (start i .pre) (i .write-digits .ensures) (p .put .ensures)
 
 put-requires-3 : tie.Need-put-requires-3
 put-requires-3 c κs =
-    let s = c .before .before .before .before .before .before .before .before .before .before .before .before .before .before .before .before .before .before in
-    let i : ℕ = (c .before .before .before .before .before .before .before .before .before .before .before .before .before .before .before .before .byte .result * 256 + c .before .before .before .before .before .before .before .before .before .before .before .before .before .before .before .byte2 .result) % 1024 in
-    end-place i (s .pre) (c .before .before .before .before .before .before .before .before .before .before .before .before .write-digits .ensures) (c .before .before .before .before .before .before .before .before .put .ensures) (c .before .before .before .put2 .ensures)
+    let v = c .before .before .before in
+    let p = space-put v in
+    let i = index-put p in
+    end-place (index i) (start i .pre) (i .write-digits .ensures) (p .put .ensures) (v .put2 .ensures)
 
 same-length : tie.Need-same-length
 same-length c = search needs
 
 returns : tie.Need-returns
 returns c =
-    let s = c .before .before .before .before .before .before .before .before .before .before .before .before .before .before .before .before .before .before .before .before .before in
-    let a = c .before .before .before .before .before .before .before .before .before .before .before .before .before .before .before .before .before .before .before in
-    let b = c .before .before .before .before .before .before .before .before .before .before .before .before .before .before .before .before .before .before in
-    let i : ℕ = (c .before .before .before .before .before .before .before .before .before .before .before .before .before .before .before .before .before .before .before .byte .result * 256 + c .before .before .before .before .before .before .before .before .before .before .before .before .before .before .before .before .before .before .byte2 .result) % 1024 in
-    literal-written (s .args .high) (s .args .low) (a .byte .result) (b .byte2 .result) (c .before .before .before .before .before .before .before .before .before .before .before .before .before .before .before .before .before .byte3 .result) (omega (arith, s .fits .high)) (a .byte .ensures .0) (b .byte2 .ensures .0) (c .before .before .before .before .before .before .before .before .before .before .before .before .before .before .before .before .before .byte3 .ensures .0) (c .before .before .before .before .before .before .before .last-digit .ensures)
-    (parts-written i (s .pre) (c .before .before .before .before .before .before .before .before .before .before .before .before .before .before .before .write-digits .ensures) (c .before .before .before .before .before .before .before .before .before .before .before .put .ensures) (c .before .before .before .before .before .before .put2 .ensures) (c .before .before .put3 .ensures))
+    let n = c .before .before in
+    let v = value-put n in
+    let p = space-put v in
+    let i = index-put p in
+    let s = start i in
+    let a = i .before .before .before .before .byte in
+    let b = i .before .before .before .byte2 in
+    let z = i .before .before .byte3 in
+    literal-written (s .args .high) (s .args .low) (a .result) (b .result) (z .result) (omega (arith, s .fits .high)) (a .ensures .0) (b .ensures .0) (z .ensures .0) (v .before .last-digit .ensures)
+    (parts-written (index i) (s .pre) (i .write-digits .ensures) (p .put .ensures) (v .put2 .ensures) (n .put3 .ensures))
 
 pub write-literal-spec : {M : Type 1} → statement M
 write-literal-spec =
