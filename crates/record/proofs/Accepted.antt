@@ -23,7 +23,8 @@ use Rattle.record.specs.Problem.{arrowCells}
 use Rattle.record.proofs.RecordLaws.{record-valid}
 use Rattle.record.proofs.FreshLaws.{arrows-fresh, arrows-length, fresh-distinct}
 use Rattle.record.proofs.LineLaws.{ValidArrows, valid-arrows}
-use Rattle.record.proofs.WriteLaws.{pack-byte, length-pack, few-arrows, round-trip, written-bytes}
+use Rattle.record.proofs.PackLaws.{pack-byte, length-pack}
+use Rattle.record.proofs.WriteLaws.{few-arrows, round-trip, written-bytes}
 use Rattle.fields.proofs.FieldLaws.{window, window-number}
 use Rattle.record.proofs.BitLaws.{bitsAt, length-bitsAt, record-bits}
 

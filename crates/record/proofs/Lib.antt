@@ -1,6 +1,7 @@
 pub mod RecordLaws
 pub mod FreshLaws
 pub mod LineLaws
+pub mod PackLaws
 pub mod WriteLaws
 pub mod ProblemLaws
 pub mod CellLaws

@@ -11,7 +11,8 @@ use Rattle.fields.specs.Fields.{ok}
 use Rattle.record.specs.Record.{Puzzle, readRecord}
 use Rattle.record.specs.Write.{arrowBits, recordBits, writeRecord}
 use Rattle.record.specs.Valid.{end, Fresh, arrow, Arrows, Valid}
-use Rattle.record.proofs.WriteLaws.{length-pack, length-bitsOf, length-codes, length-arrowBits, round-trip}
+use Rattle.record.proofs.PackLaws.{length-pack, length-bitsOf}
+use Rattle.record.proofs.WriteLaws.{length-codes, length-arrowBits, round-trip}
 
 -- arrows of one cell each, from cell i on
 singles : ℕ → ℕ → List (List ℕ)
