@@ -54,7 +54,7 @@ pub fn by_original(board: &Board, original: &mut Original, call: Call) -> Option
             };
             Some(or_refused(original.decide(index, value == 1), refusal))
         }
-        Call::Undo => Some(or_refused(original.undo(), Refusal::NothingToUndo)),
+        Call::Undo => Some(or_refused(original.undo(), Refusal::NothingDecided)),
         Call::Find { buffer } if buffer < most_literals(size) => None,
         Call::Find { .. } => Some(original.find().map_or(Answer::Panicked, Answer::Found)),
         Call::Cells => Some(Answer::Cells(original.access.cells())),

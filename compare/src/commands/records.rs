@@ -111,7 +111,7 @@ fn overlapping_arrows(random: &mut Random, mut puzzle: Puzzle, counts: &mut Coun
         }
         puzzle.arrows.push(arrow);
     }
-    let refused = decode(&encode(&puzzle)) == Err(Refusal::ArrowCellTwice);
+    let refused = decode(&encode(&puzzle)) == Err(Refusal::UsedTwice);
     let none = Original::open(&puzzle).is_none();
     if refused != none {
         return Err(format!(

@@ -159,7 +159,7 @@ fn start_off_the_grid(random: &mut Random, mut fields: Fields) -> Damaged {
     fields.add_arrow(row, column, Vec::new());
     Damaged {
         record: fields.record(),
-        refusal: (!on_the_grid).then_some(Refusal::OffTheGrid),
+        refusal: (!on_the_grid).then_some(Refusal::OffGrid),
     }
 }
 
@@ -176,7 +176,7 @@ fn leaving_arrow(random: &mut Random, mut fields: Fields) -> Damaged {
     let only_arrow = fields.arrows.len() == 1 && fields.arrows[0].steps.len() == 32;
     Damaged {
         record: fields.record(),
-        refusal: only_arrow.then_some(Refusal::OffTheGrid),
+        refusal: only_arrow.then_some(Refusal::OffGrid),
     }
 }
 
@@ -190,7 +190,7 @@ fn crossing_itself(random: &mut Random, mut fields: Fields) -> Damaged {
             arrow.length_less_1 += 1;
             Damaged {
                 record: fields.record(),
-                refusal: Some(Refusal::ArrowCellTwice),
+                refusal: Some(Refusal::UsedTwice),
             }
         }
         _ => flipped_bits(random, fields.record()),
@@ -206,7 +206,7 @@ fn crossing_another(random: &mut Random, puzzle: &Puzzle) -> Damaged {
     puzzle.arrows.push(vec![cell]);
     Damaged {
         record: encode(&puzzle),
-        refusal: taken.contains(&cell).then_some(Refusal::ArrowCellTwice),
+        refusal: taken.contains(&cell).then_some(Refusal::UsedTwice),
     }
 }
 

@@ -61,7 +61,7 @@ impl Board {
     pub fn undo(&mut self) -> Result<(), Refusal> {
         match self.standing.pop() {
             Some(_) => Ok(()),
-            None => Err(Refusal::NothingToUndo),
+            None => Err(Refusal::NothingDecided),
         }
     }
 

@@ -34,7 +34,7 @@ pub fn opened_and_found(
 ) -> Result<Option<Reason>, Refusal> {
     let mut board = Board::open(record)?;
     if output_length < 2 * most_literals(board.puzzle().size) {
-        return Err(Refusal::ShortBuffer);
+        return Err(Refusal::OutputShort);
     }
     let whole = decisions.chunks_exact(2);
     let odd_byte = !whole.remainder().is_empty();
@@ -43,7 +43,7 @@ pub fn opened_and_found(
         board.decide(index, value)?;
     }
     if odd_byte {
-        return Err(Refusal::HostInput);
+        return Err(Refusal::Decision);
     }
     find(&board, output_length / 2)
 }
@@ -51,7 +51,7 @@ pub fn opened_and_found(
 /// Most significant first: value (1 bit), five zero bits, index (10).
 pub fn literal([high, low]: [u8; 2]) -> Result<Literal, Refusal> {
     if high >> 2 & 0b11111 != 0 {
-        return Err(Refusal::HostInput);
+        return Err(Refusal::Decision);
     }
     let index = usize::from(high & 0b11) * 256 + usize::from(low);
     Ok((index, high >> 7))

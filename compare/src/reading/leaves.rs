@@ -55,8 +55,8 @@ fn refused_records() {
     let s_ending = |last: u8| [&S[..6], &[last]].concat();
     assert_eq!(decode(&s_ending(0xE1)), Err(Refusal::Filler));
     assert_eq!(decode(&S[..6]), Err(Refusal::RecordEnds));
-    assert_eq!(decode(&s_ending(0xC0)), Err(Refusal::ArrowCellTwice));
-    assert_eq!(decode(&s_ending(0x80)), Err(Refusal::OffTheGrid));
+    assert_eq!(decode(&s_ending(0xC0)), Err(Refusal::UsedTwice));
+    assert_eq!(decode(&s_ending(0x80)), Err(Refusal::OffGrid));
     assert_eq!(decode(&[0x00, 0x40, 0x01, 0x80]), Err(Refusal::CellCode));
     assert_eq!(decode(&[]), Err(Refusal::RecordEnds));
     assert_eq!(decode(&[&S[..], &[0]].concat()), Err(Refusal::Filler));
@@ -67,10 +67,10 @@ fn refused_calls() {
     let mut fresh = board(&S, &[]);
     assert_eq!(fresh.decide(3, 2), Err(Refusal::Index));
     assert_eq!(fresh.decide(0, 2), Err(Refusal::Value));
-    assert_eq!(fresh.undo(), Err(Refusal::NothingToUndo));
+    assert_eq!(fresh.undo(), Err(Refusal::NothingDecided));
     assert_eq!(fresh.decide(0, 1), Ok(()));
     assert_eq!(fresh.decide(0, 1), Err(Refusal::Decided));
-    assert_eq!(find(&fresh, 9), Err(Refusal::ShortBuffer));
+    assert_eq!(find(&fresh, 9), Err(Refusal::OutputShort));
     assert_eq!(find(&fresh, 10), Ok(None));
     assert_eq!(fresh.undo(), Ok(()));
     assert_eq!(fresh.cells(), [Cell::Undecided; 3]);

@@ -16,7 +16,8 @@ pub mod record;
 #[cfg(test)]
 mod leaves;
 
-/// What is returned when no result can be, by the numbers of document 01's table.
+/// What is returned when no result can be, by the numbers of document 01's table and under the names of
+/// `../rust`.
 ///
 /// 6, a board that no list of calls could leave, is missing: a `Board` of this reading is made by
 /// `open` and changed by calls alone.
@@ -24,15 +25,15 @@ mod leaves;
 pub enum Refusal {
     RecordEnds = 1,
     CellCode = 2,
-    OffTheGrid = 3,
-    ArrowCellTwice = 4,
+    OffGrid = 3,
+    UsedTwice = 4,
     Filler = 5,
     Index = 7,
     Value = 8,
     Decided = 9,
-    NothingToUndo = 10,
-    ShortBuffer = 11,
-    HostInput = 12,
+    NothingDecided = 10,
+    OutputShort = 11,
+    Decision = 12,
 }
 
 impl Refusal {

@@ -17,10 +17,11 @@ pub fn reason(input: &[u8]) -> String {
     }
 }
 
-/// The record's length in 2 bytes, the record, decisions.
+/// The record's length in 2 bytes, the record, decisions. Input that is too long has the number of a
+/// wrong decision.
 fn answer_to(input: &[u8]) -> Result<Vec<Literal>, Refusal> {
     if input.len() > 8_192 {
-        return Err(Refusal::HostInput);
+        return Err(Refusal::Decision);
     }
     if input.len() < 2 {
         return Err(Refusal::RecordEnds);

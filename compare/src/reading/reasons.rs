@@ -31,7 +31,7 @@ pub fn most_literals(size: Size) -> usize {
 pub fn find(board: &Board, buffer: usize) -> Result<Option<Reason>, Refusal> {
     let puzzle = board.puzzle();
     if buffer < most_literals(puzzle.size) {
-        return Err(Refusal::ShortBuffer);
+        return Err(Refusal::OutputShort);
     }
     Ok(find_reason(puzzle, &board.cells()))
 }

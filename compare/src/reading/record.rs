@@ -85,9 +85,9 @@ fn decode_arrow(fields: &mut Fields, size: Size, used: &mut [bool]) -> Result<Ve
 
 /// Takes a cell for an arrow; off the grid comes before used twice.
 fn take(cell: Option<usize>, used: &mut [bool]) -> Result<usize, Refusal> {
-    let cell = cell.ok_or(Refusal::OffTheGrid)?;
+    let cell = cell.ok_or(Refusal::OffGrid)?;
     if used[cell] {
-        return Err(Refusal::ArrowCellTwice);
+        return Err(Refusal::UsedTwice);
     }
     used[cell] = true;
     Ok(cell)

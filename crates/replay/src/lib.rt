@@ -53,7 +53,7 @@ pub fn number(answer: Answer) -> usize
 }
 
 // 1 for a difference.
-pub fn one_if(yes: bool) -> usize
+fn one_if(yes: bool) -> usize
     ensures { λ r. ⌜ (r ≡ cond yes 1 0) × (r ≤ 1) ⌝ }
 {
     if yes { 1 } else { 0 }
