@@ -4,16 +4,12 @@ use Prim.Native.Nat.{ℕ, suc, _+_, _-_, _*_, _≤_, _<_}
 use native.Mathlib.Omega.{arith}
 use mathlib.Core.Path.{_≡_, refl, sym}
 use mathlib.Core.List.{List, [], _∷_}
-use lib.ListN.{length, getD, take, drop}
+use lib.ListN.{length, take, drop}
 use borrow.Author.Tests.{lt-ltb, le-ltb}
 use borrow.Rule.Slice.PartAt.{part-to-end}
 use Rattle.record.specs.Record.{refused}
 use Rattle.host.specs.Host.{hostFinds}
-use Rattle.answer.specs.Program.{outputLimit, answerOf, inputAnswer, programFinds}
-
--- the length that the first two bytes say
-abbrev pub lengthSaid : List ℕ → ℕ
-lengthSaid input = getD input 0 0 * 256 + getD input 1 0
+use Rattle.answer.specs.Program.{lengthSaid, outputLimit, answerOf, inputAnswer, programFinds}
 
 -- fewer than two bytes
 no-length : (l : List ℕ) → length l < 2 → inputAnswer l ≡ refused 1

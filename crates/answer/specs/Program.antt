@@ -5,7 +5,7 @@ use mathlib.Core.Bool.{cond}
 use mathlib.Core.List.{List, [], _∷_, _++_}
 use mathlib.Core.Option.{none, some}
 use lib.Dec.{ltb}
-use lib.ListN.{length, take, drop}
+use lib.ListN.{length, getD, take, drop}
 use Rattle.grid.specs.Lists.{flatMap}
 use Rattle.record.specs.Record.{Outcome, ok, refused}
 use Rattle.literals.specs.Literals.{Found}
@@ -21,6 +21,10 @@ textOf (ok (some r)) = line (twoWords reasonText (digits (length r))) ++ flatMap
 -- the length of an output that is long enough for every record: 2 × (3 × 1,024 + 1) bytes
 unfoldable pub outputLimit : ℕ
 outputLimit = 6146
+
+-- the record's length as the input's first two bytes say it, high byte first
+abbrev pub lengthSaid : List ℕ → ℕ
+lengthSaid input = getD input 0 0 * 256 + getD input 1 0
 
 -- a record of l bytes, then decisions; 1 where the input is too short for it
 unfoldable pub answerOf : ℕ → List ℕ → Outcome Found

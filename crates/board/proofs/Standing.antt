@@ -13,9 +13,8 @@ use borrow.Author.Tests.{lt-ltb, le-leb, ltb-true, leb-true, not-true, eqb-true,
 use Rattle.grid.specs.Lists.{Distinct, range, upto, init}
 use Rattle.grid.proofs.ListLaws.{and-true, dec-so, so-false, mem-any, distinct-snoc, length-map-upto, map-upto-at, map-upto-past}
 use Rattle.grid.specs.Grid.{Grid, size, cellsOf}
-use Rattle.grid.specs.Cells.{Literal}
+use Rattle.grid.specs.Cells.{Literal, ValidCells}
 use Rattle.board.specs.Board.{SameCells, SameDecisions, valueAt, cellsAfter, Call, decide, undo, find, decided, after, afterAll}
-use Rattle.grid.proofs.CellLaws.{ValidCells}
 use Rattle.grid.proofs.AppendLaws.{init-more}
 
 -- decisions one after the other, each on an undecided cell of the grid

@@ -25,7 +25,7 @@ use Rattle.board.specs.declared.Board.{Board}
 use Rattle.board.proofs.BoardForm.{whole-is, whole-most}
 use Rattle.groups.specs.Rules.{BlockRules, rulesTest}
 use Rattle.groups.proofs.RulesLaws.{rules-test, test-rules}
-use Rattle.kinds.proofs.Bridge.{Setting}
+use Rattle.kinds.specs.Meaning.{Setting}
 use Rattle.literals.specs.Literals.{Found}
 use Rattle.reasons.specs.Find.{cellsOn, reasonOn, findRefusal, findOf}
 use Rattle.literals.specs.Buffer.{findingBy}

@@ -13,9 +13,9 @@ use lib.ListN.{length, getD, take, drop, drop-of-length-le}
 use lib.Seq.{drop-cons}
 use borrow.Author.Tests.{eq-eqb, ne-eqb, ltb-true}
 use Rattle.grid.specs.Lists.{all, member}
-use Rattle.grid.specs.Grid.{Grid, size, neighbours}
+use Rattle.grid.specs.Grid.{Grid, size, neighbours, Beside, above, below, before, behind}
 use Rattle.grid.proofs.ListLaws.{member-mem, mem-member, so-false, and-true as both}
-use Rattle.grid.proofs.GridLaws.{Beside, above, below, before, behind, beside, neighbour, beside-sym}
+use Rattle.grid.proofs.GridLaws.{beside, neighbour, beside-sym}
 use Rattle.record.specs.Problem.{arrowsFrom}
 use Rattle.form.specs.Form.{rises, walks, path}
 use Rattle.form.specs.Inside.{Suits}

@@ -10,14 +10,8 @@ use native.Mathlib.Decide.{ℕ-discrete}
 use lib.Dec.{eqb}
 use lib.ListN.{length, getD}
 use borrow.Author.Tests.{eqb-true, eq-eqb}
-use Rattle.grid.specs.Grid.{Grid, size}
 use Rattle.grid.specs.Cells.{empty, square, undecided}
 use Rattle.grid.proofs.ListLaws.{place-in}
-
--- a value for each cell of the grid: 0 empty, 1 square, 2 undecided
-pub record ValidCells (g : Grid) (cells : List ℕ) : Type 0 where
-  pub long : length cells ≡ size g
-  pub three : (i : ℕ) → getD cells i 0 ≤ 2
 
 module _ (cells : List ℕ) (i : ℕ) where
   -- a cell is one of three

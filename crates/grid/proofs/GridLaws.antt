@@ -13,15 +13,8 @@ use lib.Dec.{leb, ltb}
 use borrow.Author.Tests.{leb-true, ltb-true, ltb-false, le-leb, lt-ltb}
 use Rattle.grid.specs.Lists.{Distinct, upto, member}
 use Rattle.grid.proofs.ListLaws.{length-range, member-mem, mem-member, mem-any, mem-upto, dec-so, split}
-use Rattle.grid.specs.Grid.{cellsOf, touches, Adjacent, Grid, size, row, col, only, up, down, left, right, neighbours}
+use Rattle.grid.specs.Grid.{cellsOf, touches, Adjacent, Grid, size, row, col, only, up, down, left, right, neighbours, Beside, above, below, before, behind}
 use Rattle.grid.proofs.Count.{dec-and}
-
--- j is above, below, left or right of i
-pub data Beside (g : Grid) (i j : ℕ) : Type 0 where
-  above : j + g .width ≡ i → Beside g i j
-  below : i + g .width < size g → j ≡ i + g .width → Beside g i j
-  before : 0 < i % g .width → j + 1 ≡ i → Beside g i j
-  behind : i % g .width + 1 < g .width → j ≡ i + 1 → Beside g i j
 
 only-mem : {b : Bool} {i j : ℕ} → List·Memᴰ j (only b i) → (b ≡ true) × (j ≡ i)
 unfolding only

@@ -18,7 +18,7 @@ use Rattle.grid.specs.declared.Side.{Side}
 use Rattle.grid.specs.declared.Side.the-variants.{At, Off}
 use Rattle.grid.specs.Lists.{any, member}
 use Rattle.grid.specs.Grid.{Grid, size, row, col}
-use Rattle.grid.specs.Side.{movedOf, placed, shiftedOf}
+use Rattle.grid.specs.Side.{movedOf, placed, shiftedOf, landing, Landed}
 use Rattle.grid.proofs.ListLaws.{and-true, true-and, any-mem, mem-any, member-mem, mem-member, so-false}
 use Rattle.grid.proofs.GridLaws.{width-pos, index}
 use Rattle.grid.proofs.SideLaws.{Reaches, moved-to, to-moved}
@@ -63,16 +63,6 @@ led-by w Outside t d e = let z : _≡_ {A = ℕ} 0 1 = cc in absurd (omega arith
 off-by : (s : Side) → ((d : ℕ) → ¬ (s ≡ At d)) → s ≡ Off
 off-by (At d) h = absurd (h d refl)
 off-by Off h = refl
-
--- the shift that takes f to t takes c to the cell d
-pub record Landed (g : Grid) (f t c d : ℕ) : Type 0 where
-  pub inside : d < size g
-  pub rows : row g d + row g f ≡ row g c + row g t
-  pub cols : col g d + col g f ≡ col g c + col g t
-
--- .. by signed offsets
-abbrev pub landing : Grid → ℕ → ℕ → ℕ → Side
-landing g f t c = shiftedOf (g .height) (g .width) (row g c) (col g c) (pos (row g t) -ℤ pos (row g f)) (pos (col g t) -ℤ pos (col g f))
 
 module _ (g : Grid) (f t c : ℕ) where
   abbrev W : ℕ

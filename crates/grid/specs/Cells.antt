@@ -1,11 +1,12 @@
 -- The cells of a board, and literals.
 -- Assumes nothing.
-use Prim.Native.Nat.{ℕ, _+_, _*_}
+use Prim.Native.Nat.{ℕ, _+_, _*_, _≤_}
 use mathlib.Core.Path.{_≡_}
 use mathlib.Core.Bool.{Bool, not}
 use mathlib.Core.List.{List, List·Memᴰ}
 use lib.Dec.{eqb}
-use lib.ListN.{getD}
+use lib.ListN.{length, getD}
+use Rattle.grid.specs.Grid.{Grid, size}
 
 -- an index with a value
 abbrev pub Literal : Type 0
@@ -32,6 +33,11 @@ module _ (cells : List ℕ) (i : ℕ) where
   -- not empty: square or undecided
   unfoldable pub potential : Bool
   potential = not empty
+
+-- the cells of a board: a value for each cell of the grid
+pub record ValidCells (g : Grid) (cells : List ℕ) : Type 0 where
+  pub long : length cells ≡ size g
+  pub three : (i : ℕ) → getD cells i 0 ≤ 2
 
 -- each literal has the value of the cell at its index
 abbrev pub Agrees : List ℕ → List Literal → Type 0

@@ -1,12 +1,13 @@
 -- Signed moves on the grid, and the four neighbours one by one and together.
 -- Assumes nothing.
 use Prim.Native.Nat.{ℕ, zero, suc, _+_, _-_, _*_, _≤_, _<_}
+use mathlib.Core.Path.{_≡_}
 use mathlib.Core.Bool.{cond}
 use mathlib.Core.List.{List, [], _∷_, _++_}
 use lib.Dec.{ltb}
-use lib.IntN.{ℤ, pos, negsuc}
+use lib.IntN.{ℤ, pos, negsuc, _-ℤ_}
 use lib.ListN.{length, replicate}
-use Rattle.grid.specs.Grid.{Grid, up, down, left, right, neighbours}
+use Rattle.grid.specs.Grid.{Grid, size, row, col, up, down, left, right, neighbours}
 use Rattle.grid.specs.declared.Step.{Step}
 use Rattle.grid.specs.declared.Step.the-variants.{To, Outside}
 use Rattle.grid.specs.declared.Side.{Side}
@@ -31,6 +32,16 @@ placed w Outside t = Off
 -- a shift: the cell at row y, column x of an h by w grid, moved by a signed row and column offset
 unfoldable pub shiftedOf : ℕ → ℕ → ℕ → ℕ → ℤ → ℤ → Side
 shiftedOf h w y x dy dx = placed w (movedOf y dy h) (movedOf x dx w)
+
+-- the shift that takes the cell f to the cell t, by its signed row and column offset: where it takes the cell c
+abbrev pub landing : Grid → ℕ → ℕ → ℕ → Side
+landing g f t c = shiftedOf (g .height) (g .width) (row g c) (col g c) (pos (row g t) -ℤ pos (row g f)) (pos (col g t) -ℤ pos (col g f))
+
+-- the same without signs: that shift takes c to the cell d
+pub record Landed (g : Grid) (f t c d : ℕ) : Type 0 where
+  pub inside : d < size g
+  pub rows : row g d + row g f ≡ row g c + row g t
+  pub cols : col g d + col g f ≡ col g c + col g t
 
 -- the neighbour in direction k, as a list of at most one: up, down, left, right
 unfoldable pub towards : Grid → ℕ → ℕ → List ℕ

@@ -11,17 +11,7 @@ use lib.Seq.{getD-append-seam, getD-append-add, split-at, getD-take, getD-drop}
 use Rattle.grid.specs.Lists.{init, tail}
 use Rattle.grid.proofs.ListLaws.{so-false, mem-at, at-mem, length-init, length-tail, getD-init, getD-tail}
 use Rattle.grid.specs.Cells.{square}
-use Rattle.groups.specs.Arrows.{Pair, pairsFrom, pairs}
-
--- a pair of squares on an arrow a, with no square between
-pub record Parted (cells a : List ℕ) (p : Pair) : Type 0 where
-  pub before : List ℕ
-  pub behind : List ℕ
-  -- the arrow is its parts
-  pub whole : a ≡ before ++ (p .last ∷ (p .between ++ (p .cur ∷ behind)))
-  pub first : square cells (p .last) ≡ true
-  pub second : square cells (p .cur) ≡ true
-  pub none : (k : ℕ) → List·Memᴰ k (p .between) → square cells k ≡ false
+use Rattle.groups.specs.Arrows.{Pair, pairsFrom, pairs, Parted}
 
 module _ (cells a : List ℕ) where
   -- no square is in the list

@@ -17,7 +17,7 @@ use Rattle.grid.proofs.LinkLaws.{linked-end, linked-start, linked-trans, linked
 use Rattle.grid.proofs.GridLaws.{adj-sym, beside, on-grid}
 use Rattle.grid.specs.Lists.{Distinct, upto, filter}
 use Rattle.grid.specs.Grid.{Grid, size, cellsOf, neighbours}
-use Rattle.groups.specs.Groups.{Joined, rename, join, joinAll, edges, labels, group, names}
+use Rattle.groups.specs.Groups.{Joined, rename, join, joinAll, edges, labels, Labels, group, names}
 
 -- a chain stays on the grid
 pub linked-size : (g : Grid) (p : ℕ → Bool) {i j : ℕ} → i < size g → Joined g p i j → j < size g
@@ -282,12 +282,7 @@ pub names-rising : (g : Grid) (p : ℕ → Bool) (l : List ℕ) → Rising (name
 unfolding names
 names-rising g p l = filter-rising (λ i. p i && eqb (getD l i 0) i) (cells-rising g)
 
--- the law, for a test that only cells of the grid pass
-pub record Labels (g : Grid) (p : ℕ → Bool) : Type 0 where
-  pub same : (i j : ℕ) → So (p i) → So (p j) → getD (labels g p) i 0 ≡ getD (labels g p) j 0 → Joined g p i j
-  pub linked : (i j : ℕ) → Joined g p i j → getD (labels g p) i 0 ≡ getD (labels g p) j 0
-
--- the labels have the law
+-- the labels name the groups of a test that only cells of the grid pass
 pub labelled : (g : Grid) (p : ℕ → Bool) → ((c : ℕ) → So (p c) → c < size g) → Labels g p
 labelled g p low = record {
   same = λ i j pi pj e. linked-label g p i j (low i pi) (low j pj) pi e;

@@ -20,10 +20,10 @@ use Rattle.record.specs.Record.{Puzzle}
 use Rattle.grid.specs.Cells.{square}
 use Rattle.grid.proofs.CellLaws.{sq-below}
 use Rattle.groups.proofs.GroupLaws.{group-distinct, label-own, group-linked, linked-group, names-own, own-names}
-use Rattle.groups.proofs.Shift.{Below, contains-map, contains-fits, fits-contains, taking, grown-size, size-grown}
+use Rattle.groups.proofs.Shift.{contains-map, contains-fits, fits-contains, grown-size, size-grown}
 use Rattle.groups.specs.Groups.{labels, group, names}
 use Rattle.groups.specs.Arrows.{onArrow, Pair, pairs}
-use Rattle.groups.specs.Rules.{fits, SameBlock, OneArrowCell, Grown, Next, BlockRules, oneTest, grownTest, rulesTest}
+use Rattle.groups.specs.Rules.{fits, SameBlock, OneArrowCell, Grown, Next, BlockRules, oneTest, grownTest, rulesTest, Below, taking}
 use Rattle.groups.proofs.ArrowLaws.{pairs-parted, parted-pairs}
 
 module _ (p : Puzzle) (cells : List ℕ) (n : length cells ≡ size (p .grid)) where

@@ -16,17 +16,9 @@ use Rattle.grid.specs.Count.{count}
 use Rattle.grid.proofs.Count.{dec-and, dec-not, dec-some, except, count-except, count-inj, count-inj-suc}
 use Rattle.grid.specs.Grid.{Grid, size, row, col}
 use Rattle.grid.proofs.GridLaws.{one-place}
-use Rattle.groups.specs.Rules.{Shift, Moved, Grown, fits}
+use Rattle.groups.specs.Rules.{Shift, Moved, Contains, Below, Grown, taking, fits}
 
 module _ (g : Grid) where
-  -- the shift of P lies in Q
-  abbrev pub Contains : Shift → (ℕ → Type 0) → (ℕ → Type 0) → Type 0
-  Contains s P Q = (x : ℕ) → P x → (y : ℕ) × Q y × Moved g s x y
-
-  -- P holds of cells of the grid only
-  abbrev pub Below : (ℕ → Type 0) → Type 0
-  Below P = (c : ℕ) → P c → c < size g
-
   moved-inj : (s : Shift) (i j k : ℕ) → Moved g s i k → Moved g s j k → i ≡ j
   moved-inj s i j k p q = one-place g i j (omega (arith, p .rows, q .rows)) (omega (arith, p .cols, q .cols))
 
@@ -37,7 +29,7 @@ module _ (g : Grid) where
   dec-moved s c k = map-dec (λ h. record { rows = h .0; cols = h .1 }) (λ m. (m .rows, m .cols)) (dec-and (ℕ-discrete _ _) (ℕ-discrete _ _))
 
   -- a set lies in itself
-  pub contains-id : (P : ℕ → Type 0) → Contains (record { up = 0; down = 0; left = 0; right = 0 }) P P
+  pub contains-id : (P : ℕ → Type 0) → Contains g (record { up = 0; down = 0; left = 0; right = 0 }) P P
   contains-id P c p = (c, p, record { rows = refl; cols = refl })
 
   -- one shift after the other
@@ -45,7 +37,7 @@ module _ (g : Grid) where
   then s t = record { up = s .up + t .up; down = s .down + t .down; left = s .left + t .left; right = s .right + t .right }
 
   -- copies of copies
-  pub contains-trans : (s t : Shift) (P Q R : ℕ → Type 0) → Contains s P Q → Contains t Q R → Contains (then s t) P R
+  pub contains-trans : (s t : Shift) (P Q R : ℕ → Type 0) → Contains g s P Q → Contains g t Q R → Contains g (then s t) P R
   unfolding then
   contains-trans s t P Q R f h c p =
       let u = f c p in
@@ -53,10 +45,10 @@ module _ (g : Grid) where
       (v .0, v .1, record { rows = omega (arith, u .2 .rows, v .2 .rows); cols = omega (arith, u .2 .cols, v .2 .cols) })
 
   -- a smaller set in a larger one
-  pub contains-map : (s : Shift) (P Q P′ Q′ : ℕ → Type 0) → ((x : ℕ) → P′ x → P x) → ((x : ℕ) → Q x → Q′ x) → Contains s P Q → Contains s P′ Q′
+  pub contains-map : (s : Shift) (P Q P′ Q′ : ℕ → Type 0) → ((x : ℕ) → P′ x → P x) → ((x : ℕ) → Q x → Q′ x) → Contains g s P Q → Contains g s P′ Q′
   contains-map s P Q P′ Q′ a b f c p = let u = f c (a c p) in (u .0, b (u .0) (u .1), u .2)
 
-  module _ {P Q : ℕ → Type 0} (dP : (i : ℕ) → Dec (P i)) (dQ : (i : ℕ) → Dec (Q i)) (bP : Below P) (bQ : Below Q) where
+  module _ {P Q : ℕ → Type 0} (dP : (i : ℕ) → Dec (P i)) (dQ : (i : ℕ) → Dec (Q i)) (bP : Below g P) (bQ : Below g Q) where
     -- what has grown is larger by one
     pub grown-size : Grown g P Q → count dQ (size g) ≡ suc (count dP (size g))
     grown-size w = le-antisymm above below
@@ -80,7 +72,7 @@ module _ (g : Grid) where
         )
 
     -- contained, and larger by one: a copy and one square more
-    pub size-grown : (s : Shift) → Contains s P Q → count dQ (size g) ≡ suc (count dP (size g)) → Grown g P Q
+    pub size-grown : (s : Shift) → Contains g s P Q → count dQ (size g) ≡ suc (count dP (size g)) → Grown g P Q
     size-grown s f e = go (dec-some loose (size g))
       where
         Image : ℕ → Type 0
@@ -128,32 +120,28 @@ module _ (g : Grid) where
                   )),
             ))
 
-  -- the shift that takes f to t
-  abbrev pub taking : ℕ → ℕ → Shift
-  taking f t = record { up = row g f; down = row g t; left = col g f; right = col g t }
-
   lands : ℕ → ℕ → ℕ → ℕ → Bool
   lands f t x y = eqb (row g y + row g f) (row g x + row g t) && eqb (col g y + col g f) (col g x + col g t)
 
-  lands-moved : (f t x y : ℕ) → So (lands f t x y) → Moved g (taking f t) x y
+  lands-moved : (f t x y : ℕ) → So (lands f t x y) → Moved g (taking g f t) x y
   unfolding lands
   lands-moved f t x y h =
       let k = and-true (eqb (row g y + row g f) (row g x + row g t)) (eqb (col g y + col g f) (col g x + col g t)) h in
       record { rows = eqb-true (row g y + row g f) (row g x + row g t) (k .0); cols = eqb-true (col g y + col g f) (col g x + col g t) (k .1) }
 
-  moved-lands : (f t x y : ℕ) → Moved g (taking f t) x y → So (lands f t x y)
+  moved-lands : (f t x y : ℕ) → Moved g (taking g f t) x y → So (lands f t x y)
   unfolding lands
   moved-lands f t x y m = true-and (eq-eqb (row g y + row g f) (row g x + row g t) (m .rows)) (eq-eqb (col g y + col g f) (col g x + col g t) (m .cols))
 
   -- the test passes where the shift of the list B that takes f to t lies in C
-  pub fits-contains : (B C : List ℕ) (f t : ℕ) → So (fits g B C f t) → Contains (taking f t) (λ x. List·Memᴰ x B) (λ y. List·Memᴰ y C)
+  pub fits-contains : (B C : List ℕ) (f t : ℕ) → So (fits g B C f t) → Contains g (taking g f t) (λ x. List·Memᴰ x B) (λ y. List·Memᴰ y C)
   unfolding fits lands
   fits-contains B C f t h x m =
       let k = any-mem (lands f t x) C (all-mem (λ z. any (lands f t z) C) B h x m) in
       (k .0, k .1, lands-moved f t x (k .0) (k .2))
 
   -- a shift that fits is one of those that are tried
-  pub contains-fits : (B C : List ℕ) (f : ℕ) → List·Memᴰ f B → (s : Shift) → Contains s (λ x. List·Memᴰ x B) (λ y. List·Memᴰ y C) → So (any (fits g B C f) C)
+  pub contains-fits : (B C : List ℕ) (f : ℕ) → List·Memᴰ f B → (s : Shift) → Contains g s (λ x. List·Memᴰ x B) (λ y. List·Memᴰ y C) → So (any (fits g B C f) C)
   unfolding fits lands
   contains-fits B C f b s h =
       let t = h f b in

@@ -2,8 +2,8 @@
 -- Assumes nothing.
 use Prim.Native.Nat.{ℕ, _≤_, _<_}
 use mathlib.Core.Path.{_≡_}
-use mathlib.Core.Bool.{Bool, cond}
-use mathlib.Core.List.{List, [], _∷_, _++_}
+use mathlib.Core.Bool.{Bool, true, false, cond}
+use mathlib.Core.List.{List, [], _∷_, _++_, List·Memᴰ}
 use lib.ListN.{length, getD, take}
 use Rattle.grid.specs.Lists.{any, member}
 use Rattle.grid.specs.Cells.{square}
@@ -31,6 +31,16 @@ pairsFrom cells i passed (j ∷ js) =
 unfoldable pub pairs : List ℕ → List ℕ → List Pair
 pairs cells [] = []
 pairs cells (i ∷ js) = cond (square cells i) (pairsFrom cells i [] js) (pairs cells js)
+
+-- the same in meaning: p is two squares of the arrow a with none between them
+pub record Parted (cells a : List ℕ) (p : Pair) : Type 0 where
+  pub before : List ℕ
+  pub behind : List ℕ
+  -- the arrow is its parts
+  pub whole : a ≡ before ++ (p .last ∷ (p .between ++ (p .cur ∷ behind)))
+  pub first : square cells (p .last) ≡ true
+  pub second : square cells (p .cur) ≡ true
+  pub none : (k : ℕ) → List·Memᴰ k (p .between) → square cells k ≡ false
 
 -- the cells of all arrows stand in the first places of an array
 pub record Line (line : List ℕ) (total : ℕ) : Type 0 where

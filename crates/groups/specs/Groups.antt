@@ -1,8 +1,9 @@
 -- The groups of a test: the largest side-connected sets of cells that pass it. A block is a group of squares, a potential group
 -- one of cells that aren't empty. A group is named by its first cell in row order and lists its cells by index.
 -- Assumes nothing.
-use mathlib.Core.Bool.{So, Bool, cond, _&&_}
 use Prim.Native.Nat.{ℕ, min, max}
+use mathlib.Core.Path.{_≡_}
+use mathlib.Core.Bool.{So, Bool, cond, _&&_}
 use mathlib.Core.List.{List, [], _∷_, map}
 use lib.Dec.{eqb}
 use lib.ListN.{getD}
@@ -35,6 +36,11 @@ edges g p = flatMap (λ i. map (λ j. (i, j)) (filter (λ j. p i && p j) (neighb
 -- the name of each cell's group: at first each cell is named by itself, and then each pair of neighbours is joined
 unfoldable pub labels : Grid → (ℕ → Bool) → List ℕ
 labels g p = joinAll (edges g p) (cellsOf g)
+
+-- the same in meaning: two cells that pass have one name exactly when they are in one group
+pub record Labels (g : Grid) (p : ℕ → Bool) : Type 0 where
+  pub same : (i j : ℕ) → So (p i) → So (p j) → getD (labels g p) i 0 ≡ getD (labels g p) j 0 → Joined g p i j
+  pub linked : (i j : ℕ) → Joined g p i j → getD (labels g p) i 0 ≡ getD (labels g p) j 0
 
 -- the cells of the group named f, rising
 unfoldable pub group : Grid → (ℕ → Bool) → List ℕ → ℕ → List ℕ

@@ -9,14 +9,8 @@ use lib.Seq.{drop-at}
 use Rattle.grid.specs.Cells.{word}
 use Rattle.record.specs.Record.{Outcome, ok, refused}
 use Rattle.literals.specs.Literals.{Found}
-use Rattle.host.specs.Host.{bytesOf, outputAfter}
+use Rattle.host.specs.Host.{bytesOf, outputAfter, literalCount}
 use Rattle.host.proofs.OutputLaws.{bytes-length}
-
--- how many literals an outcome has
-abbrev pub literalCount : Outcome Found → ℕ
-literalCount (refused k) = 0
-literalCount (ok none) = 0
-literalCount (ok (some r)) = length r
 
 pub behind-unchanged : (o : Outcome Found) (output : List ℕ) → drop (2 * literalCount o) (outputAfter o output) ≡ drop (2 * literalCount o) output
 unfolding outputAfter

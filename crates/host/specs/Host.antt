@@ -52,6 +52,12 @@ returned (refused k) = negℤ (pos k)
 returned (ok none) = pos 0
 returned (ok (some r)) = pos (length r)
 
+-- the literal count of an outcome, 0 for none and for a refusal
+abbrev pub literalCount : Outcome Found → ℕ
+literalCount (refused k) = 0
+literalCount (ok none) = 0
+literalCount (ok (some r)) = length r
+
 -- the output afterwards: the literals in its first bytes; those behind the last, and all of them after a refusal or none, are unchanged
 unfoldable pub outputAfter : Outcome Found → List ℕ → List ℕ
 outputAfter (refused k) output = output

@@ -13,17 +13,15 @@ use borrow.Author.Tests.{eqb-true, eq-eqb}
 use Rattle.grid.proofs.ListLaws.{once-one, once-nil, filter-mem, mem-filter, mem-upto, dec-so, so-false, and-true, true-and, any-mem, mem-any, once-mem, mem-once}
 use Rattle.grid.proofs.GridLaws.{dec-adjacent, adj-sym}
 use Rattle.grid.specs.Lists.{filter}
-use Rattle.grid.specs.Grid.{Grid, size, cellsOf, neighbours, Adjacent}
+use Rattle.grid.specs.Grid.{Grid, size, cellsOf, neighbours}
 use Rattle.grid.proofs.LinkLaws.{linked-end, linked-start, linked-trans}
-use Rattle.record.specs.Record.{Puzzle}
-use Rattle.record.proofs.LineLaws.{ValidArrows}
-use Rattle.grid.proofs.CellLaws.{un-not-em, sq-not-un, sq-not-em, un-below, sq-below, cell-cases, ValidCells}
+use Rattle.grid.proofs.CellLaws.{un-not-em, sq-not-un, sq-not-em, un-below, sq-below, cell-cases}
 use Rattle.grid.specs.Cells.{empty, square, undecided}
-use Rattle.groups.specs.Groups.{labels}
+use Rattle.groups.specs.Groups.{labels, Labels}
 use Rattle.groups.specs.Arrows.{onArrow}
-use Rattle.groups.proofs.GroupLaws.{Labels, labelled}
+use Rattle.groups.proofs.GroupLaws.{labelled}
 use Rattle.kinds.specs.Kinds.{Kind, vacant, floating, inBlock, isFloating, isIn, isNeighbour, kindTouching, arrowBlock, blocksTouched, kindAt, kindsOf, has}
-use Rattle.kinds.specs.Meaning.{PartialBoard, Block, InArrow, Touch, Neighbour, Floating, Reach}
+use Rattle.kinds.specs.Meaning.{Setting, partialOf, Block, InArrow, Touch, Neighbour, Floating, Reach}
 use Rattle.kinds.proofs.Confine.{Decide}
 use Rattle.kinds.proofs.Decide.{all-decided, reach-decided}
 use Rattle.kinds.proofs.BlockArrays.{kind-get, kind-past}
@@ -70,13 +68,6 @@ vacant-of false false a m [] h = absurd (let z : _≡_ {A = ℕ} 0 1 = cc in ome
 vacant-of false false a m (x ∷ []) h = absurd (let z : _≡_ {A = ℕ} 0 1 = cc in omega arith)
 vacant-of false false a m (x ∷ y ∷ l) h = absurd (let z : _≡_ {A = ℕ} 0 1 = cc in omega arith)
 
--- a puzzle with the arrows of a record, and the cells of a board
-pub record Setting : Type 0 where
-  pub puzzle : Puzzle
-  pub lines : ValidArrows (puzzle .grid) (puzzle .arrows)
-  pub cells : List ℕ
-  pub valid : ValidCells (puzzle .grid) cells
-
 module _ (set : Setting) where
   open Setting set using (puzzle, cells, valid)
 
@@ -85,18 +76,6 @@ module _ (set : Setting) where
 
   abbrev arrows : List (List ℕ)
   arrows = puzzle .arrows
-
-  -- the board as Confine takes it
-  abbrev pub boardOf : PartialBoard
-  boardOf = record {
-    Adj = Adjacent grid;
-    adj-sym = adj-sym grid;
-    Arrow = λ c. So (onArrow arrows c);
-    Empty = λ c. So (empty cells c);
-    Square = λ c. So (square cells c);
-    Undecided = λ c. So (undecided cells c);
-    cases = λ c. cell-cases cells c (valid .three c);
-  }
 
   -- squares and undecided cells lie on the grid
   pub sq< : (c : ℕ) → So (square cells c) → c < size grid
@@ -155,12 +134,13 @@ module _ (set : Setting) where
   block-labels = labelled grid (square cells) sq<
 
   -- blocks, touching and the like are decided
-  pub decisions : Decide boardOf
-  decisions = all-decided boardOf (size grid) (dec-adjacent grid) (λ c. dec-so (onArrow arrows c)) (λ c. dec-so (square cells c)) (λ c. dec-so (undecided cells c)) sq< un<
+  pub decisions : Decide (partialOf set)
+  decisions = all-decided (partialOf set) (size grid) (dec-adjacent grid) (λ c. dec-so (onArrow arrows c)) (λ c. dec-so (square cells c)) (λ c. dec-so (undecided cells c)) sq< un< (adj-sym grid)
+      (λ c. cell-cases cells c (valid .three c))
 
   -- the reach is decided
-  pub dec-reach : (a c : ℕ) → Dec (Reach boardOf a c)
-  dec-reach = reach-decided boardOf (size grid) (dec-adjacent grid) (λ c. dec-so (onArrow arrows c)) (λ c. dec-so (square cells c)) (λ c. dec-so (undecided cells c)) sq< un<
+  pub dec-reach : (a c : ℕ) → Dec (Reach (partialOf set) a c)
+  dec-reach = reach-decided (partialOf set) (size grid) (dec-adjacent grid) (λ c. dec-so (onArrow arrows c)) (λ c. dec-so (square cells c)) (λ c. dec-so (undecided cells c)) sq< un<
 
   -- a name is an arrow block's
   arrowed-so : (f : ℕ) → So (arrowed f) → (d : ℕ) × So (square cells d) × So (onArrow arrows d) × (blockLabel d ≡ f)
@@ -176,21 +156,21 @@ module _ (set : Setting) where
   so-arrowed f d s a e = mem-any _ (cellsOf grid) (mem-upto (size grid) (sq< d s)) (true-and (true-and s (eq-eqb _ _ e)) a)
 
   -- a square's block has an arrow cell
-  pub arrowed-in : (c : ℕ) → So (square cells c) → So (arrowed (blockLabel c)) → InArrow boardOf c
+  pub arrowed-in : (c : ℕ) → So (square cells c) → So (arrowed (blockLabel c)) → InArrow (partialOf set) c
   arrowed-in c s h = let r = arrowed-so (blockLabel c) h in (r .0, r .2, block-labels .same (r .0) c (r .1) s (r .3))
 
-  pub in-arrowed : (c : ℕ) → InArrow boardOf c → So (arrowed (blockLabel c))
+  pub in-arrowed : (c : ℕ) → InArrow (partialOf set) c → So (arrowed (blockLabel c))
   in-arrowed c (d, a, l) = so-arrowed (blockLabel c) d (linked-start l) a (block-labels .linked d c l)
 
   -- what the kind of a cell of an arrow block says
-  pub kind-arrow : (i x : ℕ) → kind i ≡ inBlock x → InArrow boardOf i × (blockLabel i ≡ x)
+  pub kind-arrow : (i x : ℕ) → kind i ≡ inBlock x → InArrow (partialOf set) i × (blockLabel i ≡ x)
   unfolding kindAt isIn
   kind-arrow i x e =
       let q = in-of (empty cells i) (square cells i) (arrowed (blockLabel i)) (blockLabel i) (listed i) x (subst (λ z. So (isIn x z)) (sym e) (eq-eqb x x refl)) in
       (arrowed-in i (q .0) (q .1), q .2)
 
   -- the blocks around an undecided cell
-  pub around-so : (i f : ℕ) → i < size grid → List·Memᴰ f (around i) → (d : ℕ) × So (onArrow arrows d) × Touch boardOf d i × (blockLabel d ≡ f) × So (square cells d)
+  pub around-so : (i f : ℕ) → i < size grid → List·Memᴰ f (around i) → (d : ℕ) × So (onArrow arrows d) × Touch (partialOf set) d i × (blockLabel d ≡ f) × So (square cells d)
   around-so i f l m =
       let r = Memᴰ·of-map blockLabel _ m in
       let q = filter-mem (λ j. square cells j && arrowed (blockLabel j)) (neighbours grid i) (r .1) in
@@ -198,19 +178,19 @@ module _ (set : Setting) where
       let w = arrowed-so (blockLabel (r .0)) (q′ .1) in
       (w .0, w .2, (r .0, (l, q .0), block-labels .same (w .0) (r .0) (w .1) (q′ .0) (w .3)), w .3 ∙ r .2, w .1)
 
-  pub so-around : (i d : ℕ) → So (onArrow arrows d) → Touch boardOf d i → List·Memᴰ (blockLabel d) (around i)
+  pub so-around : (i d : ℕ) → So (onArrow arrows d) → Touch (partialOf set) d i → List·Memᴰ (blockLabel d) (around i)
   so-around i d a (y, e, l) = subst (λ x. List·Memᴰ x (around i)) (sym (block-labels .linked d y l))
       (Memᴰ·map blockLabel (mem-filter (λ j. square cells j && arrowed (blockLabel j)) (neighbours grid i) (e .1) (true-and (linked-end l) (in-arrowed y (d, a, l)))))
 
   -- the three kinds
-  pub in-blk : (a i : ℕ) → So (square cells a) → So (has (isIn (blockLabel a)) kinds i) → Block boardOf a i
+  pub in-blk : (a i : ℕ) → So (square cells a) → So (has (isIn (blockLabel a)) kinds i) → Block (partialOf set) a i
   unfolding kindAt isIn
   in-blk a i sa h =
       let r = has-so (isIn (blockLabel a)) false≢true i h in
       let q = in-of (empty cells i) (square cells i) (arrowed (blockLabel i)) (blockLabel i) (listed i) (blockLabel a) (r .1) in
       block-labels .same a i sa (q .0) (sym (q .2))
 
-  pub blk-in : (a i : ℕ) → So (onArrow arrows a) → Block boardOf a i → So (has (isIn (blockLabel a)) kinds i)
+  pub blk-in : (a i : ℕ) → So (onArrow arrows a) → Block (partialOf set) a i → So (has (isIn (blockLabel a)) kinds i)
   unfolding kindAt isIn
   blk-in a i ar l = so-has (isIn (blockLabel a)) i (sq< i (linked-end l))
       (rw (so-false (empty cells i) (sq-not-em cells i (linked-end l)), linked-end l, in-arrowed i (a, ar, l)) (eq-eqb _ _ (sym (block-labels .linked a i l))))
@@ -238,7 +218,7 @@ module _ (set : Setting) where
   un-em-false i u = so-false (empty cells i) (un-not-em cells i u)
 
   -- beside the arrow block of a only
-  pub beside-nbr : (a i : ℕ) → So (square cells a) → So (has (isNeighbour (blockLabel a)) kinds i) → Neighbour boardOf a i
+  pub beside-nbr : (a i : ℕ) → So (square cells a) → So (has (isNeighbour (blockLabel a)) kinds i) → Neighbour (partialOf set) a i
   unfolding kindAt isNeighbour
   beside-nbr a i sa h =
       let r = has-so (isNeighbour (blockLabel a)) false≢true i h in
@@ -250,10 +230,10 @@ module _ (set : Setting) where
             (sym (List·Memᴰ·eq-of-singleton (subst (λ z. List·Memᴰ (blockLabel d) z) (q .2) (mem-listed i (blockLabel d) (so-around i d ad (y, e, l))))))),
       )
     where
-      near : (d : ℕ) → Touch boardOf d i → Block boardOf a d → Touch boardOf a i
+      near : (d : ℕ) → Touch (partialOf set) d i → Block (partialOf set) a d → Touch (partialOf set) a i
       near d (y, e, l) k = (y, e, linked-trans k l)
 
-  pub nbr-beside : (a i : ℕ) → So (onArrow arrows a) → Neighbour boardOf a i → So (has (isNeighbour (blockLabel a)) kinds i)
+  pub nbr-beside : (a i : ℕ) → So (onArrow arrows a) → Neighbour (partialOf set) a i → So (has (isNeighbour (blockLabel a)) kinds i)
   unfolding kindAt isNeighbour blocksTouched kindTouching
   nbr-beside a i ar (u, t, nf) = so-has (isNeighbour (blockLabel a)) i (un< i u)
       (rw (un-em-false i u, un-sq-false i u, once-one (around i) (blockLabel a) (so-around i a ar t) all-a) (eq-eqb (blockLabel a) (blockLabel a) refl))
@@ -261,12 +241,12 @@ module _ (set : Setting) where
       all-a : (x : ℕ) → List·Memᴰ x (around i) → x ≡ blockLabel a
       all-a x m = let w = around-so i x (un< i u) m in go (w .0) (w .1) (w .2) (w .3) (decisions .blk a (w .0))
         where
-          go : (d : ℕ) → So (onArrow arrows d) → Touch boardOf d i → blockLabel d ≡ x → Dec (Block boardOf a d) → x ≡ blockLabel a
+          go : (d : ℕ) → So (onArrow arrows d) → Touch (partialOf set) d i → blockLabel d ≡ x → Dec (Block (partialOf set) a d) → x ≡ blockLabel a
           go d ad t e (yes b) = sym e ∙ sym (block-labels .linked a d b)
           go d ad t e (no b) = absurd (nf (d, ad, b, t))
 
   -- floating
-  pub floating-so : (i : ℕ) → So (has isFloating kinds i) → Floating boardOf i
+  pub floating-so : (i : ℕ) → So (has isFloating kinds i) → Floating (partialOf set) i
   unfolding kindAt isFloating
   floating-so i h = go (q .0) (q .1)
     where
@@ -276,11 +256,11 @@ module _ (set : Setting) where
       q : (empty cells i ≡ false) × ((So (square cells i) × (arrowed (blockLabel i) ≡ false)) ⊎ ((square cells i ≡ false) × (listed i ≡ [])))
       q = floating-of (empty cells i) (square cells i) (arrowed (blockLabel i)) (blockLabel i) (listed i) (r .1)
 
-      go : empty cells i ≡ false → (So (square cells i) × (arrowed (blockLabel i) ≡ false)) ⊎ ((square cells i ≡ false) × (listed i ≡ [])) → Floating boardOf i
+      go : empty cells i ≡ false → (So (square cells i) × (arrowed (blockLabel i) ≡ false)) ⊎ ((square cells i ≡ false) × (listed i ≡ [])) → Floating (partialOf set) i
       go e (inl (s, n)) = inl (s, λ w. false≢true (sym n ∙ in-arrowed i w))
       go e (inr (s, n)) = inr (undecided-so i e s, λ (d, ad, t). List·Memᴰ·not-nil (subst (λ z. List·Memᴰ (blockLabel d) z) n (mem-listed i (blockLabel d) (so-around i d ad t))))
 
-  pub so-floating : (i : ℕ) → Floating boardOf i → So (has isFloating kinds i)
+  pub so-floating : (i : ℕ) → Floating (partialOf set) i → So (has isFloating kinds i)
   unfolding kindAt isFloating blocksTouched kindTouching
   so-floating i (inl (s, n)) = so-has isFloating i (sq< i s)
       (rw (so-false (empty cells i) (sq-not-em cells i s), s, so-false (arrowed (blockLabel i)) (λ z. n (arrowed-in i s z))))
@@ -290,7 +270,7 @@ module _ (set : Setting) where
   floats< : (c : ℕ) → So (has isFloating kinds c) → c < size grid
   floats< c h = go (floating-so c h)
     where
-      go : Floating boardOf c → c < size grid
+      go : Floating (partialOf set) c → c < size grid
       go (inl s) = sq< c (s .0)
       go (inr u) = un< c (u .0)
 

@@ -8,10 +8,12 @@ use Rattle.grid.specs.Link.{Linked, here, step}
 use Rattle.grid.proofs.LinkLaws.{linked-end, linked-trans, linked-sym, linked-inside, linked-map}
 
 module _ (B : PartialBoard) where
-  open PartialBoard B using (Adj, adj-sym, Arrow, Empty, Square, Undecided, cases)
+  open PartialBoard B using (Adj, Arrow, Empty, Square, Undecided)
 
-  -- the decisions that the proof of confinement takes
+  -- what the proof of confinement takes: touching is mutual, a cell is one of three, and the rest is decided
   pub record Decide : Type 0 where
+    pub adj-sym : (i j : ℕ) → Adj i j → Adj j i
+    pub cases : (c : ℕ) → Empty c ⊎ Square c ⊎ Undecided c
     pub blk : (a c : ℕ) → Dec (Block B a c)
     pub inArrow : (c : ℕ) → Dec (InArrow B c)
     pub touch : (a c : ℕ) → Dec (Touch B a c)
@@ -42,7 +44,7 @@ module _ (B : PartialBoard) where
     reach-sq i j (inr (inr (m, f, nb, mf, l))) e s = inr (inr (m, f, nb, mf, step l e (inl (s, λ k. go k (linked-end l)))))
       where
         go : InArrow B j → Floating B i → ⊥
-        go (d, ad, k) (inl (si, h)) = h (d, ad, step k (adj-sym i j e) si)
+        go (d, ad, k) (inl (si, h)) = h (d, ad, step k (D .adj-sym i j e) si)
         go (d, ad, k) (inr (ui, h)) = h (d, ad, (j, e, k))
 
     -- so is an undecided cell that the filling makes a square of a's block
@@ -57,7 +59,7 @@ module _ (B : PartialBoard) where
             own d ad t (no h) = nf (d, ad, h, t)
 
         away : Reach B a i → ¬ Touch B a j → Floating B j → Reach B a j
-        away (inl b) nt f = absurd (nt (i, adj-sym i j e, b))
+        away (inl b) nt f = absurd (nt (i, D .adj-sym i j e, b))
         away (inr (inl m)) nt f = inr (inr (i, j, m, e, here f))
         away (inr (inr (m, g, nb, mg, k))) nt f = inr (inr (m, g, nb, mg, step k e f))
 
@@ -69,13 +71,13 @@ module _ (B : PartialBoard) where
         go (yes (d, ad, h, (y, jy, k))) =
             let all : (x : ℕ) → Block B d x → F x = λ x b. fence .far i j d x r e u ad h (y, jy, k) b in
             let dy : Linked Adj F d y = linked-map all k in
-            let ad′ : a ≡ d = one a d arrow ad (linked-trans (step (step l e fj) jy (linked-end dy)) (linked-sym adj-sym dy)) in
+            let ad′ : a ≡ d = one a d arrow ad (linked-trans (step (step l e fj) jy (linked-end dy)) (linked-sym (D .adj-sym) dy)) in
             absurd (h (subst (λ (x : ℕ). Block B a x) ad′ (here sq)))
         go (no nf) = near nf (D .touch a j)
 
     -- a's block of the filling lies in the reach
     pub confined : (c : ℕ) → Linked Adj F a c → Reach B a c
-    confined c = linked-inside (Reach B a) (inl (here sq)) (λ i j l r e fj. go i j l r e fj (cases j))
+    confined c = linked-inside (Reach B a) (inl (here sq)) (λ i j l r e fj. go i j l r e fj (D .cases j))
       where
         go : (i j : ℕ) → Linked Adj F a i → Reach B a i → Adj i j → F j → Empty j ⊎ Square j ⊎ Undecided j → Reach B a j
         go i j l r e fj (inl z) = absurd (fence .out i j r e z fj)

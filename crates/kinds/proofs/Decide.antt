@@ -1,7 +1,7 @@
 -- On a finite grid everything that Confine speaks of is decided.
 -- Assumes nothing.
 use Prim.Native.Nat.{ℕ, _<_}
-use mathlib.Core.Logic.{inl, inr}
+use mathlib.Core.Logic.{_⊎_, inl, inr}
 use native.Mathlib.Decide.{map-dec}
 use Rattle.grid.proofs.LinkLaws.{linked-end, linked-start}
 use Rattle.grid.proofs.Count.{dec-and, dec-or, dec-not, dec-some}
@@ -11,7 +11,7 @@ use Rattle.kinds.proofs.Confine.{Decide}
 
 -- every decision of a board on a finite grid
 module _ (B : PartialBoard) (n : ℕ) where
-  open PartialBoard B using (Adj, adj-sym, Arrow, Empty, Square, Undecided, cases)
+  open PartialBoard B using (Adj, Arrow, Empty, Square, Undecided)
 
   module _ (dAdj : (i j : ℕ) → Dec (Adj i j)) (dArrow : (c : ℕ) → Dec (Arrow c)) (dSq : (c : ℕ) → Dec (Square c)) (dUn : (c : ℕ) → Dec (Undecided c))
       (sq< : (c : ℕ) → Square c → c < n) (un< : (c : ℕ) → Undecided c → c < n) where
@@ -47,8 +47,8 @@ module _ (B : PartialBoard) (n : ℕ) where
     float< c (inl w) = sq< c (w .0)
     float< c (inr w) = un< c (w .0)
 
-    pub all-decided : Decide B
-    all-decided = record { blk = dBlk; inArrow = dIn; touch = dTouch; foreign = dForeign }
+    pub all-decided : ((i j : ℕ) → Adj i j → Adj j i) → ((c : ℕ) → Empty c ⊎ Square c ⊎ Undecided c) → Decide B
+    all-decided adj-sym cases = record { adj-sym = adj-sym; cases = cases; blk = dBlk; inArrow = dIn; touch = dTouch; foreign = dForeign }
 
     pub reach-decided : (a c : ℕ) → Dec (Reach B a c)
     reach-decided a c = dec-or (dBlk a c) (dec-or (dNbr a c)

@@ -20,10 +20,10 @@ use Rattle.grid.specs.Cells.{Agrees, empty, square, undecided}
 use Rattle.grid.proofs.CellLaws.{sq-not-em}
 use Rattle.groups.specs.Groups.{labels}
 use Rattle.groups.specs.Arrows.{onArrow}
-use Rattle.kinds.proofs.Bridge.{Setting, block-labels, float-labels, decisions, boardOf, sq<, un<, blockLabel, kinds, kind, in-blk, blk-in, beside-nbr, nbr-beside, floating-so, so-floating, in-arrowed}
+use Rattle.kinds.proofs.Bridge.{block-labels, float-labels, decisions, sq<, un<, blockLabel, kinds, kind, in-blk, blk-in, beside-nbr, nbr-beside, floating-so, so-floating, in-arrowed}
 use Rattle.kinds.proofs.BlockArrays.{kind-get}
 use Rattle.kinds.specs.Kinds.{Kind, vacant, inBlock, isFloating, isIn, isNeighbour, kindAt, has, View, view, viewWith, block, floatNear, inReach, reach, disturbing, fenceAt, fence}
-use Rattle.kinds.specs.Meaning.{PartialBoard, Block, InArrow, Touch, Floating, Reach}
+use Rattle.kinds.specs.Meaning.{PartialBoard, Block, InArrow, Touch, Floating, Reach, Setting, partialOf}
 use Rattle.kinds.proofs.Confine.{Fenced}
 
 module _ (set : Setting) where
@@ -37,7 +37,7 @@ module _ (set : Setting) where
 
   -- the board as Confine takes it
   abbrev B : PartialBoard
-  B = boardOf set
+  B = partialOf set
 
   -- the view of the board
   abbrev pub v : View

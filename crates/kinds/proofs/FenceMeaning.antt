@@ -20,8 +20,8 @@ use Rattle.grid.specs.Cells.{Literal, square, undecided}
 use Rattle.groups.specs.Groups.{labels}
 use Rattle.groups.specs.Arrows.{onArrow}
 use Rattle.kinds.specs.Kinds.{Kind, vacant, barrier, floating, inBlock, neighbour, isIn, has, View, view, viewWith, reach, disturbing, fenceAt, fence}
-use Rattle.kinds.specs.Meaning.{PartialBoard, InArrow, Reach, Shut, Disturbing}
-use Rattle.kinds.proofs.Bridge.{Setting, boardOf, blockLabel, kinds, kind, kind-vacant, kind-arrow, block-labels, sq<, in-blk, blk-in}
+use Rattle.kinds.specs.Meaning.{PartialBoard, InArrow, Reach, Shut, Disturbing, Setting, partialOf}
+use Rattle.kinds.proofs.Bridge.{blockLabel, kinds, kind, kind-vacant, kind-arrow, block-labels, sq<, in-blk, blk-in}
 use Rattle.kinds.proofs.BlockArrays.{kind-get}
 use Rattle.kinds.proofs.Fence.{v, in-reach, reach-in, kind-empty, kind-in}
 
@@ -85,7 +85,7 @@ module _ (set : Setting) where
 
   -- the board in terms of Meaning
   abbrev B : PartialBoard
-  B = boardOf set
+  B = partialOf set
 
   -- the name of the block of a square
   abbrev name : ℕ → ℕ

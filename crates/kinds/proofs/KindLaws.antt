@@ -12,8 +12,8 @@ use Rattle.grid.proofs.LinkLaws.{linked-start}
 use Rattle.grid.proofs.ListLaws.{dec-so, so-false, mem-member, once-mem}
 use Rattle.grid.specs.Cells.{empty, square}
 use Rattle.kinds.specs.Kinds.{vacant, barrier, floating, inBlock, kindTouching, blocksTouched, kindAt}
-use Rattle.kinds.specs.Meaning.{Barrier}
-use Rattle.kinds.proofs.Bridge.{Setting, boardOf, blockLabel, kind, arrowed, listed, around, around-so, so-around, listed-mem, mem-listed, undecided-so, un-sq-false, un-em-false, block-labels}
+use Rattle.kinds.specs.Meaning.{Barrier, Setting, partialOf}
+use Rattle.kinds.proofs.Bridge.{blockLabel, kind, arrowed, listed, around, around-so, so-around, listed-mem, mem-listed, undecided-so, un-sq-false, un-em-false, block-labels}
 
 -- `once` leaves no member twice
 once-distinct : (l : List ℕ) → Distinct (once l)
@@ -50,26 +50,26 @@ module _ (set : Setting) where
   grid = puzzle .grid
 
   -- the kind of a cell of the grid is barrier
-  barrier-so : (i : ℕ) → i < size grid → kind set i ≡ barrier → Barrier (boardOf set) i
+  barrier-so : (i : ℕ) → i < size grid → kind set i ≡ barrier → Barrier (partialOf set) i
   unfolding kindAt blocksTouched
   barrier-so i l h = go (q .2 .0) (q .2 .1) (q .2 .2) (q .2 .3)
     where
       q : (empty cells i ≡ false) × (square cells i ≡ false) × ((x y : ℕ) × (r : List ℕ) × (listed set i ≡ x ∷ y ∷ r))
       q = barrier-of (empty cells i) (square cells i) (arrowed set (blockLabel set i)) (blockLabel set i) (listed set i) h
 
-      go : (x y : ℕ) (r : List ℕ) → listed set i ≡ x ∷ y ∷ r → Barrier (boardOf set) i
+      go : (x y : ℕ) (r : List ℕ) → listed set i ≡ x ∷ y ∷ r → Barrier (partialOf set) i
       go x y r e =
           let apart : Distinct (x ∷ y ∷ r) = subst Distinct e (once-distinct (around set i)) in
           let d = around-so set i x l (listed-mem set i x (subst (List·Memᴰ x) (sym e) (List·Memᴰ·head refl))) in
           let f = around-so set i y l (listed-mem set i y (subst (List·Memᴰ y) (sym e) (List·Memᴰ·tail (List·Memᴰ·head refl)))) in
           (undecided-so set i (q .0) (q .1), (d .0, f .0, d .1, f .1, d .2, f .2, λ b. apart .0 (List·Memᴰ·head (sym (d .3) ∙ block-labels set .linked (d .0) (f .0) b ∙ f .3))))
 
-  so-barrier : (i : ℕ) → Barrier (boardOf set) i → kind set i ≡ barrier
+  so-barrier : (i : ℕ) → Barrier (partialOf set) i → kind set i ≡ barrier
   unfolding kindAt
   so-barrier i (u, (d, e, ad, ae, td, te, n)) = rw (un-em-false set i u, un-sq-false set i u)
       (two-barrier (listed set i) (blockLabel set d) (blockLabel set e) (mem-listed set i _ (so-around set i d ad td)) (mem-listed set i _ (so-around set i e ae te))
       (λ z. n (block-labels set .same d e (linked-start (td .2)) (linked-start (te .2)) z)))
 
   -- a barrier is an undecided cell that touches two arrow blocks or more
-  pub kind-barrier : (i : ℕ) → i < size grid → (kind set i ≡ barrier) ↔ Barrier (boardOf set) i
+  pub kind-barrier : (i : ℕ) → i < size grid → (kind set i ≡ barrier) ↔ Barrier (partialOf set) i
   kind-barrier i l = (barrier-so i l, so-barrier i)

@@ -2,17 +2,39 @@
 -- Assumes nothing.
 use Prim.Native.Nat.{ℕ}
 use mathlib.Core.Logic.{_⊎_}
+use mathlib.Core.Bool.{So}
+use mathlib.Core.List.{List}
 use Rattle.grid.specs.Link.{Linked}
+use Rattle.grid.specs.Grid.{Adjacent}
+use Rattle.grid.specs.Cells.{ValidCells, empty, square, undecided}
+use Rattle.record.specs.Record.{Puzzle}
+use Rattle.record.specs.Valid.{ValidArrows}
+use Rattle.groups.specs.Arrows.{onArrow}
 
 -- a partial board: which cells share a side, which are on an arrow, and what each cell is
 pub record PartialBoard : Type 1 where
   pub Adj : ℕ → ℕ → Type 0
-  pub adj-sym : (i j : ℕ) → Adj i j → Adj j i
   pub Arrow : ℕ → Type 0
   pub Empty : ℕ → Type 0
   pub Square : ℕ → Type 0
   pub Undecided : ℕ → Type 0
-  pub cases : (c : ℕ) → Empty c ⊎ Square c ⊎ Undecided c
+
+-- a puzzle with the arrows of a record, and the cells of a board
+pub record Setting : Type 0 where
+  pub puzzle : Puzzle
+  pub lines : ValidArrows (puzzle .grid) (puzzle .arrows)
+  pub cells : List ℕ
+  pub valid : ValidCells (puzzle .grid) cells
+
+-- the partial board of these
+abbrev pub partialOf : Setting → PartialBoard
+partialOf set = record {
+  Adj = Adjacent (set .puzzle .grid);
+  Arrow = λ c. So (onArrow (set .puzzle .arrows) c);
+  Empty = λ c. So (empty (set .cells) c);
+  Square = λ c. So (square (set .cells) c);
+  Undecided = λ c. So (undecided (set .cells) c);
+}
 
 module _ (B : PartialBoard) where
   open PartialBoard B using (Adj, Arrow, Empty, Square, Undecided)

@@ -8,8 +8,8 @@ use Rattle.grid.specs.Grid.{Grid, size}
 use Rattle.grid.specs.Count.{count}
 use Rattle.grid.proofs.Count.{bump-yes, bump-no}
 use Rattle.groups.proofs.ArrowLaws.{NextAt}
-use Rattle.groups.specs.Rules.{Shift, Grown}
-use Rattle.groups.proofs.Shift.{Contains, Below, contains-id, then, contains-trans, grown-size}
+use Rattle.groups.specs.Rules.{Shift, Grown, Contains, Below}
+use Rattle.groups.proofs.Shift.{contains-id, then, contains-trans, grown-size}
 
 -- how many squares stand at the d positions behind i
 abbrev pub passed : {F : ℕ → Type 0} → ((c : ℕ) → Dec (F c)) → (ℕ → ℕ) → ℕ → ℕ → ℕ

@@ -19,7 +19,7 @@ use Rattle.board.specs.Board.{Full, SameCells, SameDecisions, Call, cellsAfter,
 use Rattle.grid.proofs.CellLaws.{un-below}
 use Rattle.board.proofs.Standing.{Standing, calls-standing, index, standing-distinct, same-board, cells-equal, cell-stands, cells-valid}
 use Rattle.groups.specs.Rules.{BlockRules}
-use Rattle.kinds.proofs.Bridge.{Setting}
+use Rattle.kinds.specs.Meaning.{Setting}
 use Rattle.literals.specs.Literals.{Found}
 use Rattle.reasons.specs.Reasons.{findReason, findOn}
 use Rattle.reasons.proofs.Stands.{find-stands}

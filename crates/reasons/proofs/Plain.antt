@@ -15,8 +15,8 @@ use Rattle.grid.proofs.LinkLaws.{linked-start, linked-trans, linked-sym}
 use Rattle.record.specs.Record.{Puzzle}
 use Rattle.grid.specs.Cells.{square}
 use Rattle.grid.proofs.CellLaws.{sq-below}
-use Rattle.groups.specs.Arrows.{onArrow, Pair}
-use Rattle.groups.proofs.ArrowLaws.{NextAt, at-last, at-cur, pos-below, position, posLast, posCur, Parted, mid, tip, whole, mid-clear}
+use Rattle.groups.specs.Arrows.{onArrow, Pair, Parted}
+use Rattle.groups.proofs.ArrowLaws.{NextAt, at-last, at-cur, pos-below, position, posLast, posCur, mid, tip, whole, mid-clear}
 use Rattle.groups.specs.Rules.{Next, BlockRules, Grown, SameBlock}
 use Rattle.kinds.specs.Kinds.{has}
 use Rattle.reasons.proofs.Refute.{Rules}

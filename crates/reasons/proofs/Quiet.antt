@@ -11,14 +11,14 @@ use Rattle.grid.proofs.LinkLaws.{linked-end, linked-map}
 use Rattle.grid.specs.Count.{count}
 use Rattle.grid.proofs.Count.{dec-and, dec-some, count-mono}
 use Rattle.groups.proofs.ArrowLaws.{NextAt}
-use Rattle.groups.specs.Rules.{Shift, Grown}
-use Rattle.groups.proofs.Shift.{Contains, Below, size-grown}
+use Rattle.groups.specs.Rules.{Shift, Grown, Contains, Below}
+use Rattle.groups.proofs.Shift.{size-grown}
 use Rattle.kinds.specs.Meaning.{PartialBoard, Block, Reach}
 use Rattle.kinds.proofs.Confine.{Decide}
 use Rattle.reasons.proofs.Refute.{Arrows, Rules}
 
 module _ (B : PartialBoard) (G : Grid) (A : Arrows B) (D : Decide B) (dR : (a c : ℕ) → Dec (Reach B a c)) where
-  open PartialBoard B using (Adj, adj-sym, Arrow, Empty, Square, Undecided, cases)
+  open PartialBoard B using (Adj, Arrow, Empty, Square, Undecided)
   open Arrows A using (Which, len, at, on, side, once)
 
   -- no reason applies
@@ -56,7 +56,7 @@ module _ (B : PartialBoard) (G : Grid) (A : Arrows B) (D : Decide B) (dR : (a c 
             go : Dec ((d : ℕ) × (d < (size G)) × (Arrow d × Block B c d)) → (d : ℕ) × Arrow d × Block B c d
             go (yes (d, _, (a, l))) = (d, a, l)
             go (no h) = absurd (q .q1 c s (λ d l ad.
-                let b : Block B c d = linked-map (λ x k. solid x (linked-end k) (cases x)) l in h (d, low c d b, (ad, b))))
+                let b : Block B c d = linked-map (λ x k. solid x (linked-end k) (D .cases x)) l in h (d, low c d b, (ad, b))))
 
         same : (d e : ℕ) → Arrow d → Arrow e → Block B d e → Dec (d ≡ e) → d ≡ e
         same d e ad ae l (yes z) = z

@@ -12,8 +12,7 @@ use Rattle.grid.proofs.LinkLaws.{linked-end, linked-map}
 use Rattle.grid.specs.Count.{count}
 use Rattle.grid.proofs.Count.{dec-and, count-inj, count-mono}
 use Rattle.groups.proofs.ArrowLaws.{NextAt}
-use Rattle.groups.specs.Rules.{Shift, Grown}
-use Rattle.groups.proofs.Shift.{Contains, Below}
+use Rattle.groups.specs.Rules.{Shift, Grown, Contains, Below}
 use Rattle.kinds.specs.Meaning.{PartialBoard, Block, Reach}
 use Rattle.kinds.proofs.Confine.{Decide, Fenced, confined}
 use Rattle.reasons.proofs.Along.{along, Follows, passed}
@@ -42,7 +41,7 @@ pub record Rules (Adj : ℕ → ℕ → Type 0) (Arrow : ℕ → Type 0) (G : Gr
   pub grow : (t : Which) (i j : ℕ) → j < len t → NextAt F (at t) i j → Grown G (Linked Adj F (at t i)) (Linked Adj F (at t j))
 
 module _ (B : PartialBoard) (G : Grid) (A : Arrows B) where
-  open PartialBoard B using (Adj, adj-sym, Arrow, Empty, Square, Undecided, cases)
+  open PartialBoard B using (Adj, Arrow, Empty, Square, Undecided)
   open Arrows A using (Which, len, at, on, side, once)
 
   module _ (D : Decide B) (dR : (a c : ℕ) → Dec (Reach B a c)) (fill : Filling B G) (rules : Rules Adj Arrow G Which len at (fill .F)) (t : Which) where
@@ -87,7 +86,7 @@ module _ (B : PartialBoard) (G : Grid) (A : Arrows B) where
           (g : ℕ) (most : (S : ℕ → Type 0) (d : (k : ℕ) → Dec (S k)) → Choice (λ k. Undecided (at t (i + 2 + k))) (j - (i + 3)) S → count d (j - (i + 3)) ≤ g) where
         pub few : passed (fill .dec) (at t) i (j - suc i) ≤ g
         few = le-trans (count-inj (λ k p. k ≡ suc p) (λ k. fill .dec (at t (suc (i + k)))) (j - suc i) w (λ k m p _ _ x y. x ∙ sym y) S dS into)
-            (most S dS (record { low = λ k s. s .0; good = λ k s. good k s (cases _); apart = λ k s r. split (i + 2 + k) (omega (arith, s .0)) (s .1) (subst (λ x. F (at t x)) (omega arith) (r .1)) }))
+            (most S dS (record { low = λ k s. s .0; good = λ k s. good k s (D .cases _); apart = λ k s r. split (i + 2 + k) (omega (arith, s .0)) (s .1) (subst (λ x. F (at t x)) (omega arith) (r .1)) }))
           where
             w : ℕ
             w = j - (i + 3)

@@ -18,14 +18,13 @@ use Rattle.grid.specs.Count.{count}
 use Rattle.grid.specs.Cells.{Literal, empty, square, undecided, potential, Agrees}
 use Rattle.grid.proofs.CellLaws.{sq-not-em}
 use Rattle.groups.proofs.GroupLaws.{mem-group, own-names, group-linked, linked-group}
-use Rattle.groups.proofs.Shift.{Contains}
 use Rattle.groups.specs.Groups.{labels, group, names}
 use Rattle.groups.specs.Arrows.{onArrow, pairs, Pair}
-use Rattle.groups.specs.Rules.{Shift, BlockRules}
+use Rattle.groups.specs.Rules.{Shift, BlockRules, Contains}
 use Rattle.groups.proofs.ArrowLaws.{NextAt, position-pair}
-use Rattle.kinds.proofs.Bridge.{Setting, decisions, dec-reach, boardOf, sq<, blockLabel}
+use Rattle.kinds.proofs.Bridge.{decisions, dec-reach, sq<, blockLabel}
 use Rattle.kinds.specs.Kinds.{View, view, viewWith, block, reach}
-use Rattle.kinds.specs.Meaning.{PartialBoard, Block, Reach}
+use Rattle.kinds.specs.Meaning.{PartialBoard, Block, Reach, Setting, partialOf}
 use Rattle.kinds.proofs.Fence.{length-reach, length-block}
 use Rattle.reasons.proofs.Sound34.{four-none, tooMany, three-none, tooFew, Spot, reason34-sound, A}
 use Rattle.reasons.proofs.Plain.{on-line, lineAt, lineLen, Which, rules-plain, plain-rules, RulesAt}
@@ -51,7 +50,7 @@ module _ (set : Setting) where
 
   -- the board, as Confine takes it
   abbrev B : PartialBoard
-  B = boardOf set
+  B = partialOf set
 
   -- the name of the block of a square
   abbrev label : ℕ → ℕ

@@ -16,13 +16,13 @@ use Rattle.grid.specs.Grid.{Grid, size, cellsOf, touches, Adjacent}
 use Rattle.grid.specs.Link.{Linked}
 use Rattle.grid.proofs.LinkLaws.{linked-end, linked-map}
 use Rattle.grid.specs.Cells.{Literal, empty, square, undecided, potential, Agrees}
-use Rattle.grid.proofs.CellLaws.{sq-not-em}
-use Rattle.groups.proofs.GroupLaws.{mem-group, group-mem, Labels, labelled}
-use Rattle.groups.specs.Groups.{labels, group, names}
+use Rattle.grid.proofs.CellLaws.{sq-not-em, cell-cases}
+use Rattle.groups.proofs.GroupLaws.{mem-group, group-mem, labelled}
+use Rattle.groups.specs.Groups.{labels, group, names, Labels}
 use Rattle.groups.specs.Arrows.{onArrow}
-use Rattle.kinds.proofs.Bridge.{Setting, boardOf, sq<, un<}
+use Rattle.kinds.proofs.Bridge.{sq<, un<}
 use Rattle.kinds.specs.Kinds.{has}
-use Rattle.kinds.specs.Meaning.{PartialBoard}
+use Rattle.kinds.specs.Meaning.{PartialBoard, Setting, partialOf}
 use Rattle.kinds.proofs.Confine.{lonely}
 use Rattle.reasons.proofs.First.{reason-if-some, first-some, agrees-left, agrees-right, agrees-each}
 use Rattle.reasons.proofs.Plain.{RulesAt}
@@ -40,7 +40,7 @@ module _ (set : Setting) where
 
   -- the board, as Confine takes it
   abbrev B : PartialBoard
-  B = boardOf set
+  B = partialOf set
 
   pub filled-so : (c : ℕ) → ¬ So (empty cells c) → So (potential cells c)
   unfolding potential
@@ -51,7 +51,7 @@ module _ (set : Setting) where
   so-filled c h = not-so {a = empty cells c} h
 
   pub potential< : (c : ℕ) → So (potential cells c) → c < size grid
-  potential< c h = go (B .cases c)
+  potential< c h = go (cell-cases cells c (valid .three c))
     where
       go : So (empty cells c) ⊎ So (square cells c) ⊎ So (undecided cells c) → c < size grid
       go (inl z) = absurd (so-filled c h z)

@@ -16,8 +16,8 @@ use Rattle.grid.specs.Cells.{Literal, square, Agrees}
 use Rattle.groups.proofs.GroupLaws.{group-mem, group-distinct}
 use Rattle.groups.specs.Groups.{labels, group, names}
 use Rattle.groups.specs.Arrows.{onArrow}
-use Rattle.kinds.proofs.Bridge.{Setting, boardOf, sq<, block-labels}
-use Rattle.kinds.specs.Meaning.{PartialBoard, Block}
+use Rattle.kinds.proofs.Bridge.{sq<, block-labels}
+use Rattle.kinds.specs.Meaning.{PartialBoard, Block, Setting, partialOf}
 use Rattle.reasons.proofs.First.{agrees-each, first-some}
 use Rattle.reasons.proofs.Plain.{RulesAt}
 use Rattle.literals.specs.Literals.{each}
@@ -35,7 +35,7 @@ module _ (set : Setting) where
 
   -- the board, as Confine takes it
   abbrev B : PartialBoard
-  B = boardOf set
+  B = partialOf set
 
   -- the block named f
   abbrev pub blockOf : ℕ → List ℕ

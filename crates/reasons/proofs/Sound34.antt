@@ -18,13 +18,13 @@ use Rattle.grid.specs.Cells.{Literal, empty, square, undecided, Agrees}
 use Rattle.grid.proofs.CellLaws.{sq-below}
 use Rattle.groups.proofs.GroupLaws.{label-own}
 use Rattle.groups.proofs.RulesLaws.{dec-block}
-use Rattle.groups.proofs.Shift.{taking, contains-map, fits-contains, contains-fits, Contains}
+use Rattle.groups.proofs.Shift.{contains-map, fits-contains, contains-fits}
 use Rattle.groups.specs.Arrows.{onArrow, pairs, Pair}
-use Rattle.groups.specs.Rules.{fits, Shift}
+use Rattle.groups.specs.Rules.{fits, Shift, taking, Contains}
 use Rattle.groups.proofs.ArrowLaws.{NextAt, pairs-parted, at-last, at-cur, pos-below, position, length-gap, at-gap, posLast, posCur}
-use Rattle.kinds.proofs.Bridge.{Setting, decisions, dec-reach, boardOf, sq<, blockLabel}
+use Rattle.kinds.proofs.Bridge.{decisions, dec-reach, sq<, blockLabel}
 use Rattle.kinds.specs.Kinds.{View, view, viewWith, block, reach, fence}
-use Rattle.kinds.specs.Meaning.{PartialBoard, Block, Reach}
+use Rattle.kinds.specs.Meaning.{PartialBoard, Block, Reach, Setting, partialOf}
 use Rattle.kinds.proofs.Confine.{Fenced}
 use Rattle.kinds.proofs.Fence.{reach-in, in-reach, block-in, in-block, length-reach, length-block, fenced}
 use Rattle.reasons.proofs.First.{first-some, agrees-left, agrees-right, agrees-each, or-else-some, or-else-none, reason-if-none, reason-if-some}
@@ -46,7 +46,7 @@ module _ (set : Setting) where
 
   -- the board, as Confine takes it
   abbrev B : PartialBoard
-  B = boardOf set
+  B = partialOf set
 
   -- the arrows as Refute takes them
   abbrev pub A : Arrows B

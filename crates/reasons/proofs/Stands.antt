@@ -17,7 +17,8 @@ use Rattle.grid.proofs.LinkLaws.{linked-end, linked-start}
 use Rattle.grid.specs.Cells.{Literal, empty, square, potential}
 use Rattle.groups.specs.Groups.{labels, group, names}
 use Rattle.groups.specs.Arrows.{onArrow, Pair}
-use Rattle.kinds.proofs.Bridge.{Setting, sq<, blockLabel, kinds, kind, kind-vacant, kind-in-block}
+use Rattle.kinds.proofs.Bridge.{sq<, blockLabel, kinds, kind, kind-vacant, kind-in-block}
+use Rattle.kinds.specs.Meaning.{Setting}
 use Rattle.kinds.proofs.BlockArrays.{kind-get}
 use Rattle.kinds.specs.Kinds.{View, view, viewWith, block, reach, fence, fenceAt, disturbing, Kind, vacant, barrier, floating, inBlock, neighbour}
 use Rattle.kinds.proofs.Fence.{block-in}

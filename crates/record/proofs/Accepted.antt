@@ -18,11 +18,11 @@ use Rattle.grid.specs.Grid.{size}
 use Rattle.fields.specs.Fields.{ok, bit, number, filler}
 use Rattle.record.specs.Record.{Puzzle, readRecord, Bytes}
 use Rattle.record.specs.Write.{valueOf, pack, recordBits, writeRecord}
-use Rattle.record.specs.Valid.{Valid}
+use Rattle.record.specs.Valid.{Valid, ValidArrows}
 use Rattle.record.specs.Problem.{arrowCells}
 use Rattle.record.proofs.RecordLaws.{record-valid}
 use Rattle.record.proofs.FreshLaws.{arrows-fresh, arrows-length, fresh-distinct}
-use Rattle.record.proofs.LineLaws.{ValidArrows, valid-arrows}
+use Rattle.record.proofs.LineLaws.{valid-arrows}
 use Rattle.record.proofs.PackLaws.{pack-byte, length-pack}
 use Rattle.record.proofs.WriteLaws.{few-arrows, round-trip, written-bytes}
 use Rattle.fields.proofs.FieldLaws.{window, window-number}

@@ -8,14 +8,8 @@ use lib.ListN.{length, getD}
 use Rattle.grid.specs.Grid.{Grid, size, Adjacent}
 use Rattle.grid.proofs.GridLaws.{beside, on-grid}
 use Rattle.record.specs.Record.{Puzzle}
-use Rattle.record.specs.Valid.{Walk, end, on, Fresh, Arrow, arrow, Arrows, Valid}
+use Rattle.record.specs.Valid.{Walk, end, on, Fresh, Arrow, arrow, Arrows, Valid, ValidArrows}
 use Rattle.record.proofs.FreshLaws.{arrows-size}
-
--- what a valid record says of its arrows
-pub record ValidArrows (g : Grid) (arrows : List (List ℕ)) : Type 0 where
-  pub on : (l : List ℕ) → List·Memᴰ l arrows → (x : ℕ) → List·Memᴰ x l → x < size g
-  pub side : (l : List ℕ) → List·Memᴰ l arrows → (k : ℕ) → suc k < length l → Adjacent g (getD l k 0) (getD l (suc k) 0)
-  pub once : (l : List ℕ) → List·Memᴰ l arrows → (i j : ℕ) → i < length l → j < length l → getD l i 0 ≡ getD l j 0 → i ≡ j
 
 walk-side : (g : Grid) {i : ℕ} {js : List ℕ} → i < size g → Walk g i js → (k : ℕ) → suc k < length (i ∷ js) → Adjacent g (getD (i ∷ js) k 0) (getD (i ∷ js) (suc k) 0)
 walk-side g l end k h = absurd (omega arith)

@@ -1,10 +1,10 @@
 -- What an accepted record says: sizes, codes, and arrows that go from neighbour to neighbour and use no cell twice.
 -- Assumes nothing.
-use Prim.Native.Nat.{ℕ, _≤_, _<_}
+use Prim.Native.Nat.{ℕ, suc, _≤_, _<_}
 use mathlib.Core.Path.{_≡_}
 use mathlib.Core.List.{List, [], _∷_, _++_, List·Memᴰ}
-use lib.ListN.{length}
-use Rattle.grid.specs.Grid.{Grid, size, neighbours}
+use lib.ListN.{length, getD}
+use Rattle.grid.specs.Grid.{Grid, size, neighbours, Adjacent}
 use Rattle.record.specs.Record.{Puzzle}
 
 -- js go from neighbour to neighbour, i first
@@ -33,3 +33,9 @@ pub record Valid (p : Puzzle) : Type 0 where
   pub total : length (p .given) ≡ size (p .grid)
   pub codes : (c : ℕ) → List·Memᴰ c (p .given) → c < 3
   pub arrows : Arrows (p .grid) [] (p .arrows)
+
+-- what it says of its arrows, by position: on the grid, neighbours share a side, no cell twice on an arrow
+pub record ValidArrows (g : Grid) (arrows : List (List ℕ)) : Type 0 where
+  pub on : (l : List ℕ) → List·Memᴰ l arrows → (x : ℕ) → List·Memᴰ x l → x < size g
+  pub side : (l : List ℕ) → List·Memᴰ l arrows → (k : ℕ) → suc k < length l → Adjacent g (getD l k 0) (getD l (suc k) 0)
+  pub once : (l : List ℕ) → List·Memᴰ l arrows → (i j : ℕ) → i < length l → j < length l → getD l i 0 ≡ getD l j 0 → i ≡ j

@@ -14,7 +14,7 @@ use lib.ListN.{length, getD, set, drop, length-append, length-map, length-drop}
 use lib.Seq.{drop-cons, set-at, take-at, getD-take}
 use Rattle.grid.specs.Lists.{all, upto, range, member}
 use Rattle.grid.specs.Grid.{Grid, size, row, col, cellsOf}
-use Rattle.grid.specs.Side.{sized, movedOf, placed, shiftedOf}
+use Rattle.grid.specs.Side.{sized, movedOf, placed, shiftedOf, landing}
 use Rattle.grid.specs.declared.Step.{Step}
 use Rattle.grid.specs.declared.Step.the-variants.{To, Outside}
 use Rattle.grid.specs.declared.Side.{Side}
@@ -22,7 +22,7 @@ use Rattle.grid.specs.declared.Side.the-variants.{At, Off}
 use Rattle.grid.proofs.ListLaws.{so-false, all-mem, mem-all, mem-at, at-mem, upto-mem, mem-upto, filter-length, filter-mem, mem-filter, length-range, mem-member, member-mem, map-at}
 use Rattle.grid.proofs.GridLaws.{width-pos, in-cells}
 use Rattle.grid.proofs.SideLaws.{area, moved-to}
-use Rattle.grid.proofs.ShiftLaws.{landing, landing-at, landing-any, sideIn}
+use Rattle.grid.proofs.ShiftLaws.{landing-at, landing-any, sideIn}
 use Rattle.grid.proofs.AppendLaws.{same-test}
 use Rattle.groups.specs.Rules.{fits}
 use Rattle.kinds.specs.Kinds.{View, inReach, reach}
