@@ -12,7 +12,7 @@ use mathlib.Core.List.{List, _++_, List·Memᴰ, List·Memᴰ·head, List·Mem�
 use lib.Dec.{leb, ltb}
 use borrow.Author.Tests.{leb-true, ltb-true, ltb-false, le-leb, lt-ltb}
 use Rattle.grid.specs.Lists.{Distinct, upto, member}
-use Rattle.grid.proofs.ListLaws.{length-range, member-mem, mem-member, mem-any, mem-upto, dec-so, split}
+use Rattle.grid.proofs.ListLaws.{length-range, member-mem, mem-member, any-mem, mem-any, mem-upto, dec-so, split}
 use Rattle.grid.specs.Grid.{cellsOf, touches, Adjacent, Grid, size, row, col, only, up, down, left, right, neighbours, Beside, above, below, before, behind}
 use Rattle.grid.proofs.Count.{dec-and}
 
@@ -152,10 +152,14 @@ module _ (g : Grid) (i : ℕ) (l : i < size g) where
 pub dec-adjacent : (g : Grid) (i j : ℕ) → Dec (Adjacent g i j)
 dec-adjacent g i j = dec-and (decLt i (size g)) (map-dec (member-mem j (neighbours g i)) (mem-member j (neighbours g i)) (dec-so (member j (neighbours g i))))
 
--- a neighbour of a cell of the set touches the set
+-- a cell touches the set exactly when it has a neighbour in it
 pub adjacent-touches : (g : Grid) (s : List ℕ) (i j : ℕ) → Adjacent g i j → List·Memᴰ j s → So (touches g s i)
 unfolding touches
 adjacent-touches g s i j e m = mem-any (λ k. member k s) (neighbours g i) (e .1) (mem-member j s m)
+
+pub touches-adjacent : (g : Grid) (s : List ℕ) (i : ℕ) → i < size g → So (touches g s i) → (j : ℕ) × Adjacent g i j × List·Memᴰ j s
+unfolding touches
+touches-adjacent g s i l h = let r = any-mem (λ k. member k s) (neighbours g i) h in (r .0, (l, r .1), member-mem (r .0) s (r .2))
 
 -- every cell of the grid is listed
 pub in-cells : (g : Grid) (i : ℕ) → i < size g → List·Memᴰ i (cellsOf g)

@@ -24,7 +24,7 @@ use Rattle.groups.proofs.Shift.{contains-map, contains-fits, fits-conta
 use Rattle.groups.specs.Groups.{labels, group, names}
 use Rattle.groups.specs.Arrows.{onArrow, Pair, pairs}
 use Rattle.groups.specs.Rules.{fits, SameBlock, OneArrowCell, Grown, Next, BlockRules, oneTest, grownTest, rulesTest, Below, taking}
-use Rattle.groups.proofs.ArrowLaws.{pairs-parted, parted-pairs}
+use Rattle.groups.proofs.ArrowLaws.{arrow-so, so-arrow, pairs-parted, parted-pairs}
 
 module _ (p : Puzzle) (cells : List ℕ) (n : length cells ≡ size (p .grid)) where
   abbrev g : Grid
@@ -72,16 +72,16 @@ module _ (p : Puzzle) (cells : List ℕ) (n : length cells ≡ size (p .grid)) w
       record {
         cell = s .0;
         within = in-block i (s .0) h (m .0);
-        arrow = m .1;
-        unique = λ j r k. of-single (s .1) (mem-filter (onArrow arrows) (blockOf i) (block-in i j h r) k);
+        arrow = arrow-so arrows (s .0) (m .1);
+        unique = λ j r k. of-single (s .1) (mem-filter (onArrow arrows) (blockOf i) (block-in i j h r) (so-arrow arrows j k));
       }
 
   one-test : (i : ℕ) → square cells i ≡ true → OneArrowCell p cells i → oneTest p cells lab (getD lab i 0) ≡ true
   unfolding oneTest blockOf
   one-test i h c =
       eq-eqb (length (filter (onArrow arrows) (blockOf i))) 1
-      (only-one (filter (onArrow arrows) (blockOf i)) (distinct-filter (onArrow arrows) (blockOf i) (group-distinct g (square cells) lab (getD lab i 0))) (c .cell) (mem-filter (onArrow arrows) (blockOf i) (block-in i (c .cell) h (c .within)) (c .arrow))
-      (λ y m. let k = filter-mem (onArrow arrows) (blockOf i) m in c .unique y (in-block i y h (k .0)) (k .1)))
+      (only-one (filter (onArrow arrows) (blockOf i)) (distinct-filter (onArrow arrows) (blockOf i) (group-distinct g (square cells) lab (getD lab i 0))) (c .cell) (mem-filter (onArrow arrows) (blockOf i) (block-in i (c .cell) h (c .within)) (so-arrow arrows (c .cell) (c .arrow)))
+      (λ y m. let k = filter-mem (onArrow arrows) (blockOf i) m in c .unique y (in-block i y h (k .0)) (arrow-so arrows y (k .1))))
 
   next-pair : (e : Pair) → List·Memᴰ e (flatMap (pairs cells) arrows) → Next p cells (e .last) (e .cur)
   next-pair e m =

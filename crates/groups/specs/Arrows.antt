@@ -10,6 +10,10 @@ use Rattle.grid.specs.Cells.{square}
 use Rattle.record.specs.Problem.{arrowsFrom}
 
 -- i is an arrow cell: a cell of some arrow
+abbrev pub OnArrow : List (List ℕ) → ℕ → Type 0
+OnArrow arrows i = (a : List ℕ) × List·Memᴰ a arrows × List·Memᴰ i a
+
+-- the same as a test
 unfoldable pub onArrow : List (List ℕ) → ℕ → Bool
 onArrow arrows i = any (member i) arrows
 

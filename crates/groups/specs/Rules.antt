@@ -11,7 +11,7 @@ use Rattle.grid.specs.Grid.{Grid, size, row, col}
 use Rattle.record.specs.Record.{Puzzle}
 use Rattle.grid.specs.Cells.{square}
 use Rattle.groups.specs.Groups.{Joined, labels, group, names}
-use Rattle.groups.specs.Arrows.{onArrow, Pair, pairs}
+use Rattle.groups.specs.Arrows.{OnArrow, onArrow, Pair, pairs}
 
 -- a shift, which is a signed row and column offset: rows down − up, columns right − left
 pub record Shift : Type 0 where
@@ -51,8 +51,8 @@ module _ (p : Puzzle) (cells : List ℕ) where
   pub record OneArrowCell (i : ℕ) : Type 0 where
     pub cell : ℕ
     pub within : SameBlock (p .grid) cells i cell
-    pub arrow : onArrow (p .arrows) cell ≡ true
-    pub unique : (j : ℕ) → SameBlock (p .grid) cells i j → onArrow (p .arrows) j ≡ true → j ≡ cell
+    pub arrow : OnArrow (p .arrows) cell
+    pub unique : (j : ℕ) → SameBlock (p .grid) cells i j → OnArrow (p .arrows) j → j ≡ cell
 
   -- i and j are squares of one arrow, i before j, with no square between
   pub record Next (i j : ℕ) : Type 0 where

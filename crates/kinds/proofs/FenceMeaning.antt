@@ -10,11 +10,11 @@ use native.Mathlib.Omega.{arith}
 use lib.Dec.{eqb}
 use lib.ListN.{getD}
 use borrow.Author.Tests.{eqb-true, eq-eqb}
-use Rattle.grid.specs.Lists.{flatMap, member}
+use Rattle.grid.specs.Lists.{flatMap}
 use Rattle.grid.specs.Grid.{Grid, size, cellsOf, neighbours, touches, Adjacent}
 use Rattle.grid.proofs.LinkLaws.{linked-start, linked-end}
-use Rattle.grid.proofs.ListLaws.{and-true, true-and, any-mem, mem-any, member-mem, flatMap-mem, mem-flatMap, upto-mem, not-so, so-not}
-use Rattle.grid.proofs.GridLaws.{adj-sym, adjacent-touches, in-cells}
+use Rattle.grid.proofs.ListLaws.{and-true, true-and, any-mem, mem-any, flatMap-mem, mem-flatMap, upto-mem, not-so, so-not}
+use Rattle.grid.proofs.GridLaws.{adj-sym, adjacent-touches, touches-adjacent, in-cells}
 use Rattle.grid.proofs.RisingLaws.{Rising, nil, cons, cells-rising}
 use Rattle.grid.specs.Cells.{Literal, square, undecided}
 use Rattle.groups.specs.Groups.{labels}
@@ -111,10 +111,7 @@ module _ (set : Setting) where
     module _ (arrow : So (onArrow arrows a)) (sq : So (square cells a)) where
       -- a cell of the grid that touches the reach
       touching : (i : ℕ) → i < size grid → So (touches grid R i) → (r : ℕ) × Adjacent grid i r × Reach B a r
-      unfolding touches
-      touching i l t =
-          let r = any-mem (λ j. member j R) (neighbours grid i) t in
-          (r .0, (l, r .1), reach-in set a (r .0) sq (member-mem (r .0) R (r .2)))
+      touching i l t = let r = touches-adjacent grid R i l t in (r .0, r .1, reach-in set a (r .0) sq (r .2))
 
       of-fence : (i w : ℕ) → List·Memᴰ (i, w) fenceOf → Meant i w
       unfolding fence fenceAt disturbing view viewWith cellsOf

@@ -16,9 +16,9 @@ use Rattle.grid.specs.Grid.{Grid, size, cellsOf, touches, Adjacent}
 use Rattle.grid.specs.Link.{here}
 use Rattle.grid.proofs.LinkLaws.{linked-end, linked-start, linked-trans, linked-sym}
 use Rattle.grid.specs.Cells.{Literal, empty, square, potential}
-use Rattle.grid.proofs.ListLaws.{and-true, true-and, not-so, so-not, filter-mem, mem-filter, any-mem, mem-any, member-mem, upto-mem, last-mem}
+use Rattle.grid.proofs.ListLaws.{and-true, true-and, not-so, so-not, filter-mem, mem-filter, any-mem, mem-any, upto-mem, last-mem}
 use Rattle.grid.proofs.RisingLaws.{filter-rising, cells-rising, first-least, last-greatest, rising-same}
-use Rattle.grid.proofs.GridLaws.{adj-sym, adjacent-touches, in-cells}
+use Rattle.grid.proofs.GridLaws.{adj-sym, adjacent-touches, touches-adjacent, in-cells}
 use Rattle.grid.proofs.CellLaws.{sq-below}
 use Rattle.record.specs.Record.{Puzzle}
 use Rattle.groups.specs.Groups.{Joined, labels, group, names}
@@ -177,15 +177,15 @@ module _ (p : Puzzle) (cells : List ℕ) (long : length cells ≡ size (p .grid)
     bounds = filter (λ i. empty cells i && touches grid (pot f) i) (cellsOf grid)
 
     bounds-exact : (i : ℕ) → List·Memᴰ i bounds ↔ (So (empty cells i) × ((j : ℕ) × Adjacent grid i j × SamePotential grid cells f j))
-    unfolding touches cellsOf
+    unfolding cellsOf
     bounds-exact i = (to, from)
       where
         to : List·Memᴰ i bounds → So (empty cells i) × ((j : ℕ) × Adjacent grid i j × SamePotential grid cells f j)
         to n =
             let q = filter-mem (λ k. empty cells k && touches grid (pot f) k) (cellsOf grid) n in
             let t = and-true (empty cells i) _ (q .1) in
-            let w = any-mem _ _ (t .1) in
-            (t .0, (w .0, (upto-mem (size grid) (q .0), w .1), joined (w .0) (member-mem (w .0) (pot f) (w .2))))
+            let w = touches-adjacent grid (pot f) i (upto-mem (size grid) (q .0)) (t .1) in
+            (t .0, (w .0, w .1, joined (w .0) (w .2)))
 
         from : So (empty cells i) × ((j : ℕ) × Adjacent grid i j × SamePotential grid cells f j) → List·Memᴰ i bounds
         from (z, w) = mem-filter (λ k. empty cells k && touches grid (pot f) k) (cellsOf grid) (in-cells grid i (w .1 .0))

@@ -8,15 +8,15 @@ use mathlib.Core.Option.{none}
 use native.Mathlib.Omega.{arith}
 use lib.ListN.{length, getD, take}
 use Rattle.grid.proofs.GridLaws.{adj-sym}
-use Rattle.grid.specs.Lists.{member, last}
-use Rattle.grid.proofs.ListLaws.{mem-any, mem-member, at-mem, so-false}
+use Rattle.grid.specs.Lists.{last}
+use Rattle.grid.proofs.ListLaws.{at-mem, so-false}
 use Rattle.grid.specs.Grid.{Grid, size, Adjacent}
 use Rattle.grid.proofs.LinkLaws.{linked-start, linked-trans, linked-sym}
 use Rattle.record.specs.Record.{Puzzle}
 use Rattle.grid.specs.Cells.{square}
 use Rattle.grid.proofs.CellLaws.{sq-below}
 use Rattle.groups.specs.Arrows.{onArrow, Pair, Parted}
-use Rattle.groups.proofs.ArrowLaws.{NextAt, at-last, at-cur, pos-below, position, posLast, posCur, mid, tip, whole, mid-clear}
+use Rattle.groups.proofs.ArrowLaws.{arrow-so, so-arrow, NextAt, at-last, at-cur, pos-below, position, posLast, posCur, mid, tip, whole, mid-clear}
 use Rattle.groups.specs.Rules.{Next, BlockRules, Grown, SameBlock}
 use Rattle.kinds.specs.Kinds.{has}
 use Rattle.reasons.proofs.Refute.{Rules}
@@ -35,8 +35,7 @@ lineAt arrows t k = getD (t .0) k 0
 
 -- its cells are arrow cells
 pub on-line : (arrows : List (List ℕ)) (t : Which arrows) (k : ℕ) → k < lineLen arrows t → So (onArrow arrows (lineAt arrows t k))
-unfolding onArrow
-on-line arrows t k l = mem-any (member (lineAt arrows t k)) arrows (t .1) (mem-member (lineAt arrows t k) (t .0) (at-mem (t .0) k l))
+on-line arrows t k l = so-arrow arrows (lineAt arrows t k) (t .0, t .1, at-mem (t .0) k l)
 
 -- the block rules of a full board, by positions
 abbrev pub RulesAt : Puzzle → List ℕ → Type 0
@@ -59,9 +58,9 @@ module _ (p : Puzzle) (full : List ℕ) (long : length full ≡ size (p .grid)) 
   -- from the rules as stated to positions
   pub plain-rules : BlockRules p full → RulesAt p full
   plain-rules r = record {
-    has = λ c s. let o = r .one c (low c s) s in (o .cell, o .arrow, o .within);
+    has = λ c s. let o = r .one c (low c s) s in (o .cell, so-arrow arrows (o .cell) (o .arrow), o .within);
     one = λ d e ad ae l. let o = r .one d (low d (linked-start l)) (linked-start l) in
-        o .unique d (linked-trans l (linked-sym (adj-sym g) l)) ad ∙ sym (o .unique e l ae);
+        o .unique d (linked-trans l (linked-sym (adj-sym g) l)) (arrow-so arrows d ad) ∙ sym (o .unique e l (arrow-so arrows e ae));
     grow = λ t i j jl pr. r .grown (lineAt arrows t i) (lineAt arrows t j) (next t i j jl pr);
   }
     where
@@ -82,8 +81,8 @@ module _ (p : Puzzle) (full : List ℕ) (long : length full ≡ size (p .grid)) 
     one = λ i l s. let w = r .has i s in record {
       cell = w .0;
       within = w .2;
-      arrow = w .1;
-      unique = λ j k aj. r .one j (w .0) aj (w .1) (linked-trans (linked-sym (adj-sym g) k) (w .2));
+      arrow = arrow-so arrows (w .0) (w .1);
+      unique = λ j k aj. r .one j (w .0) (so-arrow arrows j aj) (w .1) (linked-trans (linked-sym (adj-sym g) k) (w .2));
     };
     grown = grown;
   }
