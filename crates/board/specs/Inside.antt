@@ -1,10 +1,9 @@
 -- What the inner steps of a list of decisions promise each other.
 -- Assumes nothing.
-use Prim.Native.Nat.{ℕ, _+_, _*_, _/_, _%_, _≤_, _<_}
-use mathlib.Core.Bool.{true, cond}
+use Prim.Native.Nat.{ℕ, _/_, _%_, _≤_, _<_}
+use mathlib.Core.Bool.{true}
 use mathlib.Core.Path.{_≡_}
-use mathlib.Core.List.{List, [], _∷_}
-use lib.Dec.{eqb}
+use mathlib.Core.List.{List}
 use lib.ListN.{getD, set}
 use Rattle.grid.specs.Grid.{size}
 use Rattle.record.specs.Problem.{gridOf}
@@ -12,9 +11,7 @@ use Rattle.record.specs.declared.Problem.{Problem}
 use Rattle.record.specs.declared.Answer.{Answer}
 use Rattle.record.specs.declared.Answer.the-variants.{Done, Refused}
 use Rattle.board.specs.declared.Board.{Board}
-use Rattle.board.specs.declared.Decided.{Decided}
 use Rattle.board.specs.Form.{wellFormed}
-use Rattle.board.specs.Decide.{decideOf, refusedWith, onward}
 
 -- what adding the decision in a word does: it is refused and nothing changes, or it is put
 pub data Placing (n count word : ℕ) (cells order : List ℕ) : Answer → List ℕ → List ℕ → Type 0 where
@@ -32,17 +29,3 @@ pub record Held (n decided : ℕ) (cells order : List ℕ) : Type 0 where
   pub problem : Problem
   pub area : size (gridOf problem) ≡ n
   pub well : wellFormed (held problem cells order decided) ≡ true
-
--- the decisions in the bytes, one `decide` after the other up to the first that is refused, with the board so far
-unfoldable pub placedFrom : Board → List ℕ → Decided
-placedFrom b [] = record { answer = Done; board = b }
-placedFrom b (x ∷ []) = refusedWith 12 b
-placedFrom b (x ∷ y ∷ rest) =
-    let word : ℕ = x * 256 + y in
-    let d : Decided = decideOf b (word % 1024) (word / 32768) in
-    cond (eqb (word % 32768 / 1024) 0) (onward (d .answer) b (placedFrom (d .board) rest)) (refusedWith 12 b)
-
--- the last board where all is done, else the refusal with the first
-unfoldable pub allPlaced : Board → Answer → Board → Decided
-allPlaced b₀ Done b = record { answer = Done; board = b }
-allPlaced b₀ (Refused k) b = refusedWith k b₀

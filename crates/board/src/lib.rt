@@ -7,8 +7,8 @@ ghost use Rattle.grid.specs.Grid.{size};
 ghost use Rattle.record.specs.Problem.{gridOf};
 ghost use Rattle.board.specs.Kept.{openOf};
 ghost use Rattle.board.specs.Form.{wellFormed};
-ghost use Rattle.board.specs.Decide.{decideOf, undoOf, decideAllOf};
-ghost use Rattle.board.specs.Inside.{Placing, held, Held, placedFrom};
+ghost use Rattle.board.specs.Decide.{decideOf, undoOf, decideAllOf, placedFrom};
+ghost use Rattle.board.specs.Inside.{Placing, held, Held};
 use record::Answer;
 use record::Problem;
 

@@ -23,7 +23,8 @@ use Rattle.grid.specs.Cells.{Literal, empty, square, undecided, word}
 use Rattle.groups.specs.Groups.{labels}
 use Rattle.kinds.specs.Kinds.{Kind, vacant, barrier, floating, inBlock, neighbour, kindTouching, blocksTouched, kindAt, isIn, has, View, view, viewWith, inReach, reach, disturbing, fenceAt, fence, kindCode, ownerBy, reachMask}
 use Rattle.kinds.specs.Inside.{puzzleWith, Held}
-use Rattle.fence.specs.Inside.{litAt, Ordered, ofBlock, inDisturbing, touched, adds, addsAmong, Fenced}
+use Rattle.fence.specs.Inside.{litAt, Ordered, ofBlock, inDisturbing, touched, adds, Fenced}
+use Rattle.fence.proofs.Fences.{addsAmong}
 use Rattle.kinds.proofs.Filled.{mask-test}
 use Rattle.kinds.proofs.BlockArrays.{in-by, kind-get}
 use Rattle.reach.proofs.Reaches.{code-get, owner-get}

@@ -14,7 +14,7 @@ use Rattle.grid.specs.Lists.{range, upto, filter, any}
 use Rattle.grid.specs.Grid.{Grid, neighbours}
 use Rattle.grid.proofs.ListLaws.{split, and-true, true-and, so-orl, so-orr, or-so, any-mem, mem-any}
 use Rattle.grid.proofs.AppendLaws.{any-append, any-more}
-use Rattle.fence.specs.Inside.{key, Place, Inserted, litAt, Ordered, Whole, ofBlock, inDisturbing, touched, adds, addsAmong}
+use Rattle.fence.specs.Inside.{key, Place, Inserted, litAt, Ordered, Whole, ofBlock, inDisturbing, touched, adds}
 use Rattle.fence.proofs.Ordering.{key-lit, ordered-same, found, absent, ordered-insert}
 
 -- nothing is added
@@ -210,6 +210,11 @@ module _ (cells K O marks : List ℕ) (g : Grid) (f i : ℕ) where
           rw (ne-eqb (getD K i 0) 0 k) (true-and (r .0) (disturbing-among-whole K O f (neighbours g i) a b (r .1) kb o))
 
 -- ---- the cells in row order
+
+-- one of the first k cells brings x into the fence
+unfoldable pub addsAmong : (cells K O marks : List ℕ) → Grid → ℕ → ℕ → ℕ → Bool
+addsAmong cells K O marks g f k x = any (λ i. adds cells K O marks g f i x) (upto k)
+
 module _ (cells K O marks : List ℕ) (g : Grid) (f : ℕ) where
   pub among-whole : (k : ℕ) → Whole K O (addsAmong cells K O marks g f k)
   unfolding addsAmong

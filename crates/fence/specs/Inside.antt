@@ -80,10 +80,6 @@ module _ (cells kinds owners marks : List ℕ) (g : Grid) (f : ℕ) where
       cond (eqb (getD kinds i 0) 0) (touched marks g i && eqb i x)
       (eqb (getD cells i 0) 2 && touched marks g i && any (λ j. inDisturbing kinds owners f j x) (neighbours g i))
 
-  -- one of the first k cells does
-  unfoldable pub addsAmong : ℕ → ℕ → Bool
-  addsAmong k x = any (λ i. adds i x) (upto k)
-
 -- the fence of f in the part's first places, the rest as it was
 pub record Fenced (v : View) (f : ℕ) (before after : List ℕ) (r : ℕ) : Type 0 where
   pub list : take r after ≡ map word (fence v f)

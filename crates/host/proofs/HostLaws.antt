@@ -22,8 +22,8 @@ use Rattle.grid.proofs.GridLaws.{size-most}
 use Rattle.board.specs.Board.{decide, after, refusal, enough}
 use Rattle.board.specs.Form.{wellFormed}
 use Rattle.board.specs.Kept.{boardOf, opening, openOf}
-use Rattle.board.specs.Decide.{decideRefusal, decideOf, answered, refusedWith, onward, decideFrom, placed}
-use Rattle.board.specs.Inside.{held, allPlaced}
+use Rattle.board.specs.Decide.{decideRefusal, decideOf, answered, refusedWith, onward, placed, placedFrom, allPlaced}
+use Rattle.board.specs.Inside.{held}
 use Rattle.board.specs.declared.Board.{Board}
 use Rattle.board.specs.declared.Decided.{Decided}
 use Rattle.board.specs.declared.Opened.{Opened}
@@ -44,28 +44,28 @@ decidedBy b₀ p (ok ds) = record { answer = Done; board = boardOf p ds }
 
 module _ (p : Puzzle) (v : Valid p) (b₀ : Board) where
   -- one decision: a refusal ends the list, and otherwise it goes on with the next board
-  one : (k : ℕ) (b next : Board) (rest : Outcome (List Literal)) (onto : Decided) → onto ≡ decidedBy b₀ p rest
-      → onward (answered k b next .answer) b₀ onto ≡ decidedBy b₀ p (acceptOr k rest)
-  unfolding onward answered acceptOr decidedBy
+  one : (k : ℕ) (b next : Board) (rest : Outcome (List Literal)) (onto : Decided) → allPlaced b₀ onto ≡ decidedBy b₀ p rest
+      → allPlaced b₀ (onward (answered k b next .answer) b onto) ≡ decidedBy b₀ p (acceptOr k rest)
+  unfolding onward answered acceptOr decidedBy refusedWith
   one zero b next rest onto e = e
   one (suc k) b next rest onto e = refl
 
   -- a list of decisions on the machine's board
-  pub decided-bytes : (bytes : List ℕ) {ds : List Literal} → Standing (p .grid) ds → decideFrom b₀ (boardOf p ds) bytes ≡ decidedBy b₀ p (decideBytes (p .grid) ds bytes)
-  unfolding decideFrom decideBytes
-  decided-bytes [] s = unfold decidedBy in refl
-  decided-bytes (a ∷ []) s = unfold decidedBy in refl
+  pub decided-bytes : (bytes : List ℕ) {ds : List Literal} → Standing (p .grid) ds → allPlaced b₀ (placedFrom (boardOf p ds) bytes) ≡ decidedBy b₀ p (decideBytes (p .grid) ds bytes)
+  unfolding placedFrom decideBytes
+  decided-bytes [] s = unfold decidedBy onward in refl
+  decided-bytes (a ∷ []) s = unfold decidedBy onward refusedWith in refl
   decided-bytes (a ∷ b ∷ rest) {ds} s =
       go (eqb ((a * 256 + b) % 32768 / 1024) 0) ((a * 256 + b) % 1024) ((a * 256 + b) / 32768) (λ (es : List Literal) (t : Standing (p .grid) es). decided-bytes rest t)
     where
-      go : (t : Bool) (i x : ℕ) → ((es : List Literal) → Standing (p .grid) es → decideFrom b₀ (boardOf p es) rest ≡ decidedBy b₀ p (decideBytes (p .grid) es rest))
-          → cond t (onward (decideOf (boardOf p ds) i x .answer) b₀ (decideFrom b₀ (decideOf (boardOf p ds) i x .board) rest)) (refusedWith 12 b₀)
+      go : (t : Bool) (i x : ℕ) → ((es : List Literal) → Standing (p .grid) es → allPlaced b₀ (placedFrom (boardOf p es) rest) ≡ decidedBy b₀ p (decideBytes (p .grid) es rest))
+          → allPlaced b₀ (cond t (onward (decideOf (boardOf p ds) i x .answer) (boardOf p ds) (placedFrom (decideOf (boardOf p ds) i x .board) rest)) (refusedWith 12 (boardOf p ds)))
           ≡ decidedBy b₀ p (cond t (acceptOr (refusal (p .grid) (decide i x) ds) (decideBytes (p .grid) (after (p .grid) (decide i x) ds) rest)) (refused 12))
-      go false i x next = unfold decidedBy in refl
+      go false i x next = unfold decidedBy onward refusedWith in refl
       go true i x next =
           rw (decide-left p v s i x, ← decide-number p v s i x)
           (unfold decideOf in one (decideRefusal (boardOf p ds) i x) (boardOf p ds) (placed (boardOf p ds) i x) (decideBytes (p .grid) (after (p .grid) (decide i x) ds) rest)
-          (decideFrom b₀ (boardOf p (after (p .grid) (decide i x) ds)) rest) (next (after (p .grid) (decide i x) ds) (after-standing (p .grid) (decide i x) s)))
+          (placedFrom (boardOf p (after (p .grid) (decide i x) ds)) rest) (next (after (p .grid) (decide i x) ds) (after-standing (p .grid) (decide i x) s)))
 
 -- the decisions that are accepted stand
 bytes-standing : (g : Grid) (bytes : List ℕ) {ds es : List Literal} → Standing g ds → decideBytes g ds bytes ≡ ok es → Standing g es
@@ -149,15 +149,15 @@ module _ (s : List ℕ) {p : Puzzle} (reads : readRecord s ≡ ok p) {b : Board}
     output-long h = rw (reads, le-leb (2 * (3 * size (p .grid) + 1)) n (rw sizes at h)) refl
 
     -- the board's list of decisions answers as the machine does
-    all-decided : decideFrom b b decisions ≡ decidedBy b p (decideBytes (p .grid) [] decisions)
+    all-decided : allPlaced b (placedFrom b decisions) ≡ decidedBy b p (decideBytes (p .grid) [] decisions)
     all-decided = rw fresh (decided-bytes p valid (boardOf p []) decisions none)
 
     -- what placing all decisions answers, and the board that it leaves
-    module _ (a : Answer) (left : Board) (e : allPlaced b a left ≡ decideFrom b b decisions) (h : 2 * (3 * (b .problem .height * b .problem .width) + 1) ≤ n) where
+    module _ (a : Answer) (left : Board) (e : placedFrom b decisions ≡ record { answer = a; board = left }) (h : 2 * (3 * (b .problem .height * b .problem .width) + 1) ≤ n) where
       -- a decision is refused
       pub decisions-refused : {k : ℕ} → a ≡ Refused k → hostFinds s decisions n ≡ refused k
-      unfolding allPlaced decidedBy refusedWith _>>=_
-      decisions-refused {k} f = output-long h ∙ go (decideBytes (p .grid) [] decisions) (sym (ap (λ (x : Answer). allPlaced b x left) f) ∙ e ∙ all-decided)
+      unfolding onward decidedBy refusedWith _>>=_
+      decisions-refused {k} f = output-long h ∙ go (decideBytes (p .grid) [] decisions) (sym (ap (λ (x : Answer). allPlaced b (record { answer = x; board = left })) f) ∙ sym (ap (allPlaced b) e) ∙ all-decided)
         where
           go : (r : Outcome (List Literal)) → refusedWith k b ≡ decidedBy b p r → (r >>= λ ds. ok (findOn p ds)) ≡ refused k
           go (refused m) q = let a = ap (λ (d : Decided). d .answer) q in let z : m ≡ k = cc in ap refused z
@@ -165,8 +165,8 @@ module _ (s : List ℕ) {p : Puzzle} (reads : readRecord s ≡ ok p) {b : Board}
 
       -- all are accepted
       pub decisions-done : a ≡ Done → hostFinds s decisions n ≡ ok (reasonOn left)
-      unfolding allPlaced decidedBy refusedWith _>>=_
-      decisions-done f = output-long h ∙ go (decideBytes (p .grid) [] decisions) refl (sym (ap (λ (x : Answer). allPlaced b x left) f) ∙ e ∙ all-decided)
+      unfolding onward decidedBy refusedWith _>>=_
+      decisions-done f = output-long h ∙ go (decideBytes (p .grid) [] decisions) refl (sym (ap (λ (x : Answer). allPlaced b (record { answer = x; board = left })) f) ∙ sym (ap (allPlaced b) e) ∙ all-decided)
         where
           go : (r : Outcome (List Literal)) → decideBytes (p .grid) [] decisions ≡ r → _≡_ {A = Decided} (record { answer = Done; board = left }) (decidedBy b p r)
               → (r >>= λ ds. ok (findOn p ds)) ≡ ok (reasonOn left)

@@ -24,10 +24,14 @@ use Rattle.groups.specs.Groups.{labels, labelAt}
 use Rattle.groups.proofs.GroupLaws.{label-least}
 use Rattle.groups.proofs.LabelLaws.{label-at}
 use Rattle.kinds.specs.Kinds.{Kind, vacant, barrier, floating, inBlock, neighbour, isFloating, kindTouching, arrowBlock, blocksTouched, kindAt, kindsOf, has, view, viewWith, kindCode, ownerBy, kindArray, ownerArray}
-use Rattle.kinds.specs.Inside.{puzzleWith, arrowAt, arrowsAt, kindIn, codesIn, ownersIn, floats, Given, Held, unnamed, Unnamed, Sofar}
+use Rattle.kinds.specs.Inside.{puzzleWith, arrowAt, arrowsAt, kindIn, codesIn, ownersIn, Given, Held, unnamed, Unnamed, Sofar}
 use Rattle.kinds.proofs.Filled.{owners-length, mask-test}
 use Rattle.kinds.proofs.BlockArrays.{kind-get, kind-past}
 use Rattle.kinds.proofs.Traversal.{sofar-labels}
+
+-- the number of the kind is that of floating cells
+unfoldable pub floats : List ℕ → ℕ → Bool
+floats kinds j = eqb (getD kinds j 0) 4
 
 module _ (p : Puzzle) (small : size (p .grid) ≤ 1024) (cells blocks A : List ℕ) (given : Given p cells blocks A) where
   abbrev g : Grid

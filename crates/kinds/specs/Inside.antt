@@ -115,10 +115,6 @@ ownersIn blocks arrowed g cells k = arrayOf noGroup (map (λ i. ownerBy unnamed 
 
 -- ---- the walk over a floating group. L are the groups before, L′ after; name is the group's name
 
--- the number of the kind is that of floating cells
-unfoldable pub floats : List ℕ → ℕ → Bool
-floats kinds j = eqb (getD kinds j 0) 4
-
 module _ (g : Grid) (p : ℕ → Bool) (i name : ℕ) (L L′ : List ℕ) where
   -- the group of j is as it was, or is new, and j is joined to i
   pub data Kept (j : ℕ) : Type 0 where

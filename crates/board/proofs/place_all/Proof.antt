@@ -11,8 +11,8 @@ use Rattle.grid.specs.Grid.{size}
 use Rattle.record.specs.Problem.{gridOf}
 use Rattle.record.specs.declared.Problem.{Problem}
 use Rattle.board.specs.Form.{wellFormed}
-use Rattle.board.specs.Decide.{refusedWith}
-use Rattle.board.specs.Inside.{held, placedFrom}
+use Rattle.board.specs.Decide.{refusedWith, placedFrom}
+use Rattle.board.specs.Inside.{held}
 use Rattle.board.proofs.BoardForm.{whole-is, whole-room, whole-most}
 use Rattle.board.proofs.Fold.{place-refused, place-put, two-left, one-left}
 use Rattle.board.proofs.place_all.Statement.{statement}

@@ -5,8 +5,8 @@ use mathlib.Core.Path.{_≡_}
 use native.Mathlib.Omega.{arith}
 use Rattle.grid.specs.Side.{sized}
 use Rattle.grid.proofs.SideLaws.{area}
-use Rattle.fence.specs.Inside.{Ordered, addsAmong}
-use Rattle.fence.proofs.Fences.{among-whole, fence-none, fence-more}
+use Rattle.fence.specs.Inside.{Ordered}
+use Rattle.fence.proofs.Fences.{among-whole, fence-none, fence-more, addsAmong}
 use Rattle.fence.proofs.FenceList.{fence-computed}
 use Rattle.fence.proofs.reason_for_adjacent_floating_boundary.Statement.{statement}
 use Rattle.fence.proofs.reason_for_adjacent_floating_boundary.Tie as tie

@@ -13,9 +13,8 @@ use Rattle.grid.specs.Side.{sized}
 use Rattle.record.specs.Record.{ok}
 use Rattle.record.specs.Problem.{gridOf}
 use Rattle.board.specs.Form.{wellFormed}
-use Rattle.board.specs.Decide.{decideFrom}
-use Rattle.board.specs.Inside.{held, allPlaced}
-use Rattle.board.proofs.Fold.{placed-all}
+use Rattle.board.specs.Decide.{placedFrom}
+use Rattle.board.specs.Inside.{held}
 use Rattle.board.specs.declared.Board.{Board}
 use Rattle.kinds.specs.Inside.{puzzleWith}
 use Rattle.literals.specs.Literals.{Found}
@@ -49,9 +48,9 @@ abbrev left : tie.After-place-all → Board
 left c = held (start c .args .t1 .problem) (c .place-all .last .0) (c .place-all .last .1 .0) (c .place-all .result .decided)
 
 -- what `place_all` says of it
-placed : (c : tie.After-place-all) → allPlaced (start c .args .t1) (c .place-all .result .answer) (left c) ≡ decideFrom (start c .args .t1) (start c .args .t1) (start c .args .decisions .now)
+placed : (c : tie.After-place-all) → placedFrom (start c .args .t1) (start c .args .decisions .now) ≡ record { answer = c .place-all .result .answer; board = left c }
 unfolding size gridOf
-placed c = placed-all (start c .args .t1) (start c .args .decisions .now) (c .place-all .ensures (start c .args .t1 .problem) refl (well (start c)))
+placed c = c .place-all .ensures (start c .args .t1 .problem) refl (well (start c))
 
 -- the first reason on the board after the decisions
 abbrev reason : tie.After-place-all → Found

@@ -9,10 +9,10 @@ use Rattle.grid.specs.Grid.{size}
 use Rattle.record.specs.Problem.{gridOf}
 use Rattle.board.specs.declared.Board.{Board}
 use Rattle.board.specs.Form.{wellFormed}
-use Rattle.board.specs.Decide.{refusedWith, decideAllOf}
-use Rattle.board.specs.Inside.{held, allPlaced}
+use Rattle.board.specs.Decide.{refusedWith, decideAllOf, allPlaced}
+use Rattle.board.specs.Inside.{held}
 use Rattle.board.proofs.BoardForm.{whole-is, whole-most}
-use Rattle.board.proofs.Fold.{all-6, all-tested, placed-all, all-done, all-refused}
+use Rattle.board.proofs.Fold.{all-6, all-placed, all-done, all-refused}
 use borrow.Author.Needs.{needs}
 use Rattle.board.proofs.Board.decide_all.Statement.{statement}
 use Rattle.board.proofs.Board.decide_all.Tie as tie
@@ -37,9 +37,9 @@ abbrev result : tie.After-place-all → Board
 result c = held (board (c .before) .problem) (c .place-all .last .0) (c .place-all .last .1 .0) (c .place-all .result .decided)
 
 -- what `place_all` says of it
-placed : (c : tie.After-place-all) → allPlaced (board (c .before)) (c .place-all .result .answer) (result c) ≡ decideAllOf (board (c .before)) (entry (c .before) .args .decisions .now)
+placed : (c : tie.After-place-all) → allPlaced (board (c .before)) (record { answer = c .place-all .result .answer; board = result c }) ≡ decideAllOf (board (c .before)) (entry (c .before) .args .decisions .now)
 unfolding size gridOf
-placed c = placed-all (board (c .before)) (entry (c .before) .args .decisions .now) (c .place-all .ensures (board (c .before) .problem) refl (well (c .before))) ∙ all-tested (board (c .before)) (entry (c .before) .args .decisions .now) (well (c .before))
+placed c = all-placed (board (c .before)) (entry (c .before) .args .decisions .now) (well (c .before)) (c .place-all .ensures (board (c .before) .problem) refl (well (c .before)))
 
 returns : tie.Need-returns
 unfolding refusedWith
