@@ -23,7 +23,8 @@ use Rattle.grid.proofs.AroundLaws.{gathered, gathered-next, gathered-same, gath
 use Rattle.grid.proofs.ListLaws.{place-in}
 use Rattle.grid.proofs.AppendLaws.{by-eq}
 use Rattle.grid.proofs.ArrayLaws.{Entry, hit, miss, entry-at}
-use Rattle.groups.specs.Groups.{Joined, noGroup}
+use Rattle.groups.specs.Groups.{Joined}
+use Rattle.groups.specs.Arrays.{noGroup}
 use Rattle.groups.specs.Flood.{unlabelled, free, Marked, Only, Offered, skip, take, OfferedSide, beyond, within, Kept, same, new, Shut, Flooding, Right, none, out, some, Sofar, Spread, Ready}
 use Rattle.groups.proofs.GroupLaws.{linked-size}
 use Rattle.groups.proofs.LabelLaws.{Components}

@@ -21,7 +21,8 @@ use Rattle.grid.proofs.GridLaws.{adj-sym}
 use Rattle.grid.proofs.AppendLaws.{filter-upto}
 use Rattle.grid.proofs.FilledLaws.{filled-at, filled-past, filled-length}
 use Rattle.grid.specs.Cells.{empty, square, potential}
-use Rattle.groups.specs.Groups.{Joined, noGroup, labelAt, labelArray, counts, labels, group}
+use Rattle.groups.specs.Groups.{Joined, labels, group}
+use Rattle.groups.specs.Arrays.{noGroup, labelAt, labelArray, counts}
 use Rattle.groups.proofs.GroupLaws.{label, label-linked, linked-label, label-own, label-least, linked-size}
 
 -- every cell that passes is labelled with the least cell that is joined to it, and every other entry says that there is no group

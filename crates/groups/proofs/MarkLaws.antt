@@ -17,7 +17,7 @@ use Rattle.grid.proofs.ListLaws.{so-false, member-mem, length-map-upto, map-upt
 use Rattle.grid.proofs.FilledLaws.{filled-at, filled-past, filled-length}
 use Rattle.grid.proofs.AppendLaws.{any-append, member-more}
 use Rattle.record.specs.Problem.{arrowCells}
-use Rattle.groups.specs.Groups.{maskOf, marksOf}
+use Rattle.groups.specs.Arrays.{maskOf, marksOf}
 use Rattle.groups.specs.Arrows.{onArrow}
 
 -- ---- marks

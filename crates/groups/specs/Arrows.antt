@@ -1,13 +1,11 @@
 -- Arrow cells, and the pairs of squares of an arrow with none between them.
 -- Assumes nothing.
-use Prim.Native.Nat.{ℕ, _≤_, _<_}
+use Prim.Native.Nat.{ℕ}
 use mathlib.Core.Path.{_≡_}
 use mathlib.Core.Bool.{Bool, true, false, cond}
 use mathlib.Core.List.{List, [], _∷_, _++_, List·Memᴰ}
-use lib.ListN.{length, getD, take}
 use Rattle.grid.specs.Lists.{any, member}
 use Rattle.grid.specs.Cells.{square}
-use Rattle.record.specs.Problem.{arrowsFrom}
 
 -- i is an arrow cell: a cell of some arrow
 abbrev pub OnArrow : List (List ℕ) → ℕ → Type 0
@@ -45,18 +43,3 @@ pub record Parted (cells a : List ℕ) (p : Pair) : Type 0 where
   pub first : square cells (p .last) ≡ true
   pub second : square cells (p .cur) ≡ true
   pub none : (k : ℕ) → List·Memᴰ k (p .between) → square cells k ≡ false
-
--- the cells of all arrows stand in the first places of an array
-pub record Line (line : List ℕ) (total : ℕ) : Type 0 where
-  pub long : length line ≡ 1024
-  pub within : total ≤ 1024
-  pub cells : (k : ℕ) → k < total → getD line k 0 < 1024
-
--- an array of cells
-pub record CellArray (a : List ℕ) : Type 0 where
-  pub long : length a ≡ 1024
-  pub cells : (k : ℕ) → getD a k 0 < 1024
-
--- all arrows as they stand in arrays
-abbrev pub linesOf : List ℕ → List ℕ → ℕ → List (List ℕ)
-linesOf arrows ends count = arrowsFrom arrows 0 (take count ends)

@@ -10,7 +10,8 @@ use lib.ListN.{length, getD, set}
 use Rattle.grid.specs.Grid.{Adjacent, Grid, size}
 use Rattle.grid.specs.declared.Side.{Side}
 use Rattle.grid.specs.declared.Side.the-variants.{At, Off}
-use Rattle.groups.specs.Groups.{Joined, noGroup}
+use Rattle.groups.specs.Groups.{Joined}
+use Rattle.groups.specs.Arrays.{noGroup}
 
 -- stands for the label of a cell that is in a group and has no label yet
 abbrev pub unlabelled : ℕ

@@ -9,8 +9,7 @@ use lib.Dec.{eqb}
 use lib.ListN.{getD}
 use Rattle.grid.specs.Link.{Linked}
 use Rattle.grid.specs.Grid.{Adjacent, Grid, cellsOf, neighbours}
-use Rattle.grid.specs.Lists.{upto, filter, flatMap, member, arrayOf}
-use Rattle.grid.specs.Cells.{square, potential}
+use Rattle.grid.specs.Lists.{filter, flatMap}
 
 -- i and j are joined by a chain of neighbours that all pass
 abbrev pub Joined : Grid → (ℕ → Bool) → ℕ → ℕ → Type 0
@@ -49,27 +48,3 @@ group g p l f = filter (λ i. p i && eqb (getD l i 0) f) (cellsOf g)
 -- the groups' names, rising
 unfoldable pub names : Grid → (ℕ → Bool) → List ℕ → List ℕ
 names g p l = filter (λ i. p i && eqb (getD l i 0) i) (cellsOf g)
-
--- the number that stands for no group
-abbrev pub noGroup : ℕ
-noGroup = 1024
-
--- the first cell of the group of cell i, or that it has none
-unfoldable pub labelAt : Grid → (ℕ → Bool) → ℕ → ℕ
-labelAt g p i = cond (p i) (getD (labels g p) i 0) noGroup
-
--- the same for every cell, in an array
-unfoldable pub labelArray : Grid → (ℕ → Bool) → List ℕ
-labelArray g p = arrayOf noGroup (map (labelAt g p) (cellsOf g))
-
--- the cells that count: for potential groups those that aren't empty, for blocks the squares
-unfoldable pub counts : Bool → List ℕ → ℕ → Bool
-counts isPotential cells i = cond isPotential (potential cells i) (square cells i)
-
--- 1 for each cell that passes the test and 0 for each other, in an array
-unfoldable pub maskOf : Grid → (ℕ → Bool) → List ℕ
-maskOf g p = arrayOf 0 (map (λ i. cond (p i) 1 0) (cellsOf g))
-
--- 1 for each cell of the list and 0 for each other, in an array
-unfoldable pub marksOf : List ℕ → List ℕ
-marksOf l = map (λ i. cond (member i l) 1 0) (upto 1024)

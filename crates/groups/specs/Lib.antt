@@ -1,4 +1,5 @@
 pub mod Groups
 pub mod Arrows
 pub mod Rules
+pub mod Arrays
 pub mod Flood

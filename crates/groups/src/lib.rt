@@ -6,8 +6,7 @@ ghost use Prim.Native.Nat.{ℕ, _+_, _*_, _≤_, _<_};
 ghost use mathlib.Core.Bool.{Bool, cond};
 ghost use lib.ListN.{length, take, replicate};
 ghost use Rattle.grid.specs.Side.{InGrid, InPlace, sized, besideOf};
-ghost use Rattle.groups.specs.Groups.{labelArray, noGroup, counts, marksOf};
-ghost use Rattle.groups.specs.Arrows.{Line};
+ghost use Rattle.groups.specs.Arrays.{Line, labelArray, noGroup, counts, marksOf};
 ghost use Rattle.groups.specs.Flood.{unlabelled, free, Marked, Offerable, Offered, OfferedSide, Ready, Spread, Sofar};
 use grid::Side;
 

@@ -9,7 +9,8 @@ use lib.ListN.{length, getD}
 use lib.Seq.{slice}
 use Rattle.grid.specs.Lists.{filter}
 use Rattle.grid.specs.Cells.{empty, square}
-use Rattle.groups.specs.Arrows.{Pair, CellArray}
+use Rattle.groups.specs.Arrows.{Pair}
+use Rattle.groups.specs.Arrays.{CellArray}
 use Rattle.kinds.specs.Kinds.{View, view, viewWith, block, reach}
 use Rattle.literals.specs.Buffer.{Wrote, FoundAs}
 use Rattle.growth.specs.Pairs.{pairAt, viewOn, Scene, blockCellFence}

@@ -19,7 +19,8 @@ use Rattle.grid.specs.Cells.{empty, square}
 use Rattle.groups.specs.Groups.{labels}
 use Rattle.groups.specs.Arrows.{onArrow}
 use Rattle.groups.proofs.GroupLaws.{linked-size, label-own, label-linked}
-use Rattle.kinds.specs.Kinds.{view, viewWith, vacant, inBlock, arrowBlock, kindAt, kindsOf, kindCode, ownerBy, kindArray, ownerArray}
+use Rattle.kinds.specs.Kinds.{view, viewWith, vacant, inBlock, arrowBlock, kindAt, kindsOf}
+use Rattle.kinds.specs.Arrays.{kindCode, ownerBy, kindArray, ownerArray}
 use Rattle.kinds.specs.Inside.{puzzleWith}
 use Rattle.growth.specs.Pairs.{NextSquare, viewOn, Scene, Squares}
 use Rattle.kinds.proofs.BlockArrays.{kind-get}

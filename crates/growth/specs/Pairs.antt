@@ -8,8 +8,10 @@ use lib.ListN.{length, getD, take}
 use lib.Seq.{slice}
 use Rattle.grid.specs.Side.{sized}
 use Rattle.grid.specs.Cells.{Literal, square}
-use Rattle.groups.specs.Arrows.{onArrow, Pair, CellArray, linesOf}
-use Rattle.kinds.specs.Kinds.{View, view, block, fence, reachMask}
+use Rattle.groups.specs.Arrows.{onArrow, Pair}
+use Rattle.groups.specs.Arrays.{CellArray, linesOf}
+use Rattle.kinds.specs.Kinds.{View, view, block, fence}
+use Rattle.kinds.specs.Arrays.{reachMask}
 use Rattle.literals.specs.Literals.{Found, each}
 use Rattle.growth.specs.Growth.{reason3At, reason4At}
 use Rattle.reach.specs.Chains.{Chains}

@@ -15,7 +15,7 @@ use Rattle.grid.specs.Cells.{Literal, word}
 use Rattle.kinds.specs.Inside.{puzzleWith}
 use Rattle.literals.specs.Literals.{Found}
 use Rattle.reasons.specs.Reasons.{findReason}
-use Rattle.groups.specs.Arrows.{linesOf}
+use Rattle.groups.specs.Arrays.{linesOf}
 use Rattle.inconsistency.specs.Arrays.{ArrowArrays}
 use Rattle.literals.specs.Buffer.{FoundAs, findingBy, bufferBy}
 use Rattle.literals.specs.declared.Finding.the-variants.{Reason}

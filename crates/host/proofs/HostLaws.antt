@@ -31,7 +31,7 @@ use Rattle.board.proofs.Standing.{Standing, none, after-standing}
 use Rattle.board.proofs.CallLaws.{standing-well, decide-number, decide-left}
 use Rattle.kinds.specs.Inside.{puzzleWith}
 use Rattle.reasons.specs.Reasons.{findReason, findOn}
-use Rattle.groups.specs.Arrows.{linesOf}
+use Rattle.groups.specs.Arrays.{linesOf}
 use Rattle.reasons.specs.Find.{cellsOn, reasonOn}
 use Rattle.reasons.proofs.BoardArrays.{codes-aside}
 use Rattle.reasons.proofs.Demand3.{reason-on}

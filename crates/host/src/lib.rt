@@ -12,7 +12,7 @@ ghost use Rattle.grid.specs.Side.{sized};
 ghost use Rattle.record.specs.Record.{ok};
 ghost use Rattle.kinds.specs.Inside.{puzzleWith};
 ghost use Rattle.reasons.specs.Reasons.{findReason};
-ghost use Rattle.groups.specs.Arrows.{linesOf};
+ghost use Rattle.groups.specs.Arrays.{linesOf};
 ghost use Rattle.inconsistency.specs.Arrays.{ArrowArrays};
 ghost use Rattle.host.specs.Host.{bytesOf, hostFinds, returned, outputAfter, Opens};
 

@@ -15,8 +15,8 @@ use Rattle.grid.proofs.ListLaws.{flatMap-mem}
 use Rattle.grid.proofs.AppendLaws.{last-more}
 use Rattle.record.specs.Record.{Puzzle}
 use Rattle.record.specs.Problem.{arrowCells}
-use Rattle.groups.specs.Groups.{marksOf, maskOf, labelArray, counts}
-use Rattle.groups.specs.Arrows.{onArrow, Line, linesOf}
+use Rattle.groups.specs.Arrows.{onArrow}
+use Rattle.groups.specs.Arrays.{Line, linesOf, marksOf, maskOf, labelArray, counts}
 use Rattle.groups.proofs.MarkLaws.{arrow-marks}
 use Rattle.groups.proofs.LabelLaws.{labels-potential, labels-blocks}
 use Rattle.kinds.specs.Inside.{puzzleWith, Held}

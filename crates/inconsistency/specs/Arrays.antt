@@ -7,7 +7,7 @@ use lib.ListN.{length, getD, take}
 use Rattle.grid.specs.Side.{sized}
 use Rattle.record.specs.Problem.{arrowCells}
 use Rattle.kinds.specs.Inside.{puzzleWith, Given}
-use Rattle.groups.specs.Arrows.{CellArray, linesOf}
+use Rattle.groups.specs.Arrays.{CellArray, linesOf}
 
 -- the arrays hold the arrows of a board of n cells: their cells one after another, `total` of them, and where each of `number` arrows ends
 pub record ArrowArrays (n : ℕ) (arrows ends : List ℕ) (number total : ℕ) : Type 0 where

@@ -7,7 +7,7 @@ ghost use Rattle.grid.specs.Lists.{last};
 ghost use Rattle.grid.specs.Side.{sized};
 ghost use Rattle.growth.specs.Growth.{reason34};
 ghost use Rattle.inconsistency.specs.Reasons.{findReason};
-ghost use Rattle.groups.specs.Arrows.{linesOf};
+ghost use Rattle.groups.specs.Arrays.{linesOf};
 ghost use Rattle.inconsistency.specs.Arrays.{ArrowArrays, Ready};
 ghost use Rattle.literals.specs.Buffer.{Fit, FoundAs};
 ghost use Rattle.growth.specs.Pairs.{viewOn};

@@ -15,8 +15,9 @@ use Rattle.grid.specs.Grid.{Grid, size, cellsOf}
 use Rattle.grid.proofs.ListLaws.{so-false, and-true, true-and, any-mem, mem-any, upto-mem, mem-upto, member-mem, mem-member, mem-at, at-mem}
 use Rattle.record.specs.Record.{Puzzle}
 use Rattle.grid.specs.Cells.{square}
-use Rattle.groups.specs.Groups.{labels, labelArray, maskOf, marksOf}
-use Rattle.groups.specs.Arrows.{onArrow, Line}
+use Rattle.groups.specs.Groups.{labels}
+use Rattle.groups.specs.Arrows.{onArrow}
+use Rattle.groups.specs.Arrays.{Line, labelArray, maskOf, marksOf}
 use Rattle.groups.proofs.MarkLaws.{marks-at, mask-behind, mask-at}
 use Rattle.groups.proofs.LabelLaws.{label-test}
 use Rattle.groups.proofs.GroupLaws.{label-least}

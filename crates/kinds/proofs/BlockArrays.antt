@@ -13,7 +13,8 @@ use Rattle.grid.proofs.FilledLaws.{filled-at}
 use Rattle.grid.proofs.AppendLaws.{filter-upto}
 use Rattle.record.specs.Record.{Puzzle}
 use Rattle.kinds.specs.Inside.{Held}
-use Rattle.kinds.specs.Kinds.{View, Kind, vacant, barrier, floating, inBlock, neighbour, isIn, has, block, kindCode, ownerBy, kindArray, ownerArray, kindAt, kindsOf}
+use Rattle.kinds.specs.Kinds.{View, Kind, vacant, barrier, floating, inBlock, neighbour, isIn, has, block, kindAt, kindsOf}
+use Rattle.kinds.specs.Arrays.{kindCode, ownerBy, kindArray, ownerArray}
 
 -- the kind of a cell of the grid, and what stands behind them
 module _ (p : Puzzle) (cells blocks : List ℕ) (i : ℕ) where

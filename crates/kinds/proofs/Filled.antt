@@ -14,9 +14,9 @@ use Rattle.grid.specs.Lists.{range, upto, any}
 use Rattle.grid.specs.Grid.{Grid, size, cellsOf}
 use Rattle.grid.proofs.AppendLaws.{any-more}
 use Rattle.grid.proofs.FilledLaws.{filled-none, filled-more, filled-length, filled-is}
-use Rattle.groups.specs.Groups.{maskOf}
+use Rattle.groups.specs.Arrays.{maskOf}
 use Rattle.groups.proofs.MarkLaws.{mask-at}
-use Rattle.kinds.specs.Kinds.{kindCode, ownerBy}
+use Rattle.kinds.specs.Arrays.{kindCode, ownerBy}
 use Rattle.kinds.specs.Inside.{Marks, nameAt, nameAmong, nameTwice, Met, kindIn, codesIn, unnamed, ownersIn}
 
 -- ---- marks

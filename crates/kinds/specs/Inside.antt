@@ -11,9 +11,11 @@ use Rattle.grid.specs.Grid.{Grid, neighbours, Adjacent}
 use Rattle.grid.specs.Side.{InGrid}
 use Rattle.record.specs.Record.{Puzzle}
 use Rattle.grid.specs.Cells.{square}
-use Rattle.groups.specs.Groups.{Joined, labels, noGroup, labelArray, maskOf}
+use Rattle.groups.specs.Groups.{Joined, labels}
+use Rattle.groups.specs.Arrays.{noGroup, labelArray, maskOf}
 use Rattle.groups.specs.Flood.{unlabelled, free}
-use Rattle.kinds.specs.Kinds.{Kind, vacant, barrier, floating, inBlock, neighbour, kindTouching, arrowBlock, View, kindCode, ownerBy, kindArray, ownerArray}
+use Rattle.kinds.specs.Kinds.{Kind, vacant, barrier, floating, inBlock, neighbour, kindTouching, arrowBlock, View}
+use Rattle.kinds.specs.Arrays.{kindCode, ownerBy, kindArray, ownerArray}
 use Rattle.kinds.specs.declared.Owner.{Owner}
 use Rattle.kinds.specs.declared.Owner.the-variants.{Nobody, One, Many}
 use Rattle.kinds.specs.declared.DetailedCellKind.{DetailedCellKind}

@@ -5,11 +5,11 @@ use mathlib.Core.Bool.{Bool, true, false, cond, _&&_, _||_, not}
 use mathlib.Core.List.{List, [], _∷_, map}
 use lib.Dec.{eqb}
 use lib.ListN.{getD}
-use Rattle.grid.specs.Lists.{any, filter, once, flatMap, arrayOf}
+use Rattle.grid.specs.Lists.{any, filter, once, flatMap}
 use Rattle.grid.specs.Grid.{Grid, cellsOf, neighbours, touches}
 use Rattle.record.specs.Record.{Puzzle}
 use Rattle.grid.specs.Cells.{Literal, empty, square, undecided}
-use Rattle.groups.specs.Groups.{labels, noGroup, maskOf}
+use Rattle.groups.specs.Groups.{labels}
 use Rattle.groups.specs.Arrows.{onArrow}
 
 -- empty; barrier: undecided, touches two arrow blocks or more; floating; in the arrow block f; neighbour: undecided, touches the arrow block f only
@@ -135,32 +135,3 @@ module _ (v : View) where
   fence f =
       let r = reach f in
       flatMap (λ i. fenceAt f r i (getD (v .kinds) i vacant)) (cellsOf (v .grid))
-
--- the number of a kind
-unfoldable pub kindCode : Kind → ℕ
-kindCode vacant = 0
-kindCode (inBlock f) = 1
-kindCode (neighbour f) = 2
-kindCode barrier = 3
-kindCode floating = 4
-
--- the group that a cell of this kind belongs to: its arrow block, or the floating group m
-unfoldable pub ownerBy : ℕ → Kind → ℕ
-ownerBy m vacant = noGroup
-ownerBy m (inBlock f) = f
-ownerBy m (neighbour f) = f
-ownerBy m barrier = noGroup
-ownerBy m floating = m
-
-module _ (v : View) where
-  -- the kind of each cell by its number, in an array
-  unfoldable pub kindArray : List ℕ
-  kindArray = arrayOf 0 (map (λ i. kindCode (getD (v .kinds) i vacant)) (cellsOf (v .grid)))
-
-  -- the group of each cell, in an array
-  unfoldable pub ownerArray : List ℕ
-  ownerArray = arrayOf noGroup (map (λ i. ownerBy (getD (v .floats) i 0) (getD (v .kinds) i vacant)) (cellsOf (v .grid)))
-
-  -- the reach of the arrow block f as a mark for each cell
-  unfoldable pub reachMask : ℕ → List ℕ
-  reachMask f = maskOf (v .grid) (inReach v f)

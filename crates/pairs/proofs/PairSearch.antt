@@ -13,7 +13,8 @@ use Rattle.grid.specs.Lists.{flatMap, member}
 use Rattle.grid.proofs.ListLaws.{mem-any, mem-member, at-mem}
 use Rattle.grid.specs.Cells.{square}
 use Rattle.record.specs.Problem.{arrowsFrom}
-use Rattle.groups.specs.Arrows.{onArrow, Pair, pairs, linesOf}
+use Rattle.groups.specs.Arrows.{onArrow, Pair, pairs}
+use Rattle.groups.specs.Arrays.{linesOf}
 use Rattle.growth.specs.Pairs.{reasonAt, pairAt, NextSquare, viewOn, Scene, Line, Whole}
 use Rattle.literals.specs.Buffer.{FoundAs}
 use Rattle.literals.specs.Literals.{Found, orElse, firstOf}

@@ -16,7 +16,8 @@ use Rattle.grid.proofs.ListLaws.{split, upto-mem, filter-mem}
 use Rattle.grid.proofs.AppendLaws.{filter-upto, upto-more, filter-more, filter-filter}
 use Rattle.record.specs.Record.{Puzzle}
 use Rattle.grid.specs.Cells.{square}
-use Rattle.groups.specs.Groups.{Joined, labels, labelArray, maskOf, group, names}
+use Rattle.groups.specs.Groups.{Joined, labels, group, names}
+use Rattle.groups.specs.Arrays.{labelArray, maskOf}
 use Rattle.groups.specs.Arrows.{onArrow}
 use Rattle.groups.proofs.GroupLaws.{group-mem, linked-label}
 use Rattle.groups.proofs.LabelLaws.{label-test, label-group}

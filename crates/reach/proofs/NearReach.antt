@@ -20,10 +20,12 @@ use Rattle.grid.proofs.AppendLaws.{same-test, filter-agree}
 use Rattle.grid.proofs.FilledLaws.{filled-past, filled-length}
 use Rattle.record.specs.Record.{Puzzle}
 use Rattle.grid.specs.Cells.{empty, square}
-use Rattle.groups.specs.Groups.{labels, maskOf}
+use Rattle.groups.specs.Groups.{labels}
+use Rattle.groups.specs.Arrays.{maskOf}
 use Rattle.groups.proofs.MarkLaws.{mask-at}
 use Rattle.groups.proofs.GroupLaws.{label-own, label-linked, linked-size}
-use Rattle.kinds.specs.Kinds.{Kind, vacant, barrier, floating, inBlock, neighbour, isFloating, isIn, isNeighbour, has, arrowBlock, blocksTouched, kindAt, View, view, viewWith, floatNear, inReach, reach, kindCode, ownerBy, kindArray}
+use Rattle.kinds.specs.Kinds.{Kind, vacant, barrier, floating, inBlock, neighbour, isFloating, isIn, isNeighbour, has, arrowBlock, blocksTouched, kindAt, View, view, viewWith, floatNear, inReach, reach}
+use Rattle.kinds.specs.Arrays.{kindCode, ownerBy, kindArray}
 use Rattle.kinds.specs.Inside.{Limits, puzzleWith, Held, Marks}
 use Rattle.reach.specs.Inside.{nearAmong, reachesAt}
 use Rattle.reach.specs.Chains.{cellsFrom}

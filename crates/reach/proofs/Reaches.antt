@@ -17,9 +17,10 @@ use Rattle.grid.proofs.GridLaws.{beside as side, on-grid}
 use Rattle.grid.proofs.AppendLaws.{filter-agree, any-agree}
 use Rattle.grid.proofs.FilledLaws.{filled-at, filled-same}
 use Rattle.record.specs.Record.{Puzzle}
-use Rattle.groups.specs.Groups.{maskOf}
+use Rattle.groups.specs.Arrays.{maskOf}
 use Rattle.groups.proofs.GroupLaws.{label-least}
-use Rattle.kinds.specs.Kinds.{Kind, vacant, barrier, floating, inBlock, neighbour, isFloating, isIn, isNeighbour, has, View, view, viewWith, floatNear, inReach, reach, kindCode, ownerBy, kindArray, ownerArray, reachMask}
+use Rattle.kinds.specs.Kinds.{Kind, vacant, barrier, floating, inBlock, neighbour, isFloating, isIn, isNeighbour, has, View, view, viewWith, floatNear, inReach, reach}
+use Rattle.kinds.specs.Arrays.{kindCode, ownerBy, kindArray, ownerArray, reachMask}
 use Rattle.kinds.specs.Inside.{puzzleWith, Held, Marks}
 use Rattle.reach.specs.Inside.{nearAt, nearAmong, reaches, reachesAt, Reached, Reach}
 use Rattle.kinds.proofs.Filled.{marks-same, marks-mask, mark-test}

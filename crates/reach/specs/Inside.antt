@@ -8,8 +8,9 @@ use lib.Dec.{eqb, ltb}
 use lib.ListN.{length, getD, set}
 use Rattle.grid.specs.Lists.{upto, any, filter, arrayOf}
 use Rattle.grid.specs.Grid.{Grid, neighbours}
-use Rattle.groups.specs.Groups.{maskOf}
-use Rattle.kinds.specs.Kinds.{View, floatNear, reach, reachMask}
+use Rattle.groups.specs.Arrays.{maskOf}
+use Rattle.kinds.specs.Kinds.{View, floatNear, reach}
+use Rattle.kinds.specs.Arrays.{reachMask}
 
 -- ---- reach
 

@@ -8,7 +8,7 @@ use mathlib.Core.List.{List, List·Memᴰ}
 use lib.Dec.{eqb}
 use lib.ListN.{length, getD, take}
 use Rattle.grid.specs.Lists.{any, Distinct}
-use Rattle.groups.specs.Groups.{maskOf}
+use Rattle.groups.specs.Arrays.{maskOf}
 use Rattle.kinds.specs.Kinds.{View, floatNear}
 use Rattle.kinds.specs.Inside.{Marks}
 use Rattle.reach.specs.Chains.{cellsFrom}

@@ -34,7 +34,7 @@ use Rattle.literals.specs.declared.Finding.the-variants.{Refused}
 use Rattle.literals.specs.Literals.{Found}
 use Rattle.units.specs.Units.{reason1At, reason1, reason2}
 use Rattle.reasons.specs.Reasons.{findReason}
-use Rattle.groups.specs.Arrows.{linesOf}
+use Rattle.groups.specs.Arrays.{linesOf}
 use Rattle.inconsistency.specs.Arrays.{ArrowArrays}
 use Rattle.literals.specs.Buffer.{FoundAs, findingBy, bufferBy}
 use Rattle.reasons.specs.Find.{cellsOn, reasonOn, findRefusal, findOf, bufferAfter}

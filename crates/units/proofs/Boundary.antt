@@ -18,7 +18,8 @@ use Rattle.grid.proofs.SideLaws.{beside-at, beside-off}
 use Rattle.grid.proofs.GridLaws.{beside, on-grid}
 use Rattle.grid.proofs.AppendLaws.{any-append, last-more, any-agree, filter-upto, upto-more, filter-more, filter-filter, member-filter}
 use Rattle.grid.specs.Cells.{empty, potential, square, word}
-use Rattle.groups.specs.Groups.{labels, group, labelArray}
+use Rattle.groups.specs.Groups.{labels, group}
+use Rattle.groups.specs.Arrays.{labelArray}
 use Rattle.groups.proofs.LabelLaws.{label-test, label-group}
 use Rattle.literals.specs.Literals.{each}
 use Rattle.literals.specs.Buffer.{Wrote}

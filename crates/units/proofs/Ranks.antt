@@ -17,7 +17,8 @@ use Rattle.grid.proofs.ListLaws.{split, upto-mem}
 use Rattle.grid.proofs.AppendLaws.{upto-more, filter-more}
 use Rattle.record.specs.Record.{Puzzle}
 use Rattle.grid.specs.Cells.{Literal, potential, square}
-use Rattle.groups.specs.Groups.{labels, maskOf, group, names}
+use Rattle.groups.specs.Groups.{labels, group, names}
+use Rattle.groups.specs.Arrays.{maskOf}
 use Rattle.groups.specs.Arrows.{onArrow}
 use Rattle.groups.proofs.GroupLaws.{group-mem}
 use Rattle.groups.proofs.LabelLaws.{label-test, label-group}

@@ -11,8 +11,9 @@ use Rattle.grid.specs.Lists.{filter, upto}
 use Rattle.grid.specs.Grid.{Grid}
 use Rattle.record.specs.Record.{Puzzle}
 use Rattle.grid.specs.Cells.{Literal, potential, square}
-use Rattle.groups.specs.Groups.{labels, group, labelArray, maskOf, marksOf}
-use Rattle.groups.specs.Arrows.{onArrow, Line}
+use Rattle.groups.specs.Groups.{labels, group}
+use Rattle.groups.specs.Arrows.{onArrow}
+use Rattle.groups.specs.Arrays.{Line, labelArray, maskOf, marksOf}
 use Rattle.literals.specs.Literals.{Found}
 use Rattle.units.specs.Units.{boundary}
 use Rattle.units.specs.declared.Name.{Name}

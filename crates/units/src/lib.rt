@@ -12,7 +12,7 @@ ghost use Rattle.grid.specs.Grid.{size, neighbours};
 ghost use Rattle.grid.specs.Side.{InGrid, InPlace, sized, towards};
 ghost use Rattle.record.specs.Record.{Puzzle};
 ghost use Rattle.grid.specs.Cells.{potential};
-ghost use Rattle.groups.specs.Groups.{labelArray};
+ghost use Rattle.groups.specs.Arrays.{labelArray};
 ghost use Rattle.units.specs.Units.{reason1};
 ghost use Rattle.literals.specs.Buffer.{Wrote, Fit, FoundAs};
 ghost use Rattle.units.specs.Arrays.{PotentialArrays, Listed, rankAt, Ranked, firstName, foundAt, boundaryOf, strandedAt};

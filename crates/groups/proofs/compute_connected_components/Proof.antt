@@ -6,7 +6,7 @@ use mathlib.Core.Path.{_≡_, refl, sym, _∙_}
 use lib.ListN.{length, length-replicate, take}
 use Rattle.grid.specs.Grid.{size}
 use Rattle.grid.specs.Side.{sized}
-use Rattle.groups.specs.Groups.{counts}
+use Rattle.groups.specs.Arrays.{counts}
 use Rattle.groups.specs.Flood.{Sofar}
 use Rattle.grid.proofs.SideLaws.{area}
 use Rattle.groups.proofs.FloodLaws.{sofar-none, components}

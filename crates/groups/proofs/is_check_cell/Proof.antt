@@ -1,6 +1,6 @@
 -- `groups::is_check_cell` meets its contract. Assumes nothing.
 use Rattle.grid.specs.Cells.{square, empty, potential}
-use Rattle.groups.specs.Groups.{counts}
+use Rattle.groups.specs.Arrays.{counts}
 use borrow.Author.Needs.{needs}
 use Rattle.groups.proofs.is_check_cell.Statement.{statement}
 use Rattle.groups.proofs.is_check_cell.Tie as tie

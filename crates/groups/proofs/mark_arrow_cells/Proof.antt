@@ -4,7 +4,7 @@ use native.Mathlib.Omega.{arith}
 use mathlib.Core.Path.{_≡_}
 use lib.ListN.{take}
 use borrow.Author.Needs.{needs}
-use Rattle.groups.specs.Groups.{marksOf}
+use Rattle.groups.specs.Arrays.{marksOf}
 use Rattle.groups.proofs.MarkLaws.{marks-none, marks-more}
 use Rattle.groups.proofs.mark_arrow_cells.Statement.{statement}
 use Rattle.groups.proofs.mark_arrow_cells.Tie as tie

@@ -3,7 +3,7 @@
 use Prim.Native.Nat.{_≤_, _-_}
 use mathlib.Core.Path.{_≡_}
 use native.Mathlib.Omega.{arith}
-use Rattle.groups.specs.Groups.{counts}
+use Rattle.groups.specs.Arrays.{counts}
 use Rattle.groups.specs.Flood.{Marked}
 use Rattle.groups.proofs.FloodLaws.{marked-none, marked-more}
 use Rattle.groups.proofs.mark_check_cells.Statement.{statement}

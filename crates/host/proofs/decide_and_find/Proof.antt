@@ -19,7 +19,7 @@ use Rattle.board.specs.declared.Board.{Board}
 use Rattle.kinds.specs.Inside.{puzzleWith}
 use Rattle.literals.specs.Literals.{Found}
 use Rattle.reasons.specs.Reasons.{findReason}
-use Rattle.groups.specs.Arrows.{linesOf}
+use Rattle.groups.specs.Arrays.{linesOf}
 use Rattle.reasons.proofs.BoardArrays.{board-sizes, board-arrays}
 use Rattle.host.specs.Host.{hostFinds, Opens}
 use Rattle.host.proofs.HostLaws.{opens-as, opens-area, opens-well, output-short, decisions-refused, decisions-done, reason-held}

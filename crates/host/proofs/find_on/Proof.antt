@@ -12,7 +12,7 @@ use Rattle.kinds.specs.Inside.{puzzleWith}
 use Rattle.literals.specs.Literals.{Found}
 use Rattle.reasons.specs.Reasons.{findReason}
 use Rattle.reasons.proofs.Room.{room-length}
-use Rattle.groups.specs.Arrows.{linesOf}
+use Rattle.groups.specs.Arrays.{linesOf}
 use Rattle.literals.proofs.Findings.{nothing-found, not-refused}
 use Rattle.host.proofs.FoundLaws.{Literals, found-literals, few-literals, none-told, literals-told}
 use borrow.Author.Needs.{needs}

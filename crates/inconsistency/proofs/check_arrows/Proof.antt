@@ -2,7 +2,7 @@
 -- Assumes nothing.
 use mathlib.Core.Path.{refl}
 use Rattle.grid.proofs.SideLaws.{area}
-use Rattle.groups.specs.Arrows.{linesOf}
+use Rattle.groups.specs.Arrays.{linesOf}
 use Rattle.inconsistency.proofs.Checks.{whole-of}
 use borrow.Author.Needs.{needs}
 use Rattle.inconsistency.proofs.check_arrows.Statement.{statement}

@@ -1,6 +1,6 @@
 -- The number of a kind, by cases.
 -- Assumes nothing.
-use Rattle.kinds.specs.Kinds.{kindCode}
+use Rattle.kinds.specs.Arrays.{kindCode}
 use Rattle.kinds.specs.Inside.{kindFrom}
 use borrow.Author.Needs.{needs}
 use Rattle.kinds.proofs.kind_code.Statement.{statement}

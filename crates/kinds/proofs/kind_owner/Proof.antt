@@ -1,6 +1,6 @@
 -- The arrow block of a kind, by cases.
 -- Assumes nothing.
-use Rattle.kinds.specs.Kinds.{ownerBy}
+use Rattle.kinds.specs.Arrays.{ownerBy}
 use Rattle.kinds.specs.Inside.{kindFrom}
 use borrow.Author.Needs.{needs}
 use Rattle.kinds.proofs.kind_owner.Statement.{statement}

@@ -4,7 +4,7 @@ use mathlib.Core.Path.{ap, _∙_}
 use native.Mathlib.Omega.{arith}
 use lib.ListN.{set}
 use Rattle.grid.proofs.SideLaws.{cell-small}
-use Rattle.kinds.specs.Kinds.{kindCode, ownerBy}
+use Rattle.kinds.specs.Arrays.{kindCode, ownerBy}
 use Rattle.kinds.specs.Inside.{unnamed}
 use borrow.Author.Needs.{needs}
 use Rattle.kinds.proofs.set_kind.Statement.{statement}

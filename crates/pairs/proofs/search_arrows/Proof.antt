@@ -4,7 +4,7 @@ use mathlib.Core.Path.{_≡_, refl, ap, _∙_}
 use mathlib.Core.Bool.{Bool}
 use mathlib.Core.List.{List, List·Memᴰ}
 use lib.ListN.{length, getD, take}
-use Rattle.groups.specs.Arrows.{linesOf}
+use Rattle.groups.specs.Arrays.{linesOf}
 use Rattle.growth.specs.Pairs.{reasonAt, viewOn}
 use Rattle.shift.specs.Shift.{Work}
 use Rattle.literals.proofs.Findings.{found-none, nothing-found, not-refused}

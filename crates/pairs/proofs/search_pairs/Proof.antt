@@ -1,6 +1,7 @@
 use mathlib.Core.Path.{refl}
 use Rattle.grid.specs.Lists.{flatMap}
-use Rattle.groups.specs.Arrows.{pairs, linesOf}
+use Rattle.groups.specs.Arrows.{pairs}
+use Rattle.groups.specs.Arrays.{linesOf}
 use Rattle.kinds.specs.Kinds.{view, viewWith}
 use Rattle.growth.specs.Pairs.{reasonAt, viewOn}
 use Rattle.literals.specs.Literals.{firstOf}

@@ -1,0 +1,51 @@
+-- The arrays of the code: the groups of all cells, marks of cells, and the arrows.
+-- Assumes nothing.
+use Prim.Native.Nat.{ℕ, _≤_, _<_}
+use mathlib.Core.Path.{_≡_}
+use mathlib.Core.Bool.{Bool, cond}
+use mathlib.Core.List.{List, map}
+use lib.ListN.{length, getD, take}
+use Rattle.grid.specs.Grid.{Grid, cellsOf}
+use Rattle.grid.specs.Lists.{upto, member, arrayOf}
+use Rattle.grid.specs.Cells.{square, potential}
+use Rattle.record.specs.Problem.{arrowsFrom}
+use Rattle.groups.specs.Groups.{labels}
+
+-- the number that stands for no group
+abbrev pub noGroup : ℕ
+noGroup = 1024
+
+-- the first cell of the group of cell i, or that it has none
+unfoldable pub labelAt : Grid → (ℕ → Bool) → ℕ → ℕ
+labelAt g p i = cond (p i) (getD (labels g p) i 0) noGroup
+
+-- the same for every cell, in an array
+unfoldable pub labelArray : Grid → (ℕ → Bool) → List ℕ
+labelArray g p = arrayOf noGroup (map (labelAt g p) (cellsOf g))
+
+-- the cells that count: for potential groups those that aren't empty, for blocks the squares
+unfoldable pub counts : Bool → List ℕ → ℕ → Bool
+counts isPotential cells i = cond isPotential (potential cells i) (square cells i)
+
+-- 1 for each cell that passes the test and 0 for each other, in an array
+unfoldable pub maskOf : Grid → (ℕ → Bool) → List ℕ
+maskOf g p = arrayOf 0 (map (λ i. cond (p i) 1 0) (cellsOf g))
+
+-- 1 for each cell of the list and 0 for each other, in an array
+unfoldable pub marksOf : List ℕ → List ℕ
+marksOf l = map (λ i. cond (member i l) 1 0) (upto 1024)
+
+-- the cells of all arrows stand in the first places of an array
+pub record Line (line : List ℕ) (total : ℕ) : Type 0 where
+  pub long : length line ≡ 1024
+  pub within : total ≤ 1024
+  pub cells : (k : ℕ) → k < total → getD line k 0 < 1024
+
+-- an array of cells
+pub record CellArray (a : List ℕ) : Type 0 where
+  pub long : length a ≡ 1024
+  pub cells : (k : ℕ) → getD a k 0 < 1024
+
+-- all arrows as they stand in arrays
+abbrev pub linesOf : List ℕ → List ℕ → ℕ → List (List ℕ)
+linesOf arrows ends count = arrowsFrom arrows 0 (take count ends)
