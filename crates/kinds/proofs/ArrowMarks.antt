@@ -73,8 +73,8 @@ module _ (p : Puzzle) (small : size (p .grid) ≤ 1024) (cells : List ℕ) where
   g = p .grid
 
   -- the name of the block of a square
-  abbrev label : ℕ → ℕ
-  label i = getD (labels g (square cells)) i 0
+  abbrev blockName : ℕ → ℕ
+  blockName i = getD (labels g (square cells)) i 0
 
   -- the block named f has an arrow cell
   abbrev arrowed : ℕ → Bool
@@ -82,7 +82,7 @@ module _ (p : Puzzle) (small : size (p .grid) ≤ 1024) (cells : List ℕ) where
 
   module _ {blocks line : List ℕ} {total : ℕ} {onarrow : List ℕ} (named : blocks ≡ labelArray g (square cells)) (fits : Line line total) (listed : onarrow ≡ marksOf (take total line)) (marked : onarrow ≡ maskOf g (onArrow (p .arrows))) where
     -- a cell is in the block named f
-    block-test : (i f : ℕ) → i < size g → f < 1024 → eqb (getD blocks i 0) f ≡ (square cells i && eqb (label i) f)
+    block-test : (i f : ℕ) → i < size g → f < 1024 → eqb (getD blocks i 0) f ≡ (square cells i && eqb (blockName i) f)
     block-test i f l h = ap (λ (b : List ℕ). eqb (getD b i 0) f) named ∙ label-test g (square cells) i f l h
 
     among-is : (f : ℕ) → f < 1024 → nameAmong blocks line total f ≡ arrowed f
@@ -99,7 +99,7 @@ module _ (p : Puzzle) (small : size (p .grid) ≤ 1024) (cells : List ℕ) where
         back s =
             let r = any-mem _ (upto (size g)) s in
             let l = upto-mem (size g) (r .1) in
-            let q = and-true (square cells (r .0) && eqb (label (r .0)) f) _ (r .2) in
+            let q = and-true (square cells (r .0) && eqb (blockName (r .0)) f) _ (r .2) in
             let k = on-listed g (p .arrows) fits listed marked (r .0) l (omega arith) (q .1) in
             mem-any _ (upto total) (mem-upto total (k .1)) (rw (k .2) (block-test (r .0) f l h ∙ q .0))
 
@@ -107,10 +107,10 @@ module _ (p : Puzzle) (small : size (p .grid) ≤ 1024) (cells : List ℕ) where
     unfolding arrowBlock cellsOf
     arrowed-out m h = so-false (arrowed m) (λ s.
         let r = any-mem _ (upto (size g)) s in
-        let q = and-true (square cells (r .0) && eqb (label (r .0)) m) _ (r .2) in
+        let q = and-true (square cells (r .0) && eqb (blockName (r .0)) m) _ (r .2) in
         let q′ = and-true (square cells (r .0)) _ (q .0) in
         let l = upto-mem (size g) (r .1) in
-        omega (arith, label-least g (square cells) (r .0) (r .0) l l (here (q′ .0)), eqb-true (label (r .0)) m (q′ .1)))
+        omega (arith, label-least g (square cells) (r .0) (r .0) l l (here (q′ .0)), eqb-true (blockName (r .0)) m (q′ .1)))
 
     -- the marks are those of the arrow blocks
     pub arrow-mask : {A : List ℕ} → Marks A (nameAmong blocks line total) → A ≡ maskOf g arrowed

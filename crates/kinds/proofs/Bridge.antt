@@ -85,8 +85,8 @@ module _ (set : Setting) where
   un< c s = omega (arith, un-below cells c s, valid .long)
 
   -- the name of the block of a square
-  abbrev pub blockLabel : ℕ → ℕ
-  blockLabel i = getD (labels grid (square cells)) i 0
+  abbrev pub blockName : ℕ → ℕ
+  blockName i = getD (labels grid (square cells)) i 0
 
   -- the kinds of all cells
   abbrev pub kinds : List Kind
@@ -102,7 +102,7 @@ module _ (set : Setting) where
 
   -- the arrow blocks around a cell, with repetitions
   abbrev pub around : ℕ → List ℕ
-  around i = map blockLabel (filter (λ j. square cells j && arrowed (blockLabel j)) (neighbours grid i))
+  around i = map blockName (filter (λ j. square cells j && arrowed (blockName j)) (neighbours grid i))
 
   -- the arrow blocks around a cell, each once
   abbrev pub listed : ℕ → List ℕ
@@ -111,11 +111,11 @@ module _ (set : Setting) where
   -- what a kind says of the cell
   pub kind-vacant : (i : ℕ) → kind i ≡ vacant → So (empty cells i)
   unfolding kindAt
-  kind-vacant i e = vacant-of (empty cells i) (square cells i) (arrowed (blockLabel i)) (blockLabel i) (listed i) e
+  kind-vacant i e = vacant-of (empty cells i) (square cells i) (arrowed (blockName i)) (blockName i) (listed i) e
 
   pub kind-in-block : (i x : ℕ) → kind i ≡ inBlock x → So (square cells i)
   unfolding kindAt isIn
-  kind-in-block i x e = in-of (empty cells i) (square cells i) (arrowed (blockLabel i)) (blockLabel i) (listed i) x (subst (λ z. So (isIn x z)) (sym e) (eq-eqb x x refl)) .0
+  kind-in-block i x e = in-of (empty cells i) (square cells i) (arrowed (blockName i)) (blockName i) (listed i) x (subst (λ z. So (isIn x z)) (sym e) (eq-eqb x x refl)) .0
 
   has-so : (p : Kind → Bool) → ¬ So (p vacant) → (i : ℕ) → So (has p kinds i) → (i < size grid) × So (p (kind i))
   unfolding has
@@ -143,56 +143,56 @@ module _ (set : Setting) where
   dec-reach = reach-decided (partialOf set) (size grid) (dec-adjacent grid) (λ c. dec-so (onArrow arrows c)) (λ c. dec-so (square cells c)) (λ c. dec-so (undecided cells c)) sq< un<
 
   -- a name is an arrow block's
-  arrowed-so : (f : ℕ) → So (arrowed f) → (d : ℕ) × So (square cells d) × So (onArrow arrows d) × (blockLabel d ≡ f)
+  arrowed-so : (f : ℕ) → So (arrowed f) → (d : ℕ) × So (square cells d) × So (onArrow arrows d) × (blockName d ≡ f)
   unfolding arrowBlock
   arrowed-so f h =
       let r = any-mem _ (cellsOf grid) h in
-      let q = and-true (square cells (r .0) && eqb (blockLabel (r .0)) f) _ (r .2) in
+      let q = and-true (square cells (r .0) && eqb (blockName (r .0)) f) _ (r .2) in
       let q′ = and-true (square cells (r .0)) _ (q .0) in
       (r .0, q′ .0, q .1, eqb-true _ _ (q′ .1))
 
-  so-arrowed : (f d : ℕ) → So (square cells d) → So (onArrow arrows d) → blockLabel d ≡ f → So (arrowed f)
+  so-arrowed : (f d : ℕ) → So (square cells d) → So (onArrow arrows d) → blockName d ≡ f → So (arrowed f)
   unfolding arrowBlock cellsOf
   so-arrowed f d s a e = mem-any _ (cellsOf grid) (mem-upto (size grid) (sq< d s)) (true-and (true-and s (eq-eqb _ _ e)) a)
 
   -- a square's block has an arrow cell
-  pub arrowed-in : (c : ℕ) → So (square cells c) → So (arrowed (blockLabel c)) → InArrow (partialOf set) c
-  arrowed-in c s h = let r = arrowed-so (blockLabel c) h in (r .0, r .2, block-labels .same (r .0) c (r .1) s (r .3))
+  pub arrowed-in : (c : ℕ) → So (square cells c) → So (arrowed (blockName c)) → InArrow (partialOf set) c
+  arrowed-in c s h = let r = arrowed-so (blockName c) h in (r .0, r .2, block-labels .same (r .0) c (r .1) s (r .3))
 
-  pub in-arrowed : (c : ℕ) → InArrow (partialOf set) c → So (arrowed (blockLabel c))
-  in-arrowed c (d, a, l) = so-arrowed (blockLabel c) d (linked-start l) a (block-labels .linked d c l)
+  pub in-arrowed : (c : ℕ) → InArrow (partialOf set) c → So (arrowed (blockName c))
+  in-arrowed c (d, a, l) = so-arrowed (blockName c) d (linked-start l) a (block-labels .linked d c l)
 
   -- what the kind of a cell of an arrow block says
-  pub kind-arrow : (i x : ℕ) → kind i ≡ inBlock x → InArrow (partialOf set) i × (blockLabel i ≡ x)
+  pub kind-arrow : (i x : ℕ) → kind i ≡ inBlock x → InArrow (partialOf set) i × (blockName i ≡ x)
   unfolding kindAt isIn
   kind-arrow i x e =
-      let q = in-of (empty cells i) (square cells i) (arrowed (blockLabel i)) (blockLabel i) (listed i) x (subst (λ z. So (isIn x z)) (sym e) (eq-eqb x x refl)) in
+      let q = in-of (empty cells i) (square cells i) (arrowed (blockName i)) (blockName i) (listed i) x (subst (λ z. So (isIn x z)) (sym e) (eq-eqb x x refl)) in
       (arrowed-in i (q .0) (q .1), q .2)
 
   -- the blocks around an undecided cell
-  pub around-so : (i f : ℕ) → i < size grid → List·Memᴰ f (around i) → (d : ℕ) × So (onArrow arrows d) × Touch (partialOf set) d i × (blockLabel d ≡ f) × So (square cells d)
+  pub around-so : (i f : ℕ) → i < size grid → List·Memᴰ f (around i) → (d : ℕ) × So (onArrow arrows d) × Touch (partialOf set) d i × (blockName d ≡ f) × So (square cells d)
   around-so i f l m =
-      let r = Memᴰ·of-map blockLabel _ m in
-      let q = filter-mem (λ j. square cells j && arrowed (blockLabel j)) (neighbours grid i) (r .1) in
+      let r = Memᴰ·of-map blockName _ m in
+      let q = filter-mem (λ j. square cells j && arrowed (blockName j)) (neighbours grid i) (r .1) in
       let q′ = and-true (square cells (r .0)) _ (q .1) in
-      let w = arrowed-so (blockLabel (r .0)) (q′ .1) in
+      let w = arrowed-so (blockName (r .0)) (q′ .1) in
       (w .0, w .2, (r .0, (l, q .0), block-labels .same (w .0) (r .0) (w .1) (q′ .0) (w .3)), w .3 ∙ r .2, w .1)
 
-  pub so-around : (i d : ℕ) → So (onArrow arrows d) → Touch (partialOf set) d i → List·Memᴰ (blockLabel d) (around i)
+  pub so-around : (i d : ℕ) → So (onArrow arrows d) → Touch (partialOf set) d i → List·Memᴰ (blockName d) (around i)
   so-around i d a (y, e, l) = subst (λ x. List·Memᴰ x (around i)) (sym (block-labels .linked d y l))
-      (Memᴰ·map blockLabel (mem-filter (λ j. square cells j && arrowed (blockLabel j)) (neighbours grid i) (e .1) (true-and (linked-end l) (in-arrowed y (d, a, l)))))
+      (Memᴰ·map blockName (mem-filter (λ j. square cells j && arrowed (blockName j)) (neighbours grid i) (e .1) (true-and (linked-end l) (in-arrowed y (d, a, l)))))
 
   -- the three kinds
-  pub in-blk : (a i : ℕ) → So (square cells a) → So (has (isIn (blockLabel a)) kinds i) → Block (partialOf set) a i
+  pub in-blk : (a i : ℕ) → So (square cells a) → So (has (isIn (blockName a)) kinds i) → Block (partialOf set) a i
   unfolding kindAt isIn
   in-blk a i sa h =
-      let r = has-so (isIn (blockLabel a)) false≢true i h in
-      let q = in-of (empty cells i) (square cells i) (arrowed (blockLabel i)) (blockLabel i) (listed i) (blockLabel a) (r .1) in
+      let r = has-so (isIn (blockName a)) false≢true i h in
+      let q = in-of (empty cells i) (square cells i) (arrowed (blockName i)) (blockName i) (listed i) (blockName a) (r .1) in
       block-labels .same a i sa (q .0) (sym (q .2))
 
-  pub blk-in : (a i : ℕ) → So (onArrow arrows a) → Block (partialOf set) a i → So (has (isIn (blockLabel a)) kinds i)
+  pub blk-in : (a i : ℕ) → So (onArrow arrows a) → Block (partialOf set) a i → So (has (isIn (blockName a)) kinds i)
   unfolding kindAt isIn
-  blk-in a i ar l = so-has (isIn (blockLabel a)) i (sq< i (linked-end l))
+  blk-in a i ar l = so-has (isIn (blockName a)) i (sq< i (linked-end l))
       (rw (so-false (empty cells i) (sq-not-em cells i (linked-end l)), linked-end l, in-arrowed i (a, ar, l)) (eq-eqb _ _ (sym (block-labels .linked a i l))))
 
   pub listed-mem : (i f : ℕ) → List·Memᴰ f (listed i) → List·Memᴰ f (around i)
@@ -218,30 +218,30 @@ module _ (set : Setting) where
   un-em-false i u = so-false (empty cells i) (un-not-em cells i u)
 
   -- beside the arrow block of a only
-  pub beside-nbr : (a i : ℕ) → So (square cells a) → So (has (isNeighbour (blockLabel a)) kinds i) → Neighbour (partialOf set) a i
+  pub beside-nbr : (a i : ℕ) → So (square cells a) → So (has (isNeighbour (blockName a)) kinds i) → Neighbour (partialOf set) a i
   unfolding kindAt isNeighbour
   beside-nbr a i sa h =
-      let r = has-so (isNeighbour (blockLabel a)) false≢true i h in
-      let q = beside-of (empty cells i) (square cells i) (arrowed (blockLabel i)) (blockLabel i) (listed i) (blockLabel a) (r .1) in
-      let w = around-so i (blockLabel a) (r .0) (listed-mem i (blockLabel a) (subst (λ z. List·Memᴰ (blockLabel a) z) (sym (q .2)) (List·Memᴰ·head refl))) in (
+      let r = has-so (isNeighbour (blockName a)) false≢true i h in
+      let q = beside-of (empty cells i) (square cells i) (arrowed (blockName i)) (blockName i) (listed i) (blockName a) (r .1) in
+      let w = around-so i (blockName a) (r .0) (listed-mem i (blockName a) (subst (λ z. List·Memᴰ (blockName a) z) (sym (q .2)) (List·Memᴰ·head refl))) in (
         undecided-so i (q .0) (q .1),
         near (w .0) (w .2) (block-labels .same a (w .0) sa (w .4) (sym (w .3))),
         λ (d, ad, nb, (y, e, l)). nb (block-labels .same a d sa (linked-start l)
-            (sym (List·Memᴰ·eq-of-singleton (subst (λ z. List·Memᴰ (blockLabel d) z) (q .2) (mem-listed i (blockLabel d) (so-around i d ad (y, e, l))))))),
+            (sym (List·Memᴰ·eq-of-singleton (subst (λ z. List·Memᴰ (blockName d) z) (q .2) (mem-listed i (blockName d) (so-around i d ad (y, e, l))))))),
       )
     where
       near : (d : ℕ) → Touch (partialOf set) d i → Block (partialOf set) a d → Touch (partialOf set) a i
       near d (y, e, l) k = (y, e, linked-trans k l)
 
-  pub nbr-beside : (a i : ℕ) → So (onArrow arrows a) → Neighbour (partialOf set) a i → So (has (isNeighbour (blockLabel a)) kinds i)
+  pub nbr-beside : (a i : ℕ) → So (onArrow arrows a) → Neighbour (partialOf set) a i → So (has (isNeighbour (blockName a)) kinds i)
   unfolding kindAt isNeighbour blocksTouched kindTouching
-  nbr-beside a i ar (u, t, nf) = so-has (isNeighbour (blockLabel a)) i (un< i u)
-      (rw (un-em-false i u, un-sq-false i u, once-one (around i) (blockLabel a) (so-around i a ar t) all-a) (eq-eqb (blockLabel a) (blockLabel a) refl))
+  nbr-beside a i ar (u, t, nf) = so-has (isNeighbour (blockName a)) i (un< i u)
+      (rw (un-em-false i u, un-sq-false i u, once-one (around i) (blockName a) (so-around i a ar t) all-a) (eq-eqb (blockName a) (blockName a) refl))
     where
-      all-a : (x : ℕ) → List·Memᴰ x (around i) → x ≡ blockLabel a
+      all-a : (x : ℕ) → List·Memᴰ x (around i) → x ≡ blockName a
       all-a x m = let w = around-so i x (un< i u) m in go (w .0) (w .1) (w .2) (w .3) (decisions .blk a (w .0))
         where
-          go : (d : ℕ) → So (onArrow arrows d) → Touch (partialOf set) d i → blockLabel d ≡ x → Dec (Block (partialOf set) a d) → x ≡ blockLabel a
+          go : (d : ℕ) → So (onArrow arrows d) → Touch (partialOf set) d i → blockName d ≡ x → Dec (Block (partialOf set) a d) → x ≡ blockName a
           go d ad t e (yes b) = sym e ∙ sym (block-labels .linked a d b)
           go d ad t e (no b) = absurd (nf (d, ad, b, t))
 
@@ -253,17 +253,17 @@ module _ (set : Setting) where
       r : (i < size grid) × So (isFloating (kind i))
       r = has-so isFloating false≢true i h
 
-      q : (empty cells i ≡ false) × ((So (square cells i) × (arrowed (blockLabel i) ≡ false)) ⊎ ((square cells i ≡ false) × (listed i ≡ [])))
-      q = floating-of (empty cells i) (square cells i) (arrowed (blockLabel i)) (blockLabel i) (listed i) (r .1)
+      q : (empty cells i ≡ false) × ((So (square cells i) × (arrowed (blockName i) ≡ false)) ⊎ ((square cells i ≡ false) × (listed i ≡ [])))
+      q = floating-of (empty cells i) (square cells i) (arrowed (blockName i)) (blockName i) (listed i) (r .1)
 
-      go : empty cells i ≡ false → (So (square cells i) × (arrowed (blockLabel i) ≡ false)) ⊎ ((square cells i ≡ false) × (listed i ≡ [])) → Floating (partialOf set) i
+      go : empty cells i ≡ false → (So (square cells i) × (arrowed (blockName i) ≡ false)) ⊎ ((square cells i ≡ false) × (listed i ≡ [])) → Floating (partialOf set) i
       go e (inl (s, n)) = inl (s, λ w. false≢true (sym n ∙ in-arrowed i w))
-      go e (inr (s, n)) = inr (undecided-so i e s, λ (d, ad, t). List·Memᴰ·not-nil (subst (λ z. List·Memᴰ (blockLabel d) z) n (mem-listed i (blockLabel d) (so-around i d ad t))))
+      go e (inr (s, n)) = inr (undecided-so i e s, λ (d, ad, t). List·Memᴰ·not-nil (subst (λ z. List·Memᴰ (blockName d) z) n (mem-listed i (blockName d) (so-around i d ad t))))
 
   pub so-floating : (i : ℕ) → Floating (partialOf set) i → So (has isFloating kinds i)
   unfolding kindAt isFloating blocksTouched kindTouching
   so-floating i (inl (s, n)) = so-has isFloating i (sq< i s)
-      (rw (so-false (empty cells i) (sq-not-em cells i s), s, so-false (arrowed (blockLabel i)) (λ z. n (arrowed-in i s z))))
+      (rw (so-false (empty cells i) (sq-not-em cells i s), s, so-false (arrowed (blockName i)) (λ z. n (arrowed-in i s z))))
   so-floating i (inr (u, n)) = so-has isFloating i (un< i u)
       (rw (un-em-false i u, un-sq-false i u, once-nil (around i) (λ x m. let w = around-so i x (un< i u) m in n (w .0, w .1, w .2))))
 

@@ -20,7 +20,7 @@ use Rattle.grid.specs.Cells.{Agrees, empty, square, undecided}
 use Rattle.grid.proofs.CellLaws.{sq-not-em}
 use Rattle.groups.specs.Groups.{labels}
 use Rattle.groups.specs.Arrows.{onArrow}
-use Rattle.kinds.proofs.Bridge.{block-labels, float-labels, decisions, sq<, un<, blockLabel, kinds, kind, in-blk, blk-in, beside-nbr, nbr-beside, floating-so, so-floating, in-arrowed}
+use Rattle.kinds.proofs.Bridge.{block-labels, float-labels, decisions, sq<, un<, blockName, kinds, kind, in-blk, blk-in, beside-nbr, nbr-beside, floating-so, so-floating, in-arrowed}
 use Rattle.kinds.proofs.BlockArrays.{kind-get}
 use Rattle.kinds.specs.Kinds.{Kind, vacant, inBlock, isFloating, isIn, isNeighbour, kindAt, has, View, view, viewWith, block, floatNear, inReach, reach, disturbing, fenceAt, fence}
 use Rattle.kinds.specs.Meaning.{PartialBoard, Block, InArrow, Touch, Floating, Reach, Setting, partialOf}
@@ -43,10 +43,6 @@ module _ (set : Setting) where
   abbrev pub v : View
   v = view puzzle cells
 
-  -- the name of the block of a square
-  abbrev name : ℕ → ℕ
-  name = blockLabel set
-
   -- the kinds of all cells
   abbrev ks : List Kind
   ks = kinds set
@@ -58,32 +54,32 @@ module _ (set : Setting) where
   float′ i j = linked-map (λ x l. so-floating set x (linked-end l))
 
   -- the test of the reach
-  pub reach-so : (a i : ℕ) → So (square cells a) → So (inReach v (name a) i) → Reach B a i
+  pub reach-so : (a i : ℕ) → So (square cells a) → So (inReach v (blockName set a) i) → Reach B a i
   unfolding inReach view viewWith floatNear
-  reach-so a i sa h = go (or-so {a = has (isIn (name a)) ks i || has (isNeighbour (name a)) ks i} h)
+  reach-so a i sa h = go (or-so {a = has (isIn (blockName set a)) ks i || has (isNeighbour (blockName set a)) ks i} h)
     where
-      two : So (has (isIn (name a)) ks i) ⊎ So (has (isNeighbour (name a)) ks i) → Reach B a i
+      two : So (has (isIn (blockName set a)) ks i) ⊎ So (has (isNeighbour (blockName set a)) ks i) → Reach B a i
       two (inl k) = inl (in-blk set a i sa k)
       two (inr k) = inr (inl (beside-nbr set a i sa k))
 
-      go : So (has (isIn (name a)) ks i || has (isNeighbour (name a)) ks i) ⊎ So (has isFloating ks i && floatNear v (name a) (getD (labels grid (has isFloating ks)) i 0)) → Reach B a i
-      go (inl k) = two (or-so {a = has (isIn (name a)) ks i} k)
+      go : So (has (isIn (blockName set a)) ks i || has (isNeighbour (blockName set a)) ks i) ⊎ So (has isFloating ks i && floatNear v (blockName set a) (getD (labels grid (has isFloating ks)) i 0)) → Reach B a i
+      go (inl k) = two (or-so {a = has (isIn (blockName set a)) ks i} k)
       go (inr k) =
           let q = and-true (has isFloating ks i) _ k in
           let r = any-mem _ (cellsOf grid) (q .1) in
-          let s = and-true (has (isNeighbour (name a)) ks (r .0)) _ (r .2) in
+          let s = and-true (has (isNeighbour (blockName set a)) ks (r .0)) _ (r .2) in
           let t = any-mem _ (neighbours grid (r .0)) (s .1) in
           let u = and-true (has isFloating ks (t .0)) _ (t .2) in
           let nb = beside-nbr set a (r .0) sa (s .0) in
           inr (inr (r .0, t .0, nb, (un< set (r .0) (nb .0), t .1), float (t .0) i (float-labels set .same (t .0) i (u .0) (q .0) (eqb-true _ _ (u .1)))))
 
-  pub so-reach : (a i : ℕ) → So (onArrow arrows a) → Reach B a i → So (inReach v (name a) i)
+  pub so-reach : (a i : ℕ) → So (onArrow arrows a) → Reach B a i → So (inReach v (blockName set a) i)
   unfolding inReach view viewWith floatNear cellsOf
   so-reach a i ar (inl b) = so-orl _ (so-orl _ (blk-in set a i ar b))
-  so-reach a i ar (inr (inl m)) = so-orl _ (so-orr (has (isIn (name a)) ks i) (nbr-beside set a i ar m))
+  so-reach a i ar (inr (inl m)) = so-orl _ (so-orr (has (isIn (blockName set a)) ks i) (nbr-beside set a i ar m))
   so-reach a i ar (inr (inr (m, f, nb, e, l))) =
       let k = float′ f i l in
-      so-orr (has (isIn (name a)) ks i || has (isNeighbour (name a)) ks i) (true-and (linked-end k)
+      so-orr (has (isIn (blockName set a)) ks i || has (isNeighbour (blockName set a)) ks i) (true-and (linked-end k)
       (mem-any _ (cellsOf grid) (mem-upto (size grid) (un< set m (nb .0)))
       (true-and (nbr-beside set a m ar nb)
       (mem-any _ (neighbours grid m) (e .1) (true-and (linked-start k) (eq-eqb _ _ (float-labels set .linked f i k)))))))
@@ -98,43 +94,43 @@ module _ (set : Setting) where
       go (inr u) = un< set i (u .0)
 
   -- the list of the reach
-  pub in-reach : (a i : ℕ) → So (onArrow arrows a) → Reach B a i → List·Memᴰ i (reach v (name a))
+  pub in-reach : (a i : ℕ) → So (onArrow arrows a) → Reach B a i → List·Memᴰ i (reach v (blockName set a))
   unfolding reach cellsOf view viewWith
-  in-reach a i ar r = mem-filter (inReach v (name a)) (cellsOf grid) (mem-upto (size grid) (reach< a i r)) (so-reach a i ar r)
+  in-reach a i ar r = mem-filter (inReach v (blockName set a)) (cellsOf grid) (mem-upto (size grid) (reach< a i r)) (so-reach a i ar r)
 
-  pub reach-in : (a i : ℕ) → So (square cells a) → List·Memᴰ i (reach v (name a)) → Reach B a i
+  pub reach-in : (a i : ℕ) → So (square cells a) → List·Memᴰ i (reach v (blockName set a)) → Reach B a i
   unfolding reach view viewWith
-  reach-in a i sa m = reach-so a i sa (filter-mem (inReach v (name a)) (cellsOf grid) m .1)
+  reach-in a i sa m = reach-so a i sa (filter-mem (inReach v (blockName set a)) (cellsOf grid) m .1)
 
   -- the list of the block
-  pub in-block : (a i : ℕ) → So (onArrow arrows a) → Block B a i → List·Memᴰ i (block v (name a))
+  pub in-block : (a i : ℕ) → So (onArrow arrows a) → Block B a i → List·Memᴰ i (block v (blockName set a))
   unfolding block cellsOf view viewWith
-  in-block a i ar b = mem-filter (has (isIn (name a)) ks) (cellsOf grid) (mem-upto (size grid) (sq< set i (linked-end b))) (blk-in set a i ar b)
+  in-block a i ar b = mem-filter (has (isIn (blockName set a)) ks) (cellsOf grid) (mem-upto (size grid) (sq< set i (linked-end b))) (blk-in set a i ar b)
 
-  pub block-in : (a i : ℕ) → So (square cells a) → List·Memᴰ i (block v (name a)) → Block B a i
+  pub block-in : (a i : ℕ) → So (square cells a) → List·Memᴰ i (block v (blockName set a)) → Block B a i
   unfolding block view viewWith
-  block-in a i sa m = in-blk set a i sa (filter-mem (has (isIn (name a)) ks) (cellsOf grid) m .1)
+  block-in a i sa m = in-blk set a i sa (filter-mem (has (isIn (blockName set a)) ks) (cellsOf grid) m .1)
 
   -- their lengths are counts
-  pub length-reach : (a : ℕ) → So (onArrow arrows a) → So (square cells a) → (dR : (c : ℕ) → Dec (Reach B a c)) → length (reach v (name a)) ≡ count dR (size grid)
+  pub length-reach : (a : ℕ) → So (onArrow arrows a) → So (square cells a) → (dR : (c : ℕ) → Dec (Reach B a c)) → length (reach v (blockName set a)) ≡ count dR (size grid)
   unfolding reach cellsOf view viewWith
-  length-reach a ar sa dR = length-filter (inReach v (name a)) (size grid) dR (λ i _. reach-so a i sa) (λ i _. so-reach a i ar)
+  length-reach a ar sa dR = length-filter (inReach v (blockName set a)) (size grid) dR (λ i _. reach-so a i sa) (λ i _. so-reach a i ar)
 
-  pub length-block : (a : ℕ) → So (onArrow arrows a) → So (square cells a) → length (block v (name a)) ≡ count (decisions set .blk a) (size grid)
+  pub length-block : (a : ℕ) → So (onArrow arrows a) → So (square cells a) → length (block v (blockName set a)) ≡ count (decisions set .blk a) (size grid)
   unfolding block cellsOf view viewWith
-  length-block a ar sa = length-filter (has (isIn (name a)) ks) (size grid) (decisions set .blk a) (λ i _. in-blk set a i sa) (λ i _. blk-in set a i ar)
+  length-block a ar sa = length-filter (has (isIn (blockName set a)) ks) (size grid) (decisions set .blk a) (λ i _. in-blk set a i sa) (λ i _. blk-in set a i ar)
 
   -- the kind of an empty cell, and of a cell of an arrow block
   pub kind-empty : (i : ℕ) → So (empty cells i) → kind set i ≡ vacant
   unfolding kindAt
   kind-empty i z = rw z
 
-  pub kind-in : (i : ℕ) → InArrow B i → kind set i ≡ inBlock (name i)
+  pub kind-in : (i : ℕ) → InArrow B i → kind set i ≡ inBlock (blockName set i)
   unfolding kindAt
   kind-in i w = rw (so-false (empty cells i) (sq-not-em cells i (linked-end (w .2))), linked-end (w .2), in-arrowed set i w)
 
   -- a board that agrees with the fence
-  pub fenced : (full : List ℕ) (a : ℕ) → So (onArrow arrows a) → So (square cells a) → Agrees full (fence v (name a)) → Fenced B (λ c. So (square full c)) a
+  pub fenced : (full : List ℕ) (a : ℕ) → So (onArrow arrows a) → So (square cells a) → Agrees full (fence v (blockName set a)) → Fenced B (λ c. So (square full c)) a
   unfolding fence fenceAt view viewWith cellsOf disturbing square
   fenced full a ar sa ag = record {
     out = λ r e rr ad z. out r e rr ad z (kind-get puzzle cells (labels grid (square cells)) e (adj-sym grid r e ad .0) ∙ kind-empty e z);
@@ -142,24 +138,24 @@ module _ (set : Setting) where
   }
     where
       R : List ℕ
-      R = reach v (name a)
+      R = reach v (blockName set a)
 
-      at : (i w : ℕ) → i < size grid → List·Memᴰ (i, w) (fenceAt v (name a) R i (getD ks i vacant)) → getD full i 0 ≡ w
-      at i w l m = ag i w (mem-flatMap (λ k. fenceAt v (name a) R k (getD ks k vacant)) (cellsOf grid) (mem-upto (size grid) l) m)
+      at : (i w : ℕ) → i < size grid → List·Memᴰ (i, w) (fenceAt v (blockName set a) R i (getD ks i vacant)) → getD full i 0 ≡ w
+      at i w l m = ag i w (mem-flatMap (λ k. fenceAt v (blockName set a) R k (getD ks k vacant)) (cellsOf grid) (mem-upto (size grid) l) m)
 
       out : (r e : ℕ) → Reach B a r → Adjacent grid r e → So (empty cells e) → getD ks e vacant ≡ vacant → ¬ So (square full e)
       out r e rr ad z k =
-          let h : getD full e 0 ≡ 0 = at e 0 (adj-sym grid r e ad .0) (subst (λ q. List·Memᴰ (e, 0) (fenceAt v (name a) R e q)) (sym k)
+          let h : getD full e 0 ≡ 0 = at e 0 (adj-sym grid r e ad .0) (subst (λ q. List·Memᴰ (e, 0) (fenceAt v (blockName set a) R e q)) (sym k)
           (rw (adjacent-touches grid R e r (adj-sym grid r e ad) (in-reach a r ar rr)) (List·Memᴰ·head refl))) in
           λ s. omega (arith, eqb-true)
 
-      far : (r u d x : ℕ) → Reach B a r → Adjacent grid r u → So (undecided cells u) → So (onArrow arrows d) → ¬ Block B a d → Touch B d u → Block B d x → getD ks x vacant ≡ inBlock (name x) → So (square full x)
+      far : (r u d x : ℕ) → Reach B a r → Adjacent grid r u → So (undecided cells u) → So (onArrow arrows d) → ¬ Block B a d → Touch B d u → Block B d x → getD ks x vacant ≡ inBlock (blockName set x) → So (square full x)
       far r u d x rr ru uu dd nb (y, uy, dy) dx k =
-          let dn : name d ≡ name x = block-labels set .linked d x dx in
-          let diff : So (not (eqb (name x) (name a))) = so-not _ (λ h. nb (block-labels set .same a d sa (linked-start dx) (sym (eqb-true _ _ h) ∙ sym dn))) in
-          let riv : So (disturbing v R (name x)) =
+          let dn : blockName set d ≡ blockName set x = block-labels set .linked d x dx in
+          let diff : So (not (eqb (blockName set x) (blockName set a))) = so-not _ (λ h. nb (block-labels set .same a d sa (linked-start dx) (sym (eqb-true _ _ h) ∙ sym dn))) in
+          let riv : So (disturbing v R (blockName set x)) =
           mem-any _ (cellsOf grid) (mem-upto (size grid) (sq< set y (linked-end dy)))
           (true-and (subst (λ q. So (has (isIn q) ks y)) dn (blk-in set d y dd dy))
           (mem-any _ (neighbours grid y) (adj-sym grid u y uy .1) (true-and uu (adjacent-touches grid R u r (adj-sym grid r u ru) (in-reach a r ar rr))))) in
-          eq-eqb _ _ (at x 1 (sq< set x (linked-end dx)) (subst (λ q. List·Memᴰ (x, 1) (fenceAt v (name a) R x q)) (sym k)
+          eq-eqb _ _ (at x 1 (sq< set x (linked-end dx)) (subst (λ q. List·Memᴰ (x, 1) (fenceAt v (blockName set a) R x q)) (sym k)
           (rw (true-and diff riv) (List·Memᴰ·head refl))))

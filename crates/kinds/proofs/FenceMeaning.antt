@@ -21,7 +21,7 @@ use Rattle.groups.specs.Groups.{labels}
 use Rattle.groups.specs.Arrows.{onArrow}
 use Rattle.kinds.specs.Kinds.{Kind, vacant, barrier, floating, inBlock, neighbour, isIn, has, View, view, viewWith, reach, disturbing, fenceAt, fence}
 use Rattle.kinds.specs.Meaning.{PartialBoard, InArrow, Reach, Shut, Disturbing, Setting, partialOf}
-use Rattle.kinds.proofs.Bridge.{blockLabel, kinds, kind, kind-vacant, kind-arrow, block-labels, sq<, in-blk, blk-in}
+use Rattle.kinds.proofs.Bridge.{blockName, kinds, kind, kind-vacant, kind-arrow, block-labels, sq<, in-blk, blk-in}
 use Rattle.kinds.proofs.BlockArrays.{kind-get}
 use Rattle.kinds.proofs.Fence.{v, in-reach, reach-in, kind-empty, kind-in}
 
@@ -87,22 +87,18 @@ module _ (set : Setting) where
   abbrev B : PartialBoard
   B = partialOf set
 
-  -- the name of the block of a square
-  abbrev name : ℕ → ℕ
-  name = blockLabel set
-
   module _ (a : ℕ) where
     -- the fence of a's block
     abbrev pub fenceOf : List Literal
-    fenceOf = fence (v set) (name a)
+    fenceOf = fence (v set) (blockName set a)
 
     -- the reach of a's block
     abbrev R : List ℕ
-    R = reach (v set) (name a)
+    R = reach (v set) (blockName set a)
 
     -- what the fence says of a cell of this kind
     abbrev says : ℕ → Kind → List Literal
-    says i k = fenceAt (v set) (name a) R i k
+    says i k = fenceAt (v set) (blockName set a) R i k
 
     -- what a literal of the fence means
     abbrev Meant : ℕ → ℕ → Type 0
@@ -120,12 +116,12 @@ module _ (set : Setting) where
           let l = upto-mem (size grid) (x .1) in
           at (x .0) l (kind set (x .0)) refl (subst (λ k. List·Memᴰ (i, w) (says (x .0) k)) (kind-get puzzle cells (labels grid (square cells)) (x .0) l) (x .2))
         where
-          far : (x e : ℕ) → kind set x ≡ inBlock e → So (not (eqb e (name a))) → So (disturbing (v set) R e) → Disturbing B a x
+          far : (x e : ℕ) → kind set x ≡ inBlock e → So (not (eqb e (blockName set a))) → So (disturbing (v set) R e) → Disturbing B a x
           far x e k n t = go (kind-arrow set x e k)
             where
-              go : InArrow B x × (name x ≡ e) → Disturbing B a x
+              go : InArrow B x × (blockName set x ≡ e) → Disturbing B a x
               go ((d, ad, dx), ex) =
-                  let dn : name d ≡ e = block-labels set .linked d x dx ∙ ex in
+                  let dn : blockName set d ≡ e = block-labels set .linked d x dx ∙ ex in
                   let j = any-mem _ (cellsOf grid) t in
                   let q = and-true (has (isIn e) (kinds set) (j .0)) _ (j .2) in
                   let u = any-mem _ (neighbours grid (j .0)) (q .1) in
@@ -137,7 +133,7 @@ module _ (set : Setting) where
                     u .0,
                     r .0,
                     ad,
-                    λ b. not-so {a = eqb e (name a)} n (eq-eqb e (name a) (sym dn ∙ sym (block-labels set .linked a d b))),
+                    λ b. not-so {a = eqb e (blockName set a)} n (eq-eqb e (blockName set a) (sym dn ∙ sym (block-labels set .linked a d b))),
                     dx,
                     s .0,
                     (j .0, uj, in-blk set d (j .0) (linked-start dx) (subst (λ z. So (has (isIn z) (kinds set) (j .0))) (sym dn) (q .0))),
@@ -152,8 +148,8 @@ module _ (set : Setting) where
           at x l barrier k m = absurd (List·Memᴰ·not-nil m)
           at x l floating k m = absurd (List·Memᴰ·not-nil m)
           at x l (inBlock e) k m =
-              let q = if-mem (not (eqb e (name a)) && disturbing (v set) R e) (x, 1) (i, w) m in
-              let t = and-true (not (eqb e (name a))) _ (q .0) in
+              let q = if-mem (not (eqb e (blockName set a)) && disturbing (v set) R e) (x, 1) (i, w) m in
+              let t = and-true (not (eqb e (blockName set a))) _ (q .0) in
               inr (ap (λ z. z .1) (q .1), subst (Disturbing B a) (sym (ap indexOf (q .1))) (far x e k (t .0) (t .1)))
           at x l (neighbour e) k m = absurd (List·Memᴰ·not-nil m)
 
@@ -171,15 +167,15 @@ module _ (set : Setting) where
       disturbing-in : (i : ℕ) → Disturbing B a i → List·Memᴰ (i, 1) fenceOf
       unfolding fenceAt disturbing view viewWith
       disturbing-in i (d, u, r, ad, nb, di, uu, (y, uy, dy), ur, rr) =
-          in-fence i 1 (inBlock (name i)) (sq< set i (linked-end di)) (kind-in set i (d, ad, di)) (rw (true-and other beside-it) (List·Memᴰ·head refl))
+          in-fence i 1 (inBlock (blockName set i)) (sq< set i (linked-end di)) (kind-in set i (d, ad, di)) (rw (true-and other beside-it) (List·Memᴰ·head refl))
         where
-          dn : name d ≡ name i
+          dn : blockName set d ≡ blockName set i
           dn = block-labels set .linked d i di
 
-          other : So (not (eqb (name i) (name a)))
+          other : So (not (eqb (blockName set i) (blockName set a)))
           other = so-not _ (λ h. nb (block-labels set .same a d sq (linked-start di) (sym (eqb-true _ _ h) ∙ sym dn)))
 
-          beside-it : So (disturbing (v set) R (name i))
+          beside-it : So (disturbing (v set) R (blockName set i))
           beside-it = mem-any _ (cellsOf grid) (in-cells grid y (sq< set y (linked-end dy)))
               (true-and (subst (λ q. So (has (isIn q) (kinds set) y)) dn (blk-in set d y ad dy))
               (mem-any _ (neighbours grid y) (adj-sym grid u y uy .1) (true-and uu (adjacent-touches grid R u r ur (in-reach set a r arrow rr)))))

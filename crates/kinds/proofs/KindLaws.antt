@@ -13,7 +13,7 @@ use Rattle.grid.proofs.ListLaws.{dec-so, so-false, mem-member, once-mem}
 use Rattle.grid.specs.Cells.{empty, square}
 use Rattle.kinds.specs.Kinds.{vacant, barrier, floating, inBlock, kindTouching, blocksTouched, kindAt}
 use Rattle.kinds.specs.Meaning.{Barrier, Setting, partialOf}
-use Rattle.kinds.proofs.Bridge.{blockLabel, kind, arrowed, listed, around, around-so, so-around, listed-mem, mem-listed, undecided-so, un-sq-false, un-em-false, block-labels}
+use Rattle.kinds.proofs.Bridge.{blockName, kind, arrowed, listed, around, around-so, so-around, listed-mem, mem-listed, undecided-so, un-sq-false, un-em-false, block-labels}
 
 -- `once` leaves no member twice
 once-distinct : (l : List ℕ) → Distinct (once l)
@@ -55,7 +55,7 @@ module _ (set : Setting) where
   barrier-so i l h = go (q .2 .0) (q .2 .1) (q .2 .2) (q .2 .3)
     where
       q : (empty cells i ≡ false) × (square cells i ≡ false) × ((x y : ℕ) × (r : List ℕ) × (listed set i ≡ x ∷ y ∷ r))
-      q = barrier-of (empty cells i) (square cells i) (arrowed set (blockLabel set i)) (blockLabel set i) (listed set i) h
+      q = barrier-of (empty cells i) (square cells i) (arrowed set (blockName set i)) (blockName set i) (listed set i) h
 
       go : (x y : ℕ) (r : List ℕ) → listed set i ≡ x ∷ y ∷ r → Barrier (partialOf set) i
       go x y r e =
@@ -67,7 +67,7 @@ module _ (set : Setting) where
   so-barrier : (i : ℕ) → Barrier (partialOf set) i → kind set i ≡ barrier
   unfolding kindAt
   so-barrier i (u, (d, e, ad, ae, td, te, n)) = rw (un-em-false set i u, un-sq-false set i u)
-      (two-barrier (listed set i) (blockLabel set d) (blockLabel set e) (mem-listed set i _ (so-around set i d ad td)) (mem-listed set i _ (so-around set i e ae te))
+      (two-barrier (listed set i) (blockName set d) (blockName set e) (mem-listed set i _ (so-around set i d ad td)) (mem-listed set i _ (so-around set i e ae te))
       (λ z. n (block-labels set .same d e (linked-start (td .2)) (linked-start (te .2)) z)))
 
   -- a barrier is an undecided cell that touches two arrow blocks or more

@@ -40,19 +40,19 @@ module _ (p : Puzzle) (small : size (p .grid) ≤ 1024) (cells blocks A : List �
   g = p .grid
 
   -- the name of the block of a square
-  abbrev label : ℕ → ℕ
-  label i = getD (labels g (square cells)) i 0
+  abbrev blockName : ℕ → ℕ
+  blockName i = getD (labels g (square cells)) i 0
 
   -- the block named f has an arrow cell
   abbrev arrowed : ℕ → Bool
   arrowed = arrowBlock p cells (labels g (square cells))
 
   -- a square's name is a cell of the grid
-  label-below : (i : ℕ) → i < size g → So (square cells i) → label i < size g
+  label-below : (i : ℕ) → i < size g → So (square cells i) → blockName i < size g
   label-below i l s = omega (arith, label-least g (square cells) i i l l (here s))
 
   -- what the arrays hold at a cell
-  block-at : (i : ℕ) → i < size g → getD blocks i 0 ≡ cond (square cells i) (label i) 1024
+  block-at : (i : ℕ) → i < size g → getD blocks i 0 ≡ cond (square cells i) (blockName i) 1024
   unfolding labelAt
   block-at i l = ap (λ (b : List ℕ). getD b i 0) (given .named) ∙ label-at g (square cells) i l
 
@@ -63,17 +63,17 @@ module _ (p : Puzzle) (small : size (p .grid) ≤ 1024) (cells blocks A : List �
 
   -- the cell is a square of an arrow block
   abbrev inArrow : ℕ → Bool
-  inArrow j = square cells j && arrowed (label j)
+  inArrow j = square cells j && arrowed (blockName j)
 
-  arrow-at : (j : ℕ) → j < size g → arrowAt blocks A j ≡ cond (inArrow j) (label j) 1024
+  arrow-at : (j : ℕ) → j < size g → arrowAt blocks A j ≡ cond (inArrow j) (blockName j) 1024
   unfolding arrowAt
   arrow-at j l = by (square cells j) refl
     where
-      by : (s : Bool) → square cells j ≡ s → cond (ltb (getD blocks j 0) 1024 && eqb (getD A (getD blocks j 0) 0) 1) (getD blocks j 0) 1024 ≡ cond (s && arrowed (label j)) (label j) 1024
+      by : (s : Bool) → square cells j ≡ s → cond (ltb (getD blocks j 0) 1024 && eqb (getD A (getD blocks j 0) 0) 1) (getD blocks j 0) 1024 ≡ cond (s && arrowed (blockName j)) (blockName j) 1024
       by true e =
-          let b : getD blocks j 0 ≡ label j = block-at j l ∙ rw e in
-          let low : label j < 1024 = omega (arith, label-below j l e) in
-          rw (b, lt-ltb (label j) 1024 low, mark-at (label j) (label-below j l e))
+          let b : getD blocks j 0 ≡ blockName j = block-at j l ∙ rw e in
+          let low : blockName j < 1024 = omega (arith, label-below j l e) in
+          rw (b, lt-ltb (blockName j) 1024 low, mark-at (blockName j) (label-below j l e))
       by false e =
           let b : getD blocks j 0 ≡ 1024 = block-at j l ∙ rw e in
           rw b
@@ -81,17 +81,17 @@ module _ (p : Puzzle) (small : size (p .grid) ≤ 1024) (cells blocks A : List �
   in-arrow-low : (j : ℕ) → j < size g → ltb (arrowAt blocks A j) 1024 ≡ inArrow j
   in-arrow-low j l = rw (arrow-at j l) (by (inArrow j) refl)
     where
-      by : (b : Bool) → inArrow j ≡ b → ltb (cond b (label j) 1024) 1024 ≡ b
-      by true e = lt-ltb (label j) 1024 (omega (arith, label-below j l (and-true (square cells j) (arrowed (label j)) e .0)))
+      by : (b : Bool) → inArrow j ≡ b → ltb (cond b (blockName j) 1024) 1024 ≡ b
+      by true e = lt-ltb (blockName j) 1024 (omega (arith, label-below j l (and-true (square cells j) (arrowed (blockName j)) e .0)))
       by false e = refl
 
-  arrows-at : (l : List ℕ) → ((x : ℕ) → List·Memᴰ x l → x < size g) → arrowsAt blocks A l ≡ map label (filter inArrow l)
+  arrows-at : (l : List ℕ) → ((x : ℕ) → List·Memᴰ x l → x < size g) → arrowsAt blocks A l ≡ map blockName (filter inArrow l)
   unfolding arrowsAt filter
   arrows-at [] h = refl
   arrows-at (x ∷ l) h = rw (in-arrow-low x (h x (List·Memᴰ·head refl))) (by (inArrow x) refl (arrows-at l (λ y m. h y (List·Memᴰ·tail m))))
     where
-      by : (b : Bool) → inArrow x ≡ b → filter (λ f. ltb f 1024) (map (arrowAt blocks A) l) ≡ map label (filter inArrow l)
-          → cond b (arrowAt blocks A x ∷ filter (λ f. ltb f 1024) (map (arrowAt blocks A) l)) (filter (λ f. ltb f 1024) (map (arrowAt blocks A) l)) ≡ map label (cond b (x ∷ filter inArrow l) (filter inArrow l))
+      by : (b : Bool) → inArrow x ≡ b → filter (λ f. ltb f 1024) (map (arrowAt blocks A) l) ≡ map blockName (filter inArrow l)
+          → cond b (arrowAt blocks A x ∷ filter (λ f. ltb f 1024) (map (arrowAt blocks A) l)) (filter (λ f. ltb f 1024) (map (arrowAt blocks A) l)) ≡ map blockName (cond b (x ∷ filter inArrow l) (filter inArrow l))
       by true e q = rw (arrow-at x (h x (List·Memᴰ·head refl)), e, q)
       by false e q = q
 

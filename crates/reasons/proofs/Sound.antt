@@ -22,7 +22,7 @@ use Rattle.groups.specs.Groups.{labels, group, names}
 use Rattle.groups.specs.Arrows.{onArrow, pairs, Pair}
 use Rattle.groups.specs.Rules.{Shift, BlockRules, Contains}
 use Rattle.groups.proofs.ArrowLaws.{NextAt, position-pair}
-use Rattle.kinds.proofs.Bridge.{decisions, dec-reach, sq<, blockLabel}
+use Rattle.kinds.proofs.Bridge.{decisions, dec-reach, sq<, blockName}
 use Rattle.kinds.specs.Kinds.{View, view, viewWith, block, reach}
 use Rattle.kinds.specs.Meaning.{PartialBoard, Block, Reach, Setting, partialOf}
 use Rattle.kinds.proofs.Fence.{length-reach, length-block}
@@ -52,17 +52,9 @@ module _ (set : Setting) where
   abbrev B : PartialBoard
   B = partialOf set
 
-  -- the name of the block of a square
-  abbrev label : ℕ → ℕ
-  label i = getD (labels grid (square cells)) i 0
-
   -- the view of the board
   abbrev v : View
   v = view puzzle cells
-
-  -- the name of the block of a square
-  abbrev nameOf : ℕ → ℕ
-  nameOf = blockLabel set
 
   -- every reason is sound, with the rules by positions
   pub find-sound : (r : List Literal) → findReason puzzle cells ≡ some r → (full : List ℕ) → length full ≡ size grid → Agrees full r → ¬ RulesAt puzzle full
@@ -103,7 +95,7 @@ module _ (set : Setting) where
     unfolding reason2
     quiet-2 e a b aa ab ne l =
         let a< = sq< set a (linked-start l) in
-        let c : List ℕ = blockOf set (label a) in
+        let c : List ℕ = blockOf set (blockName set a) in
         let k = first-none (λ f. reason2At grid cells (filter (onArrow arrows) (blockOf set f))) (names grid (square cells) (labels grid (square cells))) e (own-names grid (square cells) a a< (linked-start l)) in
         two-none a b (filter (onArrow arrows) c)
         (mem-filter (onArrow arrows) c (linked-group grid (square cells) a a a< (here (linked-start l))) aa)
@@ -133,11 +125,11 @@ module _ (set : Setting) where
       abbrev c₁ : ℕ
       c₁ = lineAt arrows t j
 
-      size-reach : (k : ℕ) → k < lineLen arrows t → So (square cells (lineAt arrows t k)) → length (reach v (nameOf (lineAt arrows t k))) ≡ count (dec-reach set (lineAt arrows t k)) (size grid)
+      size-reach : (k : ℕ) → k < lineLen arrows t → So (square cells (lineAt arrows t k)) → length (reach v (blockName set (lineAt arrows t k))) ≡ count (dec-reach set (lineAt arrows t k)) (size grid)
       size-reach k l s = length-reach set
           (lineAt arrows t k) (on-line arrows t k l) s (dec-reach set (lineAt arrows t k))
 
-      size-block : (k : ℕ) → k < lineLen arrows t → So (square cells (lineAt arrows t k)) → length (block v (nameOf (lineAt arrows t k))) ≡ count (decisions set .blk (lineAt arrows t k)) (size grid)
+      size-block : (k : ℕ) → k < lineLen arrows t → So (square cells (lineAt arrows t k)) → length (block v (blockName set (lineAt arrows t k))) ≡ count (decisions set .blk (lineAt arrows t k)) (size grid)
       size-block k l s = length-block set
           (lineAt arrows t k) (on-line arrows t k l) s
 
@@ -151,11 +143,11 @@ module _ (set : Setting) where
 
       quiet-4a : ¬ (count (dec-reach set c₁) (size grid) < count (decisions set .blk a₁) (size grid) + 1)
       unfolding spot
-      quiet-4a h = tests .0 (lt-ltb (length (reach v (nameOf c₁))) (length (block v (nameOf a₁)) + 1) (omega (arith, size-reach j jl (pr .2), size-block i (omega (arith, pr .0)) (pr .1))))
+      quiet-4a h = tests .0 (lt-ltb (length (reach v (blockName set c₁))) (length (block v (blockName set a₁)) + 1) (omega (arith, size-reach j jl (pr .2), size-block i (omega (arith, pr .0)) (pr .1))))
 
       quiet-4b : ¬ (count (dec-reach set a₁) (size grid) + 1 < count (decisions set .blk c₁) (size grid))
       unfolding spot
-      quiet-4b h = tests .1 (lt-ltb (length (reach v (nameOf a₁)) + 1 + mostApart cells false (tail (init (both .0)))) (length (block v (nameOf c₁)))
+      quiet-4b h = tests .1 (lt-ltb (length (reach v (blockName set a₁)) + 1 + mostApart cells false (tail (init (both .0)))) (length (block v (blockName set c₁)))
           (omega (arith, size-reach i (omega (arith, pr .0)) (pr .1), size-block j jl (pr .2), most-full cells (tail (init (both .0))) full)))
 
     quiet : findReason puzzle cells ≡ none → Q

@@ -22,7 +22,7 @@ use Rattle.groups.proofs.Shift.{contains-map, fits-contains, contains-fits}
 use Rattle.groups.specs.Arrows.{onArrow, pairs, Pair}
 use Rattle.groups.specs.Rules.{fits, Shift, taking, Contains}
 use Rattle.groups.proofs.ArrowLaws.{NextAt, pairs-parted, at-last, at-cur, pos-below, position, length-gap, at-gap, posLast, posCur}
-use Rattle.kinds.proofs.Bridge.{decisions, dec-reach, sq<, blockLabel}
+use Rattle.kinds.proofs.Bridge.{decisions, dec-reach, sq<, blockName}
 use Rattle.kinds.specs.Kinds.{View, view, viewWith, block, reach, fence}
 use Rattle.kinds.specs.Meaning.{PartialBoard, Block, Reach, Setting, partialOf}
 use Rattle.kinds.proofs.Confine.{Fenced}
@@ -30,7 +30,7 @@ use Rattle.kinds.proofs.Fence.{reach-in, in-reach, block-in, in-block, length-r
 use Rattle.reasons.proofs.First.{first-some, agrees-left, agrees-right, agrees-each, or-else-some, or-else-none, reason-if-none, reason-if-some}
 use Rattle.reasons.proofs.Plain.{lineLen, RulesAt, on-line, Which, lineAt}
 use Rattle.literals.specs.Literals.{reasonIf, firstOf, each}
-use Rattle.growth.specs.Growth.{reasonShrink, mostApart, blockName, reasonGrow, reason3At, gap, reason4At, reason4aAt, reason4bAt, reason34}
+use Rattle.growth.specs.Growth.{reasonShrink, mostApart, blockName as viewName, reasonGrow, reason3At, gap, reason4At, reason4aAt, reason4bAt, reason34}
 use Rattle.growth.specs.Gap.{Choice}
 use Rattle.growth.proofs.Gap.{most-bound}
 use Rattle.reasons.proofs.Refute.{Arrows, Filling, reason-3, reason-4a, reason-4b}
@@ -59,29 +59,25 @@ module _ (set : Setting) where
     once = λ t i j. lines .once (t .0) (t .1) i j;
   }
 
-  -- the name of the block of a square
-  abbrev pub name : ℕ → ℕ
-  name = blockLabel set
-
   -- the view of the board
   abbrev pub v : View
   v = view puzzle cells
 
   -- the first cell of a block is in it
-  pub home : (a : ℕ) → So (square cells a) → Block B a (name a)
+  pub home : (a : ℕ) → So (square cells a) → Block B a (blockName set a)
   home a s = label-own grid (square cells) a (sq< set a s) s
 
   -- the test of reason 3 looks for a shift of a's block in c's reach
-  fits-so : (a c t : ℕ) → So (onArrow arrows a) → So (square cells c) → So (fits grid (block v (name a)) (reach v (name c)) (name a) t) → (s : Shift) × Contains grid s (Block B a) (Reach B c)
+  fits-so : (a c t : ℕ) → So (onArrow arrows a) → So (square cells c) → So (fits grid (block v (blockName set a)) (reach v (blockName set c)) (blockName set a) t) → (s : Shift) × Contains grid s (Block B a) (Reach B c)
   fits-so a c t aa sc h = (
-    taking grid (name a) t,
-    contains-map grid (taking grid (name a) t) (λ x. List·Memᴰ x (block v (name a))) (λ x. List·Memᴰ x (reach v (name c))) (Block B a) (Reach B c)
-        (λ x. in-block set a x aa) (λ x. reach-in set c x sc) (fits-contains grid (block v (name a)) (reach v (name c)) (name a) t h),
+    taking grid (blockName set a) t,
+    contains-map grid (taking grid (blockName set a) t) (λ x. List·Memᴰ x (block v (blockName set a))) (λ x. List·Memᴰ x (reach v (blockName set c))) (Block B a) (Reach B c)
+        (λ x. in-block set a x aa) (λ x. reach-in set c x sc) (fits-contains grid (block v (blockName set a)) (reach v (blockName set c)) (blockName set a) t h),
   )
 
-  so-fits : (a c : ℕ) → So (square cells a) → So (onArrow arrows a) → So (onArrow arrows c) → (s : Shift) → Contains grid s (Block B a) (Reach B c) → So (any (fits grid (block v (name a)) (reach v (name c)) (name a)) (reach v (name c)))
-  so-fits a c sa aa ac s f = contains-fits grid (block v (name a)) (reach v (name c)) (name a) (in-block set a (name a) aa (home a sa)) s
-      (contains-map grid s (Block B a) (Reach B c) (λ x. List·Memᴰ x (block v (name a))) (λ x. List·Memᴰ x (reach v (name c)))
+  so-fits : (a c : ℕ) → So (square cells a) → So (onArrow arrows a) → So (onArrow arrows c) → (s : Shift) → Contains grid s (Block B a) (Reach B c) → So (any (fits grid (block v (blockName set a)) (reach v (blockName set c)) (blockName set a)) (reach v (blockName set c)))
+  so-fits a c sa aa ac s f = contains-fits grid (block v (blockName set a)) (reach v (blockName set c)) (blockName set a) (in-block set a (blockName set a) aa (home a sa)) s
+      (contains-map grid s (Block B a) (Reach B c) (λ x. List·Memᴰ x (block v (blockName set a))) (λ x. List·Memᴰ x (reach v (blockName set c)))
       (λ x. block-in set a x sa) (λ x. in-reach set c x ac) f)
 
   -- two squares of an arrow with none between, by their positions, and the cells between
@@ -116,40 +112,40 @@ module _ (set : Setting) where
 
     -- the test of reason 3: some shift fits
     abbrev pub tried : Bool
-    tried = any (fits grid (block v (name lastCell)) (reach v (name curCell)) (name lastCell)) (reach v (name curCell))
+    tried = any (fits grid (block v (blockName set lastCell)) (reach v (blockName set curCell)) (blockName set lastCell)) (reach v (blockName set curCell))
 
     pub three-some : (r : List Literal) → reason3At v pair ≡ some r → (reasonGrow v pair ≡ r) × ((s : Shift) → ¬ Contains grid s (Block B lastCell) (Reach B curCell))
-    unfolding reason3At view viewWith blockName
+    unfolding reason3At view viewWith viewName
     three-some r e = let w = reason-if-some (not tried) (reasonGrow v pair) r e in (w .1, λ s f. not-so {a = tried} (w .0) (so-fits lastCell curCell (pr .1) aa ac s f))
 
     pub three-none : reason3At v pair ≡ none → (s : Shift) × Contains grid s (Block B lastCell) (Reach B curCell)
-    unfolding reason3At view viewWith blockName
+    unfolding reason3At view viewWith viewName
     three-none e = go (dec-so tried)
       where
         go : Dec (So tried) → (s : Shift) × Contains grid s (Block B lastCell) (Reach B curCell)
-        go (yes h) = let w = any-mem (fits grid (block v (name lastCell)) (reach v (name curCell)) (name lastCell)) (reach v (name curCell)) h in fits-so lastCell curCell (w .0) aa (pr .2) (w .2)
+        go (yes h) = let w = any-mem (fits grid (block v (blockName set lastCell)) (reach v (blockName set curCell)) (blockName set lastCell)) (reach v (blockName set curCell)) h in fits-so lastCell curCell (w .0) aa (pr .2) (w .2)
         go (no h) = absurd (reason-if-none (not tried) (reasonGrow v pair) e (so-not tried h))
 
     -- the test of reason 4 (a)
     abbrev pub tooFew : Bool
-    tooFew = ltb (length (reach v (name curCell))) (length (block v (name lastCell)) + 1)
+    tooFew = ltb (length (reach v (blockName set curCell))) (length (block v (blockName set lastCell)) + 1)
 
     -- the test of reason 4 (b)
     abbrev pub tooMany : Bool
-    tooMany = ltb (length (reach v (name lastCell)) + 1 + mostApart cells false (tail (init between))) (length (block v (name curCell)))
+    tooMany = ltb (length (reach v (blockName set lastCell)) + 1 + mostApart cells false (tail (init between))) (length (block v (blockName set curCell)))
 
     -- the literals of reason 4 (b)
     abbrev pub shrinkLiterals : List Literal
-    shrinkLiterals = each 1 (block v (name curCell)) ++ each 1 (lastCell ∷ []) ++ fence v (name lastCell) ++ each 0 (filter (empty cells) (tail (init between)))
+    shrinkLiterals = each 1 (block v (blockName set curCell)) ++ each 1 (lastCell ∷ []) ++ fence v (blockName set lastCell) ++ each 0 (filter (empty cells) (tail (init between)))
 
     pub four-some : (r : List Literal) → reason4At v pair ≡ some r → (So tooFew × (reasonGrow v pair ≡ r)) ⊎ (So tooMany × (shrinkLiterals ≡ r))
-    unfolding reason4At reason4aAt reason4bAt reasonShrink view viewWith blockName gap
+    unfolding reason4At reason4aAt reason4bAt reasonShrink view viewWith viewName gap
     four-some r e =
         or-else-some (reasonIf tooFew (reasonGrow v pair)) (reasonIf tooMany shrinkLiterals) r e
         (λ k. inl (reason-if-some tooFew (reasonGrow v pair) r k)) (λ k. inr (reason-if-some tooMany shrinkLiterals r k))
 
     pub four-none : reason4At v pair ≡ none → (¬ So tooFew) × (¬ So tooMany)
-    unfolding reason4At reason4aAt reason4bAt reasonShrink view viewWith blockName gap
+    unfolding reason4At reason4aAt reason4bAt reasonShrink view viewWith viewName gap
     four-none e = let w = or-else-none (reasonIf tooFew (reasonGrow v pair)) (reasonIf tooMany shrinkLiterals) e in (reason-if-none tooFew (reasonGrow v pair) (w .0), reason-if-none tooMany shrinkLiterals (w .1))
 
     -- a filling that agrees and meets the rules
@@ -176,23 +172,23 @@ module _ (set : Setting) where
       module _ (ag : Agrees full (reasonGrow v pair)) where
         -- the literals of last's block
         abbrev first : List Literal
-        first = each 1 (block v (name lastCell))
+        first = each 1 (block v (blockName set lastCell))
 
         -- the literal of cur's arrow cell
         abbrev second : List Literal
         second = each 1 (curCell ∷ [])
 
         grow-all : (x : ℕ) → Block B lastCell x → F x
-        unfolding reasonGrow view viewWith blockName
-        grow-all x bl = is-square x (agrees-each full 1 (block v (name lastCell)) (agrees-left full first second (agrees-left full (first ++ second) (fence v (name curCell)) ag)) x (in-block set lastCell x aa bl))
+        unfolding reasonGrow view viewWith viewName
+        grow-all x bl = is-square x (agrees-each full 1 (block v (blockName set lastCell)) (agrees-left full first second (agrees-left full (first ++ second) (fence v (blockName set curCell)) ag)) x (in-block set lastCell x aa bl))
 
         grow-cur : F curCell
-        unfolding reasonGrow view viewWith blockName
-        grow-cur = is-square curCell (agrees-each full 1 (curCell ∷ []) (agrees-right full first second (agrees-left full (first ++ second) (fence v (name curCell)) ag)) curCell (List·Memᴰ·head refl))
+        unfolding reasonGrow view viewWith viewName
+        grow-cur = is-square curCell (agrees-each full 1 (curCell ∷ []) (agrees-right full first second (agrees-left full (first ++ second) (fence v (blockName set curCell)) ag)) curCell (List·Memᴰ·head refl))
 
         grow-fence : Fenced B F curCell
-        unfolding reasonGrow view viewWith blockName
-        grow-fence = fenced set full curCell ac (pr .2) (agrees-right full (first ++ second) (fence v (name curCell)) ag)
+        unfolding reasonGrow view viewWith viewName
+        grow-fence = fenced set full curCell ac (pr .2) (agrees-right full (first ++ second) (fence v (blockName set curCell)) ag)
 
         pub three-sound : ((s : Shift) → ¬ Contains grid s (Block B lastCell) (Reach B curCell)) → ⊥
         three-sound = reason-3 B grid A (decisions set) (dec-reach set) fill rules t i j jl pr grow-all grow-cur grow-fence
@@ -213,13 +209,13 @@ module _ (set : Setting) where
           g₀ = mostApart cells false G
 
           p₁ : List Literal
-          p₁ = each 1 (block v (name curCell))
+          p₁ = each 1 (block v (blockName set curCell))
 
           p₂ : List Literal
           p₂ = each 1 (lastCell ∷ [])
 
           p₃ : List Literal
-          p₃ = fence v (name lastCell)
+          p₃ = fence v (blockName set lastCell)
 
           p₄ : List Literal
           p₄ = each 0 (filter (empty cells) G)
@@ -231,7 +227,7 @@ module _ (set : Setting) where
           ag₁₂ = agrees-left full (p₁ ++ p₂) p₃ ag₁₂₃
 
           all-cur : (x : ℕ) → Block B curCell x → F x
-          all-cur x bl = is-square x (agrees-each full 1 (block v (name curCell)) (agrees-left full p₁ p₂ ag₁₂) x (in-block set curCell x ac bl))
+          all-cur x bl = is-square x (agrees-each full 1 (block v (blockName set curCell)) (agrees-left full p₁ p₂ ag₁₂) x (in-block set curCell x ac bl))
 
           lst : F lastCell
           lst = is-square lastCell (agrees-each full 1 (lastCell ∷ []) (agrees-right full p₁ p₂ ag₁₂) lastCell (List·Memᴰ·head refl))

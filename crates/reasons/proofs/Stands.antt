@@ -17,7 +17,7 @@ use Rattle.grid.proofs.LinkLaws.{linked-end, linked-start}
 use Rattle.grid.specs.Cells.{Literal, empty, square, potential}
 use Rattle.groups.specs.Groups.{labels, group, names}
 use Rattle.groups.specs.Arrows.{onArrow, Pair}
-use Rattle.kinds.proofs.Bridge.{sq<, blockLabel, kinds, kind, kind-vacant, kind-in-block}
+use Rattle.kinds.proofs.Bridge.{sq<, blockName, kinds, kind, kind-vacant, kind-in-block}
 use Rattle.kinds.specs.Meaning.{Setting}
 use Rattle.kinds.proofs.BlockArrays.{kind-get}
 use Rattle.kinds.specs.Kinds.{View, view, viewWith, block, reach, fence, fenceAt, disturbing, Kind, vacant, barrier, floating, inBlock, neighbour}
@@ -27,7 +27,7 @@ use Rattle.reasons.proofs.First.{reason-if-some, or-else-some, first-so
 use Rattle.reasons.proofs.Sound2.{way, two-of}
 use Rattle.literals.specs.Literals.{each}
 use Rattle.units.specs.Units.{reason1At, reason1, reason2}
-use Rattle.growth.specs.Growth.{blockName, reasonGrow, reason34}
+use Rattle.growth.specs.Growth.{blockName as viewName, reasonGrow, reason34}
 use Rattle.reasons.specs.Reasons.{findReason}
 use Rattle.units.proofs.Walk.{path-square}
 
@@ -76,10 +76,6 @@ module _ (set : Setting) where
   abbrev v : View
   v = view puzzle cells
 
-  -- the name of the block of a square
-  abbrev nameOf : ℕ → ℕ
-  nameOf = blockLabel set
-
   cond-mem : (b : Bool) (c : Literal) {x : Literal} → List·Memᴰ x (cond b (c ∷ []) []) → x ≡ c
   cond-mem true c m = List·Memᴰ·eq-of-singleton m
   cond-mem false c m = absurd (List·Memᴰ·not-nil m)
@@ -99,8 +95,8 @@ module _ (set : Setting) where
       at k l (inBlock x) e n = shown-as (k, 1) i u (cond-mem (not (eqb x f) && disturbing v (reach v f) x) (k, 1) n) (sq-one k (kind-in-block set k x e))
       at k l (neighbour x) e n = absurd (List·Memᴰ·not-nil n)
 
-  stand-block : (a : ℕ) → So (square cells a) → Stands (each 1 (block v (nameOf a)))
-  stand-block a sa = stand-each 1 (block v (nameOf a)) (λ x m. sq-one x (linked-end (block-in set a x sa m)))
+  stand-block : (a : ℕ) → So (square cells a) → Stands (each 1 (block v (blockName set a)))
+  stand-block a sa = stand-each 1 (block v (blockName set a)) (λ x m. sq-one x (linked-end (block-in set a x sa m)))
 
   stand-one : (a : ℕ) → So (square cells a) → Stands (each 1 (a ∷ []))
   stand-one a sa = stand-each 1 (a ∷ []) (λ x m. sq-one x (subst (λ z. So (square cells z)) (sym (List·Memᴰ·eq-of-singleton m)) sa))
@@ -116,12 +112,12 @@ module _ (set : Setting) where
     c₀ = curCell set spot
 
     stand-grow : Stands (reasonGrow v (pair set spot))
-    unfolding reasonGrow view viewWith blockName
-    stand-grow = stand-join (each 1 (block v (nameOf a₀)) ++ each 1 (c₀ ∷ [])) (fence v (nameOf c₀)) (stand-join (each 1 (block v (nameOf a₀))) (each 1 (c₀ ∷ [])) (stand-block a₀ (spot .pr .1)) (stand-one c₀ (spot .pr .2))) (stand-fence (nameOf c₀))
+    unfolding reasonGrow view viewWith viewName
+    stand-grow = stand-join (each 1 (block v (blockName set a₀)) ++ each 1 (c₀ ∷ [])) (fence v (blockName set c₀)) (stand-join (each 1 (block v (blockName set a₀))) (each 1 (c₀ ∷ [])) (stand-block a₀ (spot .pr .1)) (stand-one c₀ (spot .pr .2))) (stand-fence (blockName set c₀))
 
     stand-shrink : ((x : ℕ) → List·Memᴰ x (tail (init (spot .between))) → x < size grid) → Stands (shrinkLiterals set spot)
-    stand-shrink low = stand-join (each 1 (block v (nameOf c₀)) ++ each 1 (a₀ ∷ []) ++ fence v (nameOf a₀)) (each 0 (filter (empty cells) (tail (init (spot .between)))))
-        (stand-join (each 1 (block v (nameOf c₀)) ++ each 1 (a₀ ∷ [])) (fence v (nameOf a₀)) (stand-join (each 1 (block v (nameOf c₀))) (each 1 (a₀ ∷ [])) (stand-block c₀ (spot .pr .2)) (stand-one a₀ (spot .pr .1))) (stand-fence (nameOf a₀)))
+    stand-shrink low = stand-join (each 1 (block v (blockName set c₀)) ++ each 1 (a₀ ∷ []) ++ fence v (blockName set a₀)) (each 0 (filter (empty cells) (tail (init (spot .between)))))
+        (stand-join (each 1 (block v (blockName set c₀)) ++ each 1 (a₀ ∷ [])) (fence v (blockName set a₀)) (stand-join (each 1 (block v (blockName set c₀))) (each 1 (a₀ ∷ [])) (stand-block c₀ (spot .pr .2)) (stand-one a₀ (spot .pr .1))) (stand-fence (blockName set a₀)))
         (stand-each 0 (filter (empty cells) (tail (init (spot .between)))) (λ x m. let k = filter-mem (empty cells) (tail (init (spot .between))) m in em-zero x (low x (k .0)) (k .1)))
 
   -- the gap lies on the arrow
