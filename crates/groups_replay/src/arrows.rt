@@ -2,7 +2,7 @@
 ghost use mathlib.Core.Bool.{true};
 ghost use mathlib.Core.Path.{_≡_};
 ghost use lib.ListN.{length};
-ghost use Rattle.groups.specs.Arrows.{Line};
+ghost use Rattle.groups.specs.Arrays.{Line};
 
 // The end of the last arrow, 0 where there is none.
 pub fn arrow_total(ends: &[u16; 1024], count: usize) -> usize {
