@@ -15,7 +15,8 @@ use Rattle.groups.specs.Arrows.{onArrow, pairsFrom, pairs}
 use Rattle.groups.specs.Rules.{fits}
 use Rattle.kinds.specs.Kinds.{isFloating, isIn, isNeighbour, kindTouching, arrowBlock, blocksTouched, kindAt, kindsOf, has, viewWith, view, block, floatNear, inReach, reach, disturbing, fenceAt, fence}
 use Rattle.literals.specs.Literals.{orElse, reasonIf, firstOf, each, Found}
-use Rattle.units.specs.Units.{reason1At, reason1, breadthFirst, parent, path, reason2At, reason2}
+use Rattle.units.specs.Units.{reason1At, reason1}
+use Rattle.paths.specs.Paths.{breadthFirst, parent, path, reason2At, reason2}
 use Rattle.growth.specs.Growth.{mostApart, blockName, reasonGrow, reason3At, gap, reasonShrink, reason4At, reason4aAt, reason4bAt, reason34}
 use Rattle.reasons.specs.Reasons.{findReason, findOn}
 use Rattle.host.specs.Host.{acceptOr, decideBytes, hostFinds}

@@ -24,10 +24,12 @@ use Rattle.kinds.specs.Kinds.{view}
 use Rattle.literals.specs.declared.Finding.{Finding}
 use Rattle.literals.specs.declared.Finding.the-variants.{Nothing, Reason, Refused}
 use Rattle.literals.specs.Literals.{Found}
-use Rattle.units.specs.Units.{reason1, reason2}
+use Rattle.units.specs.Units.{reason1}
+use Rattle.paths.specs.Paths.{reason2}
 use Rattle.growth.specs.Growth.{reason34}
 use Rattle.inconsistency.specs.Reasons.{findReason}
-use Rattle.units.specs.Arrays.{PotentialArrays, BlockArrays, Listed}
+use Rattle.units.specs.Arrays.{PotentialArrays, Listed}
+use Rattle.paths.specs.Ends.{BlockArrays}
 use Rattle.inconsistency.specs.Arrays.{ArrowArrays, Ready}
 use Rattle.literals.specs.Buffer.{FoundAs, Fit}
 use Rattle.growth.specs.Pairs.{Whole, viewOn}

@@ -5,7 +5,8 @@ use mathlib.Core.List.{List}
 use Rattle.record.specs.Record.{Puzzle}
 use Rattle.kinds.specs.Kinds.{view}
 use Rattle.literals.specs.Literals.{Found, orElse}
-use Rattle.units.specs.Units.{reason1, reason2}
+use Rattle.units.specs.Units.{reason1}
+use Rattle.paths.specs.Paths.{reason2}
 use Rattle.growth.specs.Growth.{reason34}
 
 -- reason 1, else 2, else 3 and 4 along the arrows

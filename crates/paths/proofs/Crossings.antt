@@ -22,9 +22,9 @@ use Rattle.groups.specs.Arrows.{onArrow}
 use Rattle.groups.proofs.GroupLaws.{group-mem, linked-label}
 use Rattle.groups.proofs.LabelLaws.{label-test, label-group}
 use Rattle.literals.specs.Literals.{Found, orElse, firstOf}
-use Rattle.units.specs.Units.{reason2, reason2At}
-use Rattle.units.specs.Arrays.{BlockArrays, firstName}
-use Rattle.paths.specs.Ends.{Kept, arrowsOf, Firsts, foundWay, SameBlock, Crossing}
+use Rattle.paths.specs.Paths.{reason2, reason2At}
+use Rattle.units.specs.Arrays.{firstName}
+use Rattle.paths.specs.Ends.{BlockArrays, Kept, arrowsOf, Firsts, foundWay, SameBlock, Crossing}
 use Rattle.units.specs.declared.Name.{Name}
 use Rattle.units.specs.declared.Name.the-variants.{At, Nobody}
 use Rattle.paths.specs.declared.Ends.{Ends}

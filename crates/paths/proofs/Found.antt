@@ -10,8 +10,8 @@ use Rattle.literals.specs.Literals.{each}
 use Rattle.literals.specs.Buffer.{Wrote, FoundAs}
 use Rattle.literals.specs.declared.Finding.the-variants.{Nothing, Reason}
 use Rattle.literals.proofs.Findings.{found-none, wrote-found}
-use Rattle.units.specs.Units.{path, reason2}
-use Rattle.units.specs.Search.{PathEnds, listFrom}
+use Rattle.paths.specs.Paths.{path, reason2}
+use Rattle.paths.specs.Search.{PathEnds, listFrom}
 use Rattle.paths.specs.Ends.{foundWay, SameBlock, Crossing}
 use Rattle.paths.specs.declared.Ends.{Ends}
 use Rattle.paths.specs.declared.Ends.the-variants.{Between, Nowhere}

@@ -10,14 +10,14 @@ use Rattle.grid.specs.Grid.{Grid, size}
 use Rattle.grid.specs.Cells.{square, word}
 use Rattle.groups.specs.Groups.{Joined}
 use Rattle.grid.proofs.LinkLaws.{linked-start}
-use Rattle.units.specs.Units.{Entry, breadthFirst, parent, path}
+use Rattle.paths.specs.Paths.{Entry, breadthFirst, parent, path}
 use Rattle.literals.specs.Literals.{each}
 use Rattle.literals.specs.Buffer.{Wrote}
-use Rattle.units.specs.Search.{Listing}
+use Rattle.paths.specs.Search.{Listing}
 use Rattle.literals.proofs.BufferLaws.{wrote-none, wrote-more}
-use Rattle.units.specs.BreadthFirst.{Listed}
-use Rattle.units.proofs.Walk.{Early, tree-square, tree-length, whole-tree, whole-listed, parent-early, listed-left}
-use Rattle.units.proofs.Breadth.{square-below, mark-parent, path-end, path-on}
+use Rattle.paths.specs.BreadthFirst.{Listed}
+use Rattle.paths.proofs.Walk.{Early, tree-square, tree-length, whole-tree, whole-listed, parent-early, listed-left}
+use Rattle.paths.proofs.Breadth.{square-below, mark-parent, path-end, path-on}
 
 module _ (g : Grid) (cells : List ℕ) (b : ℕ) where
   -- the breadth-first list from b

@@ -1,4 +1,4 @@
--- What the parts of reason 2 ask of the arrays that they are lent: the arrow cells of each block, and the ends of the path.
+-- What the parts of reason 2 ask of the arrays that they are lent: the blocks, the arrow cells of each, and the ends of the path.
 -- Assumes nothing.
 use Prim.Native.Nat.{ℕ, _*_, _<_}
 use mathlib.Core.Path.{_≡_}
@@ -12,13 +12,18 @@ use Rattle.grid.specs.Grid.{Grid, size}
 use Rattle.grid.specs.Side.{sized}
 use Rattle.record.specs.Record.{Puzzle}
 use Rattle.grid.specs.Cells.{square}
-use Rattle.groups.specs.Groups.{Joined}
+use Rattle.groups.specs.Groups.{Joined, labelArray, maskOf}
+use Rattle.groups.specs.Arrows.{onArrow}
 use Rattle.literals.specs.Literals.{Found, each}
-use Rattle.units.specs.Units.{breadthFirst, path, reason2}
+use Rattle.paths.specs.Paths.{breadthFirst, path, reason2}
 use Rattle.paths.specs.declared.Ends.{Ends}
 use Rattle.kinds.specs.Inside.{puzzleWith}
 use Rattle.paths.specs.declared.Ends.the-variants.{Between, Nowhere}
-use Rattle.units.specs.Arrays.{BlockArrays}
+
+-- the blocks of the cells, and the arrow cells
+pub record BlockArrays (p : Puzzle) (cells blocks onarrow : List ℕ) : Type 0 where
+  pub blocks-are : blocks ≡ labelArray (p .grid) (square cells)
+  pub arrows-are : onarrow ≡ maskOf (p .grid) (onArrow (p .arrows))
 
 -- cell i was kept as the first or the second arrow cell of its block
 pub record Kept (blocks onarrow : List ℕ) (i : ℕ) (first second first′ second′ : List ℕ) : Type 0 where

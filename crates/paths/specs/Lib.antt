@@ -1,1 +1,5 @@
+pub mod Paths
+pub mod BreadthFirst
+pub mod Chosen
+pub mod Search
 pub mod Ends

@@ -12,12 +12,12 @@ ghost use Rattle.grid.specs.Grid.{size};
 ghost use Rattle.grid.specs.Side.{InGrid, sized};
 ghost use Rattle.record.specs.Record.{Puzzle};
 ghost use Rattle.literals.specs.Literals.{each};
-ghost use Rattle.units.specs.Units.{reason2, path};
+ghost use Rattle.paths.specs.Paths.{reason2, path};
 ghost use Rattle.literals.specs.Buffer.{Wrote, Fit, FoundAs};
-ghost use Rattle.units.specs.Arrays.{BlockArrays, Listed, firstName};
-ghost use Rattle.paths.specs.Ends.{Kept, Firsts, Crossing, Blocked};
+ghost use Rattle.units.specs.Arrays.{Listed, firstName};
+ghost use Rattle.paths.specs.Ends.{BlockArrays, Kept, Firsts, Crossing, Blocked};
 ghost use Rattle.kinds.specs.Inside.{puzzleWith, Given};
-ghost use Rattle.units.specs.Search.{Offered, Room, ListedBeside, Listing, listFrom, PathEnds};
+ghost use Rattle.paths.specs.Search.{Offered, Room, ListedBeside, Listing, listFrom, PathEnds};
 
 // The first two arrow cells of a block that has two or more.
 pub enum Ends {

@@ -32,7 +32,8 @@ use Rattle.kinds.specs.Inside.{puzzleWith}
 use Rattle.literals.specs.declared.Finding.{Finding}
 use Rattle.literals.specs.declared.Finding.the-variants.{Refused}
 use Rattle.literals.specs.Literals.{Found}
-use Rattle.units.specs.Units.{reason1At, reason1, reason2}
+use Rattle.units.specs.Units.{reason1At, reason1}
+use Rattle.paths.specs.Paths.{reason2}
 use Rattle.reasons.specs.Reasons.{findReason}
 use Rattle.groups.specs.Arrays.{linesOf}
 use Rattle.inconsistency.specs.Arrays.{ArrowArrays}

@@ -16,11 +16,11 @@ use Rattle.grid.specs.Link.{Linked}
 use Rattle.grid.proofs.ListLaws.{dec-so, so-false, and-true, true-and, not-so, so-not}
 use Rattle.grid.proofs.GridLaws.{apart}
 use Rattle.grid.specs.Cells.{Literal, square}
-use Rattle.units.specs.Units.{Entry, breadthFirst, parent, path}
+use Rattle.paths.specs.Paths.{Entry, breadthFirst, parent, path}
 use Rattle.literals.specs.Literals.{each}
-use Rattle.units.specs.Search.{seen, appended}
-use Rattle.units.specs.BreadthFirst.{Listed, Appends, through, append, pass, Builds, built, turn, BreadthFirst, Runs, arrived, onward, ByParents}
-use Rattle.units.proofs.Walk.{seen-so, so-seen, listed-left, listed-cases, listed-one, Tree, root, grow, tree-square, tree-length, tree-step, whole-tree, whole-listed, Early, parent-early}
+use Rattle.paths.specs.Search.{seen, appended}
+use Rattle.paths.specs.BreadthFirst.{Listed, Appends, through, append, pass, Builds, built, turn, BreadthFirst, Runs, arrived, onward, ByParents}
+use Rattle.paths.proofs.Walk.{seen-so, so-seen, listed-left, listed-cases, listed-one, Tree, root, grow, tree-square, tree-length, tree-step, whole-tree, whole-listed, Early, parent-early}
 
 -- ---- what a cell appends
 

@@ -1,4 +1,4 @@
--- Reasons 1 and 2, as Units computes them, are those of units/specs/Chosen.antt: of the lowest numbered group, and no others.
+-- Reasons 1 and 2, as Units and Paths compute them, are those of units/specs/Chosen.antt and paths/specs/Chosen.antt: of the lowest numbered group, and no others.
 -- Assumes nothing.
 use Prim.Native.Nat.{ℕ, _≤_, _<_}
 use native.Mathlib.Decide.{decLt}
@@ -26,9 +26,11 @@ use Rattle.groups.specs.Arrows.{onArrow}
 use Rattle.groups.specs.Rules.{SameBlock}
 use Rattle.groups.proofs.GroupLaws.{group-mem, mem-group, group-rising, names-rising, names-own, own-names, label-linked, linked-label, label-own, label-least, linked-size}
 use Rattle.literals.specs.Literals.{Found, reasonIf, orElse, firstOf, each}
-use Rattle.units.specs.Units.{boundary, reason1At, reason1, breadthFirst, path, reason2At, reason2}
-use Rattle.units.specs.BreadthFirst.{ByParents}
-use Rattle.units.specs.Chosen.{SamePotential, Stranded, Boundary, Reason1, Crossed, Reason2}
+use Rattle.units.specs.Units.{boundary, reason1At, reason1}
+use Rattle.paths.specs.Paths.{breadthFirst, path, reason2At, reason2}
+use Rattle.paths.specs.BreadthFirst.{ByParents}
+use Rattle.units.specs.Chosen.{SamePotential, Stranded, Boundary, Reason1}
+use Rattle.paths.specs.Chosen.{Crossed, Reason2}
 use Rattle.reasons.proofs.First.{first-none, reason-if-some}
 use Rattle.reasons.proofs.BreadthFirstLaws.{path-by-parents, by-parents-only}
 

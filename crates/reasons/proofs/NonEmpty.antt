@@ -15,7 +15,8 @@ use Rattle.grid.specs.Cells.{Literal, square, potential}
 use Rattle.groups.specs.Groups.{labels, group, names}
 use Rattle.groups.specs.Arrows.{Pair, onArrow}
 use Rattle.kinds.specs.Kinds.{View, view}
-use Rattle.units.specs.Units.{Entry, parent, path, reason1At, reason1, reason2At, reason2}
+use Rattle.units.specs.Units.{reason1At, reason1}
+use Rattle.paths.specs.Paths.{Entry, parent, path, reason2At, reason2}
 use Rattle.literals.specs.Literals.{Found, orElse, reasonIf, firstOf}
 use Rattle.growth.specs.Growth.{reasonGrow, reason3At, reasonShrink, reason4At, reason4aAt, reason4bAt, reason34}
 use Rattle.reasons.specs.Reasons.{findReason}

@@ -21,7 +21,8 @@ use Rattle.groups.specs.Groups.{labels, group, names}
 use Rattle.groups.specs.Arrows.{onArrow, Pair, pairs}
 use Rattle.kinds.specs.Kinds.{View, view, viewWith}
 use Rattle.literals.proofs.Pass.{each-length}
-use Rattle.units.specs.Units.{Entry, reason1At, reason1, reason2At, reason2, path, parent, breadthFirst}
+use Rattle.units.specs.Units.{reason1At, reason1}
+use Rattle.paths.specs.Paths.{Entry, reason2At, reason2, path, parent, breadthFirst}
 use Rattle.literals.specs.Literals.{Found, orElse, reasonIf, firstOf, each}
 use Rattle.growth.specs.Growth.{blockName, reasonGrow, reason3At, gap, reasonShrink, reason4At, reason4aAt, reason4bAt, reason34}
 use Rattle.reasons.specs.Reasons.{findReason}

@@ -33,7 +33,8 @@ use Rattle.reasons.proofs.Sound1.{so-filled, reason1-sound, potential<,
 use Rattle.reasons.proofs.Stands.{find-stands}
 use Rattle.reasons.proofs.Sound2.{reason2-sound, blockOf}
 use Rattle.literals.specs.Literals.{Found, orElse, firstOf}
-use Rattle.units.specs.Units.{reason1At, reason1, reason2At, reason2}
+use Rattle.units.specs.Units.{reason1At, reason1}
+use Rattle.paths.specs.Paths.{reason2At, reason2}
 use Rattle.growth.specs.Growth.{mostApart, reason3At, reason4At, reason34}
 use Rattle.reasons.specs.Reasons.{findReason}
 use Rattle.reasons.proofs.Quiet.{Quiet, quiet-rules}

@@ -21,8 +21,8 @@ use Rattle.kinds.specs.Meaning.{PartialBoard, Block, Setting, partialOf}
 use Rattle.reasons.proofs.First.{agrees-each, first-some}
 use Rattle.reasons.proofs.Plain.{RulesAt}
 use Rattle.literals.specs.Literals.{each}
-use Rattle.units.specs.Units.{reason2At, reason2, path, breadthFirst}
-use Rattle.units.proofs.Walk.{path-linked}
+use Rattle.paths.specs.Paths.{reason2At, reason2, path, breadthFirst}
+use Rattle.paths.proofs.Walk.{path-linked}
 
 module _ (set : Setting) where
   open Setting set using (puzzle, cells, valid)

@@ -26,10 +26,11 @@ use Rattle.reasons.proofs.Sound34.{curCell, lastCell, shrinkLiterals, P
 use Rattle.reasons.proofs.First.{reason-if-some, or-else-some, first-some}
 use Rattle.reasons.proofs.Sound2.{way, two-of}
 use Rattle.literals.specs.Literals.{each}
-use Rattle.units.specs.Units.{reason1At, reason1, reason2}
+use Rattle.units.specs.Units.{reason1At, reason1}
+use Rattle.paths.specs.Paths.{reason2}
 use Rattle.growth.specs.Growth.{blockName as viewName, reasonGrow, reason34}
 use Rattle.reasons.specs.Reasons.{findReason}
-use Rattle.units.proofs.Walk.{path-square}
+use Rattle.paths.proofs.Walk.{path-square}
 
 module _ (set : Setting) where
   open Setting set using (puzzle, lines, cells, valid)

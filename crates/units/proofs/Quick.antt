@@ -1,9 +1,9 @@
--- Where reasons 1 and 2 don't apply, as the marks of the arrow cells' groups tell.
+-- Where reason 1 doesn't apply, as the marks of the arrow cells' groups tell.
 -- Assumes nothing.
 use Prim.Native.Nat.{ℕ, _*_, _%_, _≤_, _<_}
 use native.Mathlib.Decide.{decLt}
 use native.Mathlib.Omega.{arith}
-use mathlib.Core.Path.{_≡_, refl, sym, ap, _∙_, subst}
+use mathlib.Core.Path.{_≡_, refl, sym, ap, _∙_}
 use mathlib.Core.Bool.{Bool, true, false, So, _&&_, _||_, not, false≢true}
 use mathlib.Core.List.{List, [], _∷_, List·Memᴰ, List·Memᴰ·head, List·Memᴰ·tail}
 use mathlib.Core.Option.{none}
@@ -11,22 +11,21 @@ use lib.Dec.{eqb, leb}
 use lib.ListN.{length, getD, take, List·getD-eq-default}
 use lib.Seq.{getD-take}
 use borrow.Author.Tests.{eqb-true, eq-eqb, le-leb, lt-leb}
-use Rattle.grid.specs.Lists.{range, upto, any, filter, Distinct}
+use Rattle.grid.specs.Lists.{range, upto, any}
 use Rattle.grid.specs.Grid.{Grid, size, cellsOf}
 use Rattle.grid.specs.Side.{sized}
 use Rattle.grid.proofs.SideLaws.{area}
-use Rattle.grid.proofs.GridLaws.{size-most}
-use Rattle.grid.proofs.ListLaws.{so-false, and-true, true-and, not-so, any-mem, mem-any, filter-mem, upto-mem, mem-upto, distinct-filter, distinct-upto}
+use Rattle.grid.proofs.ListLaws.{so-false, and-true, true-and, not-so, any-mem, mem-any, filter-mem, upto-mem, mem-upto}
 use Rattle.record.specs.Record.{Puzzle}
 use Rattle.grid.specs.Cells.{Literal, potential, square}
 use Rattle.groups.specs.Groups.{labels, group, names}
 use Rattle.groups.specs.Arrows.{onArrow}
 use Rattle.groups.proofs.GroupLaws.{group-mem, mem-group}
-use Rattle.kinds.specs.Inside.{puzzleWith, Given, Marks, nameAt, nameAmong, nameTwice}
-use Rattle.kinds.proofs.ArrowMarks.{mark-on, listed-on, on-listed, arrow-mask, met-twice}
+use Rattle.kinds.specs.Inside.{puzzleWith, Marks, nameAmong}
+use Rattle.kinds.proofs.ArrowMarks.{mark-on, listed-on}
 use Rattle.literals.specs.Literals.{Found, orElse, reasonIf, firstOf}
-use Rattle.units.specs.Units.{reason1, reason1At, reason2, reason2At}
-use Rattle.units.specs.Arrays.{PotentialArrays, BlockArrays, Listed, strandedAt}
+use Rattle.units.specs.Units.{reason1, reason1At}
+use Rattle.units.specs.Arrays.{PotentialArrays, Listed, strandedAt}
 use Rattle.literals.specs.Buffer.{FoundAs}
 use Rattle.literals.specs.declared.Finding.the-variants.{Nothing}
 use Rattle.groups.proofs.LabelLaws.{label-test}
@@ -53,13 +52,13 @@ unfolding any upto range
 any-start t = refl
 
 -- no member of a list gives a reason
-all-none : (f : ℕ → Found) (l : List ℕ) → ((x : ℕ) → List·Memᴰ x l → f x ≡ none) → firstOf f l ≡ none
+pub all-none : (f : ℕ → Found) (l : List ℕ) → ((x : ℕ) → List·Memᴰ x l → f x ≡ none) → firstOf f l ≡ none
 unfolding firstOf orElse
 all-none f [] h = refl
 all-none f (x ∷ xs) h = rw (h x (List·Memᴰ·head refl)) (all-none f xs (λ y m. h y (List·Memᴰ·tail m)))
 
 -- a name is a cell
-name-low : (g : Grid) (p : ℕ → Bool) (f : ℕ) → List·Memᴰ f (names g p (labels g p)) → f < size g
+pub name-low : (g : Grid) (p : ℕ → Bool) (f : ℕ) → List·Memᴰ f (names g p (labels g p)) → f < size g
 unfolding names cellsOf
 name-low g p f m = upto-mem (size g) (filter-mem (λ i. p i && eqb (getD (labels g p) i 0) i) (upto (size g)) m .0)
 
@@ -114,45 +113,6 @@ none-stranded p cells groups onarrow marks arrows n total small e P L M none-is 
         let w = and-true (t i) _ (sym (test i f (o .0) h) ∙ k .2) in
         not-so (q .1) (mem-any (onArrow (p .arrows)) (c f) (mem-group g t (labels g t) f i (o .0) (w .0) (eqb-true _ _ (w .1))) (o .1))
 
--- no name was met twice: reason 2 does not apply
-pub none-twice : (p : Puzzle) (cells blocks onarrow arrows : List ℕ) (total : ℕ) → size (p .grid) ≤ 1024 → BlockArrays p cells blocks onarrow
-    → Listed arrows total onarrow → nameTwice blocks arrows total ≡ false → reason2 p cells ≡ none
-unfolding reason2 reason2At group cellsOf
-none-twice p cells blocks onarrow arrows total small B L none-is = all-none _ (names g t (labels g t)) (λ f m. few f (name-low g t f m) (A f) refl)
-  where
-    g : Grid
-    g = p .grid
-
-    t : ℕ → Bool
-    t = square cells
-
-    -- the arrow cells of the block f
-    A : ℕ → List ℕ
-    A f = filter (onArrow (p .arrows)) (group g t (labels g t) f)
-
-    distinct : (f : ℕ) → Distinct (A f)
-    distinct f = distinct-filter (onArrow (p .arrows)) (group g t (labels g t) f) (distinct-filter (λ i. t i && eqb (getD (labels g t) i 0) f) (upto (size g)) (distinct-upto (size g)))
-
-    -- the place of an arrow cell of the block f
-    place : (f : ℕ) → f < size g → (a : ℕ) → List·Memᴰ a (A f) → (k : ℕ) × (k < total) × (getD arrows k 0 ≡ a) × (nameAt blocks arrows k ≡ f)
-    place f h a m =
-        let q = filter-mem (onArrow (p .arrows)) (group g t (labels g t) f) m in
-        let r = group-mem g t (labels g t) f a (q .0) in
-        let k = on-listed g (p .arrows) (L .line) (L .marks) (B .arrows-are) a (r .0) (omega arith) (q .1) in
-        let own : getD blocks a 0 ≡ f = eqb-true _ _ (ap (λ (l : List ℕ). eqb (getD l a 0) f) (B .blocks-are) ∙ label-test g t a f (r .0) (omega arith) ∙ true-and (r .1) (eq-eqb _ _ (r .2))) in
-        (k .0, k .1, k .2, ap (λ (i : ℕ). getD blocks i 0) (k .2) ∙ own)
-
-    few : (f : ℕ) → f < size g → (l : List ℕ) → l ≡ A f → reason2At g cells l ≡ none
-    few f h [] e = refl
-    few f h (a ∷ []) e = refl
-    few f h (a ∷ b ∷ l) e =
-        let d : Distinct (a ∷ b ∷ l) = subst Distinct (sym e) (distinct f) in
-        let j = place f h a (subst (List·Memᴰ a) e (List·Memᴰ·head refl)) in
-        let k = place f h b (subst (List·Memᴰ b) e (List·Memᴰ·tail (List·Memᴰ·head refl))) in
-        absurd (false≢true (sym none-is ∙ met-twice blocks arrows total (j .0) (k .0)
-        (λ z. d .0 (List·Memᴰ·head (sym (j .2) ∙ ap (λ (x : ℕ). getD arrows x 0) z ∙ k .2)))
-        (j .1) (k .1) (omega (arith, k .3)) (j .3 ∙ sym (k .3))))
-
 -- ---- the same on the arrays of a board
 
 module _ (h w : ℕ) (tall : h ≤ 32) (wide : w ≤ 32) (lines : List (List ℕ)) (cells : List ℕ) {onarrow arrows : List ℕ} {total : ℕ} (L : Listed arrows total onarrow) where
@@ -160,14 +120,3 @@ module _ (h w : ℕ) (tall : h ≤ 32) (wide : w ≤ 32) (lines : List (List ℕ
       → any (strandedAt cells groups marks) (upto (h * w)) ≡ false → (buffer : List ℕ) → FoundAs (reason1 (puzzleWith (sized h w) lines) (take (h * w) cells)) buffer buffer Nothing
   quiet-1 P M e buffer =
       rw (none-stranded (puzzleWith (sized h w) lines) cells _ onarrow _ arrows (h * w) total (area h w tall wide) (sized-size h w) P L M e) (found-none buffer)
-
-  module _ {blocks : List ℕ} (B : BlockArrays (puzzleWith (sized h w) lines) (take (h * w) cells) blocks onarrow) where
-    pub quiet-2 : nameTwice blocks arrows total ≡ false → (buffer : List ℕ) → FoundAs (reason2 (puzzleWith (sized h w) lines) (take (h * w) cells)) buffer buffer Nothing
-    quiet-2 e buffer = rw (none-twice (puzzleWith (sized h w) lines) (take (h * w) cells) blocks onarrow arrows total (size-most (sized h w) tall wide) B L e) (found-none buffer)
-
-    -- the marks are those of the arrow blocks
-    pub arrowed-given : {marks : List ℕ} → Marks marks (nameAmong blocks arrows total) → Given (puzzleWith (sized h w) lines) (take (h * w) cells) blocks marks
-    arrowed-given M = record {
-      named = B .blocks-are;
-      marked = arrow-mask (puzzleWith (sized h w) lines) (size-most (sized h w) tall wide) (take (h * w) cells) (B .blocks-are) (L .line) (L .marks) (B .arrows-are) M;
-    }

@@ -1,4 +1,4 @@
--- What reasons 1 and 2 ask of the arrays that they are lent.
+-- What the parts of reason 1 ask of the arrays that they are lent.
 -- Assumes nothing.
 use Prim.Native.Nat.{ℕ, _<_, max}
 use mathlib.Core.Path.{_≡_}
@@ -10,7 +10,7 @@ use lib.ListN.{length, getD, take}
 use Rattle.grid.specs.Lists.{filter, upto}
 use Rattle.grid.specs.Grid.{Grid}
 use Rattle.record.specs.Record.{Puzzle}
-use Rattle.grid.specs.Cells.{Literal, potential, square}
+use Rattle.grid.specs.Cells.{Literal, potential}
 use Rattle.groups.specs.Groups.{labels, group}
 use Rattle.groups.specs.Arrows.{onArrow}
 use Rattle.groups.specs.Arrays.{Line, labelArray, maskOf, marksOf}
@@ -22,11 +22,6 @@ use Rattle.units.specs.declared.Name.the-variants.{At, Nobody}
 -- the potential groups of the cells, and the arrow cells
 pub record PotentialArrays (p : Puzzle) (cells groups onarrow : List ℕ) : Type 0 where
   pub groups-are : groups ≡ labelArray (p .grid) (potential cells)
-  pub arrows-are : onarrow ≡ maskOf (p .grid) (onArrow (p .arrows))
-
--- the blocks of the cells, and the arrow cells
-pub record BlockArrays (p : Puzzle) (cells blocks onarrow : List ℕ) : Type 0 where
-  pub blocks-are : blocks ≡ labelArray (p .grid) (square cells)
   pub arrows-are : onarrow ≡ maskOf (p .grid) (onArrow (p .arrows))
 
 -- the first `total` cells of an array are those that are marked

@@ -1,7 +1,7 @@
--- What reasons 1 and 2 choose and give, in terms of cells that are joined. `reason1` and `reason2` of Units compute it (reasons/proofs/Chosen.antt).
+-- What reason 1 chooses and gives, in terms of cells that are joined. `reason1` of Units computes it (reasons/proofs/Chosen.antt).
 -- Assumes nothing.
-use Prim.Native.Nat.{ℕ, _≤_, _<_}
-use mathlib.Core.Logic.{_⊎_, _↔_}
+use Prim.Native.Nat.{ℕ, _≤_}
+use mathlib.Core.Logic.{_↔_}
 use mathlib.Core.Path.{_≡_}
 use mathlib.Core.Bool.{So}
 use mathlib.Core.List.{List, [], _∷_, _++_, List·Memᴰ}
@@ -11,9 +11,7 @@ use Rattle.grid.specs.Cells.{Literal, empty, square, potential}
 use Rattle.record.specs.Record.{Puzzle}
 use Rattle.groups.specs.Groups.{Joined}
 use Rattle.groups.specs.Arrows.{onArrow}
-use Rattle.groups.specs.Rules.{SameBlock}
 use Rattle.literals.specs.Literals.{each}
-use Rattle.units.specs.BreadthFirst.{ByParents}
 
 -- j is in the potential group of i: the largest side-connected set of cells that aren't empty that i is in
 abbrev pub SamePotential : Grid → List ℕ → ℕ → ℕ → Type 0
@@ -43,20 +41,3 @@ module _ (p : Puzzle) (cells : List ℕ) where
     pub stranded : Stranded number
     pub lowest : (f : ℕ) → Stranded f → number ≤ f
     pub boundary : Boundary number r
-
-  -- a block with two or more arrow cells, the first two being a and b; its number f is its first cell in row order
-  pub record Crossed (f a b : ℕ) : Type 0 where
-    pub first : (j : ℕ) → SameBlock (p .grid) cells f j → f ≤ j
-    pub one : SameBlock (p .grid) cells f a × So (onArrow (p .arrows) a)
-    pub two : SameBlock (p .grid) cells f b × So (onArrow (p .arrows) b)
-    pub order : a < b
-    pub rest : (j : ℕ) → SameBlock (p .grid) cells f j → So (onArrow (p .arrows) j) → (j ≡ a) ⊎ (b ≤ j)
-
-  -- reason 2: the lowest numbered block with two or more arrow cells, and the way from a by parents to b
-  pub record Reason2 (r : List Literal) : Type 0 where
-    pub number : ℕ
-    pub a : ℕ
-    pub b : ℕ
-    pub crossed : Crossed number a b
-    pub lowest : (f c d : ℕ) → Crossed f c d → number ≤ f
-    pub way : ByParents (p .grid) cells a b r

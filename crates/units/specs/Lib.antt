@@ -1,5 +1,3 @@
 pub mod Units
-pub mod BreadthFirst
 pub mod Chosen
-pub mod Search
 pub mod Arrays

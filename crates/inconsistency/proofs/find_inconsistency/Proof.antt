@@ -5,7 +5,8 @@ use mathlib.Core.Path.{_∙_}
 use lib.ListN.{take}
 use Rattle.grid.specs.Side.{sized}
 use Rattle.kinds.specs.Inside.{puzzleWith}
-use Rattle.units.specs.Units.{reason1, reason2}
+use Rattle.units.specs.Units.{reason1}
+use Rattle.paths.specs.Paths.{reason2}
 use Rattle.groups.specs.Arrays.{linesOf}
 use Rattle.inconsistency.specs.Arrays.{ArrowArrays}
 use Rattle.inconsistency.proofs.Checks.{line-is, listed-is, potentials-held, blocks-held, fit-after, same-after, never-refused, first-found, second-found, rest-found}

@@ -7,7 +7,7 @@ use Rattle.grid.specs.Grid.{size}
 use Rattle.grid.specs.Side.{sized}
 use Rattle.grid.proofs.Turns.{in-size}
 use Rattle.grid.proofs.GridLaws.{size-most}
-use Rattle.units.proofs.Breadth.{Run, run-first, run-cell, run-below, run-more, run-done, fill-length, fill-at}
+use Rattle.paths.proofs.Breadth.{Run, run-first, run-cell, run-below, run-more, run-done, fill-length, fill-at}
 use Rattle.paths.proofs.breadth_first.Statement.{statement}
 use Rattle.paths.proofs.breadth_first.Tie as tie
 

@@ -11,7 +11,7 @@ use Rattle.grid.proofs.SideLaws.{area}
 use Rattle.kinds.specs.Inside.{puzzleWith}
 use Rattle.units.proofs.Checks.{sized-size}
 use Rattle.paths.proofs.Found.{crossing-ends, crossing-found, crossing-none}
-use Rattle.units.proofs.Quick.{quiet-2, arrowed-given}
+use Rattle.paths.proofs.Quick.{quiet-2, arrowed-given}
 use Rattle.paths.proofs.check_blocks.Statement.{statement}
 use Rattle.paths.proofs.check_blocks.Tie as tie
 

@@ -2,7 +2,7 @@ use mathlib.Core.Path.{_≡_, subst, _∙_}
 use Prim.Native.Nat.{ℕ, _-_, _≤_, _<_}
 use native.Mathlib.Omega.{arith}
 use Rattle.paths.specs.Ends.{Firsts}
-use Rattle.units.proofs.Breadth.{fill-length, fill-at}
+use Rattle.paths.proofs.Breadth.{fill-length, fill-at}
 use Rattle.paths.proofs.Crossings.{firsts-none, firsts-more}
 use Rattle.paths.proofs.keep_arrow_cells.Statement.{statement}
 use Rattle.paths.proofs.keep_arrow_cells.Tie as tie

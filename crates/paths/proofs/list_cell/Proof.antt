@@ -1,5 +1,5 @@
 use native.Mathlib.Omega.{arith}
-use Rattle.units.proofs.Listings.{room-left, offer-plain, offer-seen, offer-new}
+use Rattle.paths.proofs.Listings.{room-left, offer-plain, offer-seen, offer-new}
 use borrow.Author.Needs.{needs}
 use Rattle.paths.proofs.list_cell.Statement.{statement}
 use Rattle.paths.proofs.list_cell.Tie as tie

@@ -7,9 +7,9 @@ use lib.ListN.{length, getD, take}
 use Rattle.grid.specs.Grid.{Grid, size, neighbours}
 use Rattle.grid.specs.Side.{sized, aroundOf}
 use Rattle.grid.proofs.GridLaws.{apart, size-most}
-use Rattle.units.specs.Units.{Entry}
-use Rattle.units.specs.Search.{Listing, Room, Offered}
-use Rattle.units.proofs.Listings.{offered-room, offered-more, offered-take, news, neighbour-offered, news-none, news-all}
+use Rattle.paths.specs.Paths.{Entry}
+use Rattle.paths.specs.Search.{Listing, Room, Offered}
+use Rattle.paths.proofs.Listings.{offered-room, offered-more, offered-take, news, neighbour-offered, news-none, news-all}
 use Rattle.paths.proofs.list_neighbours.Statement.{statement}
 use Rattle.paths.proofs.list_neighbours.Tie as tie
 

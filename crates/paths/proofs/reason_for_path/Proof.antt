@@ -11,7 +11,7 @@ use Rattle.grid.proofs.LinkLaws.{linked-start}
 use Rattle.grid.specs.Cells.{square}
 use Rattle.grid.proofs.GridLaws.{size-most}
 use Rattle.literals.proofs.BufferLaws.{wrote-length}
-use Rattle.units.proofs.Breadth.{square-below}
+use Rattle.paths.proofs.Breadth.{square-below}
 use Rattle.paths.proofs.Ways.{Way, way-first, way-below, way-cell, way-mark, way-more, way-done}
 use Rattle.paths.proofs.reason_for_path.Statement.{statement}
 use Rattle.paths.proofs.reason_for_path.Tie as tie

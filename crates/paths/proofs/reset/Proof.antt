@@ -4,7 +4,7 @@ use Prim.Native.Nat.{_+_, _-_, _≤_}
 use native.Mathlib.Omega.{arith}
 use lib.ListN.{drop, replicate}
 use borrow.Author.Needs.{needs}
-use Rattle.units.proofs.Breadth.{fill-more}
+use Rattle.paths.proofs.Breadth.{fill-more}
 use Rattle.paths.proofs.reset.Statement.{statement}
 use Rattle.paths.proofs.reset.Tie as tie
 

@@ -1,4 +1,4 @@
--- The breadth-first list and the path of reason 2 step by step, with no count of steps. `breadthFirst` and `path` of Units compute them
+-- The breadth-first list and the path of reason 2 step by step, with no count of steps. `breadthFirst` and `path` of Paths compute them
 -- (reasons/proofs/BreadthFirstLaws.antt).
 -- Assumes nothing.
 use Prim.Native.Nat.{ℕ}
@@ -8,7 +8,7 @@ use mathlib.Core.Bool.{So}
 use mathlib.Core.List.{List, [], _∷_, _++_, List·Memᴰ}
 use Rattle.grid.specs.Grid.{Grid, neighbours}
 use Rattle.grid.specs.Cells.{Literal, square}
-use Rattle.units.specs.Units.{Entry}
+use Rattle.paths.specs.Paths.{Entry}
 use Rattle.literals.specs.Literals.{each}
 
 -- the list has cell j, with some parent

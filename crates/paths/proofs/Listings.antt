@@ -16,8 +16,8 @@ use Rattle.grid.specs.Grid.{Grid, size, neighbours}
 use Rattle.grid.proofs.ListLaws.{split, so-false, at-mem}
 use Rattle.grid.proofs.AppendLaws.{filter-more}
 use Rattle.grid.specs.Cells.{square}
-use Rattle.units.specs.Units.{Entry}
-use Rattle.units.specs.Search.{seen, appended, parentMark, unlisted, Listing, wanted, Offered, Room}
+use Rattle.paths.specs.Paths.{Entry}
+use Rattle.paths.specs.Search.{seen, appended, parentMark, unlisted, Listing, wanted, Offered, Room}
 
 -- ---- room
 

@@ -16,11 +16,11 @@ use Rattle.grid.specs.Lists.{any}
 use Rattle.grid.specs.Grid.{Grid, size}
 use Rattle.grid.proofs.ListLaws.{split}
 use Rattle.grid.specs.Cells.{square}
-use Rattle.units.specs.Units.{Entry, breadthFirst, parent, path}
-use Rattle.units.specs.Search.{seen, appended, parentMark, Listing, Room}
-use Rattle.units.specs.BreadthFirst.{Listed}
-use Rattle.units.proofs.Walk.{so-seen, Tree, root, tree-square, tree-length, tree-step}
-use Rattle.units.proofs.Listings.{room-first}
+use Rattle.paths.specs.Paths.{Entry, breadthFirst, parent, path}
+use Rattle.paths.specs.Search.{seen, appended, parentMark, Listing, Room}
+use Rattle.paths.specs.BreadthFirst.{Listed}
+use Rattle.paths.proofs.Walk.{so-seen, Tree, root, tree-square, tree-length, tree-step}
+use Rattle.paths.proofs.Listings.{room-first}
 
 -- ---- an array is filled
 

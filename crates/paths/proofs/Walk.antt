@@ -20,9 +20,9 @@ use Rattle.grid.specs.Count.{count}
 use Rattle.grid.proofs.Count.{count-except, count-inj-suc, count-le}
 use Rattle.grid.proofs.GridLaws.{adj-sym, apart}
 use Rattle.grid.specs.Cells.{square}
-use Rattle.units.specs.Units.{Entry, breadthFirst, parent, path}
-use Rattle.units.specs.Search.{seen, appended}
-use Rattle.units.specs.BreadthFirst.{Listed}
+use Rattle.paths.specs.Paths.{Entry, breadthFirst, parent, path}
+use Rattle.paths.specs.Search.{seen, appended}
+use Rattle.paths.specs.BreadthFirst.{Listed}
 
 pub listed-left : (cs es : List Entry) (x : ℕ) → Listed cs x → Listed (cs ++ es) x
 listed-left cs es x (p, m) = (p, Memᴰ·append-left es m)

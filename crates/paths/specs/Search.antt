@@ -11,7 +11,7 @@ use Rattle.grid.specs.Grid.{Grid, size, neighbours}
 use Rattle.grid.specs.Side.{sized}
 use Rattle.grid.specs.Cells.{square}
 use Rattle.groups.specs.Groups.{Joined}
-use Rattle.units.specs.Units.{Entry, breadthFirst}
+use Rattle.paths.specs.Paths.{Entry, breadthFirst}
 
 -- cell j is in the breadth-first list
 abbrev pub seen : List Entry → ℕ → Bool
