@@ -18,10 +18,11 @@ use Rattle.kinds.specs.Kinds.{View, view, viewWith, block, reach, fence}
 use Rattle.kinds.specs.Inside.{Held}
 use Rattle.fence.specs.Inside.{Fenced}
 use Rattle.literals.specs.Buffer.{Wrote}
-use Rattle.growth.specs.Pairs.{pairAt, viewOn, blockCellFence}
-use Rattle.growth.specs.Growth.{reason4aAt, reason4bAt, mostApart, blockName, reasonGrow, reason3At, gap, reasonShrink}
+use Rattle.growth.specs.Pairs.{pairAt, viewOn}
+use Rattle.growth.specs.Growth.{reason4aAt, reason4bAt, mostApart, blockName, blockCellFence, reasonGrow, reason3At, gap, reasonShrink}
 use Rattle.literals.specs.Literals.{reasonIf, each}
-use Rattle.shift.specs.Shift.{blockIn, shiftFits}
+use Rattle.shift.specs.Fits.{shiftFits}
+use Rattle.shift.specs.Shift.{blockIn}
 use Rattle.literals.proofs.BufferLaws.{wrote-more}
 use Rattle.growth.proofs.PairPlaces.{slice-tail, slice-init}
 use Rattle.kinds.proofs.BlockArrays.{block-by}
@@ -30,11 +31,11 @@ use Rattle.kinds.proofs.BlockArrays.{block-by}
 module _ (v : View) (p : Pair) (f e : ℕ) (last : f ≡ getD (v .blocks) (p .last) 0) (cur : e ≡ getD (v .blocks) (p .cur) 0) where
   -- some shift of last's block lies in cur's reach, or none
   pub shift-none : shiftFits v f e ≡ true → reason3At v p ≡ none
-  unfolding reason3At blockName reasonIf shiftFits
+  unfolding reason3At blockName reasonIf
   shift-none t = rw (← last, ← cur, t) refl
 
   pub shift-some : shiftFits v f e ≡ false → reason3At v p ≡ some (blockCellFence v f (p .cur) e)
-  unfolding reason3At reasonGrow blockName reasonIf blockCellFence shiftFits
+  unfolding reason3At reasonGrow blockName reasonIf
   shift-some t = rw (← last, ← cur, t) refl
 
   -- cur's reach is large enough, or not
@@ -43,7 +44,7 @@ module _ (v : View) (p : Pair) (f e : ℕ) (last : f ≡ getD (v .blocks) (p .la
   growth-none h = rw (← last, ← cur, le-ltb (length (reach v e)) (length (block v f) + 1) h) refl
 
   pub growth-some : length (reach v e) < length (block v f) + 1 → reason4aAt v p ≡ some (blockCellFence v f (p .cur) e)
-  unfolding reason4aAt reasonGrow blockName reasonIf blockCellFence
+  unfolding reason4aAt reasonGrow blockName reasonIf
   growth-some h = rw (← last, ← cur, lt-ltb (length (reach v e)) (length (block v f) + 1) h) refl
 
   -- last's reach with the gap is large enough, or not
@@ -53,7 +54,7 @@ module _ (v : View) (p : Pair) (f e : ℕ) (last : f ≡ getD (v .blocks) (p .la
 
   pub gap-some : length (reach v f) + 1 + mostApart (v .cells) false (gap p) < length (block v e)
       → reason4bAt v p ≡ some (blockCellFence v e (p .last) f ++ each 0 (filter (empty (v .cells)) (gap p)))
-  unfolding reason4bAt reasonShrink blockName reasonIf blockCellFence
+  unfolding reason4bAt reasonShrink blockName reasonIf
   gap-some h = rw (← last, ← cur, lt-ltb (length (reach v f) + 1 + mostApart (v .cells) false (gap p)) (length (block v e)) h) refl
 
 -- ---- the gap, by places and in the array of cells

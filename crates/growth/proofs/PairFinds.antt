@@ -13,10 +13,10 @@ use Rattle.groups.specs.Arrows.{Pair}
 use Rattle.groups.specs.Arrays.{CellArray}
 use Rattle.kinds.specs.Kinds.{View, view, viewWith, block, reach}
 use Rattle.literals.specs.Buffer.{Wrote, FoundAs}
-use Rattle.growth.specs.Pairs.{pairAt, viewOn, Scene, blockCellFence}
-use Rattle.growth.specs.Growth.{reason4aAt, reason4bAt, mostApart, gap, reason3At}
+use Rattle.growth.specs.Pairs.{pairAt, viewOn, Scene}
+use Rattle.growth.specs.Growth.{reason4aAt, reason4bAt, mostApart, blockCellFence, gap, reason3At}
 use Rattle.literals.specs.Literals.{each}
-use Rattle.shift.specs.Shift.{shiftFits}
+use Rattle.shift.specs.Fits.{shiftFits}
 use Rattle.literals.specs.declared.Finding.the-variants.{Nothing, Reason}
 use Rattle.literals.proofs.Findings.{found-none, wrote-found}
 use Rattle.growth.proofs.PairChecks.{shift-none, shift-some, growth-none, growth-some, gap-none, gap-some, gap-places, most-taken, empty-agree}

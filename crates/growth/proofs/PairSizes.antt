@@ -11,8 +11,8 @@ use Rattle.grid.proofs.ListLaws.{filter-length}
 use Rattle.grid.proofs.GridLaws.{cells-length}
 use Rattle.grid.specs.Cells.{undecided}
 use Rattle.kinds.specs.Kinds.{view, viewWith, block, inReach, reach, fence}
-use Rattle.growth.specs.Pairs.{viewOn, blockCellFence}
-use Rattle.growth.specs.Growth.{mostApart}
+use Rattle.growth.specs.Pairs.{viewOn}
+use Rattle.growth.specs.Growth.{mostApart, blockCellFence}
 use Rattle.literals.proofs.Pass.{each-length}
 use Rattle.kinds.proofs.Lengths.{block-length, fence-length}
 
@@ -34,7 +34,6 @@ module _ (h w : ℕ) (lines : List (List ℕ)) (cells : List ℕ) where
 
   -- a block, an arrow cell and a fence
   pub parts-few : (b i f : ℕ) → length (blockCellFence (viewOn h w lines cells) b i f) ≤ 2 * (h * w) + 1
-  unfolding blockCellFence
   parts-few b i f = simp (length-append, each-length) (omega (arith, block-few b, fence-few f))
 
 -- the counted cells of a gap

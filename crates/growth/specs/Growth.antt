@@ -5,12 +5,12 @@ use mathlib.Core.Bool.{Bool, true, false, cond, not}
 use mathlib.Core.List.{List, [], _∷_, _++_}
 use lib.Dec.{ltb}
 use lib.ListN.{length, getD}
-use Rattle.grid.specs.Lists.{any, filter, flatMap, last, init, tail}
+use Rattle.grid.specs.Lists.{filter, flatMap, last, init, tail}
 use Rattle.grid.specs.Cells.{Literal, empty, undecided}
 use Rattle.groups.specs.Arrows.{Pair, pairs}
-use Rattle.groups.specs.Rules.{fits}
 use Rattle.kinds.specs.Kinds.{View, block, reach, fence}
 use Rattle.literals.specs.Literals.{Found, orElse, reasonIf, firstOf, each}
+use Rattle.shift.specs.Fits.{shiftFits}
 
 -- the most undecided cells, no two consecutive; taken: the cell before was counted
 unfoldable pub mostApart : List ℕ → Bool → List ℕ → ℕ
@@ -27,24 +27,22 @@ blockName v i = getD (v .blocks) i 0
 unfoldable pub gap : Pair → List ℕ
 gap pair = tail (init (pair .between))
 
+-- the arrow block b, an arrow cell i and the fence of the arrow block f
+abbrev pub blockCellFence : View → ℕ → ℕ → ℕ → List Literal
+blockCellFence v b i f = each 1 (block v b) ++ each 1 (i ∷ []) ++ fence v f
+
 module _ (v : View) (pair : Pair) where
   -- last's block, cur's arrow cell, the fence of cur's block
   unfoldable pub reasonGrow : List Literal
-  reasonGrow = each 1 (block v (blockName v (pair .last))) ++ each 1 (pair .cur ∷ []) ++ fence v (blockName v (pair .cur))
+  reasonGrow = blockCellFence v (blockName v (pair .last)) (pair .cur) (blockName v (pair .cur))
 
-  -- 3. no shift of last's block lies in cur's reach
+  -- 3. no shift of last's block lies wholly in cur's reach
   unfoldable pub reason3At : Found
-  reason3At =
-      let r = reach v (blockName v (pair .cur)) in
-      reasonIf (not (any (fits (v .grid) (block v (blockName v (pair .last))) r (blockName v (pair .last))) r)) reasonGrow
+  reason3At = reasonIf (not (shiftFits v (blockName v (pair .last)) (blockName v (pair .cur)))) reasonGrow
 
   -- cur's block, last's arrow cell, the fence of last's block, the empty cells of the gap
   unfoldable pub reasonShrink : List Literal
-  reasonShrink =
-      each 1 (block v (blockName v (pair .cur)))
-      ++ each 1 (pair .last ∷ [])
-      ++ fence v (blockName v (pair .last))
-      ++ each 0 (filter (empty (v .cells)) (gap pair))
+  reasonShrink = blockCellFence v (blockName v (pair .cur)) (pair .last) (blockName v (pair .last)) ++ each 0 (filter (empty (v .cells)) (gap pair))
 
   -- 4 (a). cur's reach is too small for last's block and one more
   unfoldable pub reason4aAt : Found

@@ -3,16 +3,16 @@
 use Prim.Native.Nat.{ℕ, _+_, _*_, _≤_, _<_}
 use mathlib.Core.Path.{_≡_}
 use mathlib.Core.Bool.{Bool, true, false, cond}
-use mathlib.Core.List.{List, [], _∷_, _++_, List·Memᴰ}
+use mathlib.Core.List.{List, List·Memᴰ}
 use lib.ListN.{length, getD, take}
 use lib.Seq.{slice}
 use Rattle.grid.specs.Side.{sized}
-use Rattle.grid.specs.Cells.{Literal, square}
+use Rattle.grid.specs.Cells.{square}
 use Rattle.groups.specs.Arrows.{onArrow, Pair}
 use Rattle.groups.specs.Arrays.{CellArray, linesOf}
-use Rattle.kinds.specs.Kinds.{View, view, block, fence}
+use Rattle.kinds.specs.Kinds.{View, view}
 use Rattle.kinds.specs.Arrays.{reachMask}
-use Rattle.literals.specs.Literals.{Found, each}
+use Rattle.literals.specs.Literals.{Found}
 use Rattle.growth.specs.Growth.{reason3At, reason4At}
 use Rattle.reach.specs.Chains.{Chains}
 use Rattle.reach.specs.Near.{Sizes}
@@ -74,10 +74,6 @@ pub record Squares (h w : ℕ) (cells arrows kinds owners : List ℕ) (last cur 
   pub order : last < cur
   pub first : square cells (getD arrows last 0) ≡ true
   pub second : square cells (getD arrows cur 0) ≡ true
-
--- a block's cells, an arrow cell, and the fence of a block
-unfoldable pub blockCellFence : View → ℕ → ℕ → ℕ → List Literal
-blockCellFence v b i f = each 1 (block v b) ++ each 1 (i ∷ []) ++ fence v f
 
 -- the arrays hold a board with its arrows, which are no longer than the grid is large
 pub record Whole (h w : ℕ) (cells arrows ends kinds owners : List ℕ) (count : ℕ) : Type 0 where

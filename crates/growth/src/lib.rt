@@ -11,14 +11,14 @@ ghost use Rattle.grid.specs.Cells.{empty};
 ghost use Rattle.kinds.specs.Kinds.{View, block, view, reach};
 ghost use Rattle.kinds.specs.Arrays.{reachMask};
 ghost use Rattle.literals.specs.Literals.{each};
-ghost use Rattle.growth.specs.Growth.{mostApart};
+ghost use Rattle.growth.specs.Growth.{mostApart, blockCellFence};
 ghost use Rattle.literals.specs.Buffer.{Wrote, Fit};
 ghost use Rattle.groups.specs.Arrays.{CellArray};
 ghost use Rattle.kinds.specs.Inside.{Held, Limits, puzzleWith};
 ghost use mathlib.Core.List.{List};
 ghost use Rattle.grid.specs.Side.{sized};
 ghost use Rattle.reach.specs.Chains.{Chains};
-ghost use Rattle.growth.specs.Pairs.{viewOn, Shown, Seen, blockCellFence};
+ghost use Rattle.growth.specs.Pairs.{viewOn, Shown, Seen};
 ghost use Rattle.reach.specs.Near.{Sizes};
 ghost use Rattle.shift.specs.Shift.{blockIn, Chained};
 

@@ -17,7 +17,8 @@ use Rattle.kinds.specs.Inside.{Limits, puzzleWith, Held}
 use Rattle.reach.specs.Inside.{reachesAt}
 use Rattle.reach.specs.Near.{NearFloats}
 use Rattle.reach.proofs.NearReach.{reached-is, reach-any}
-use Rattle.shift.specs.Shift.{blockIn, Gathered, BlockPlaces, fitsAt, shiftFits}
+use Rattle.shift.specs.Fits.{shiftFits}
+use Rattle.shift.specs.Shift.{blockIn, Gathered, BlockPlaces, fitsAt}
 use Rattle.shift.proofs.Passed.{none-taken, some-taken}
 use Rattle.kinds.proofs.BlockArrays.{block-by}
 use Rattle.shift.proofs.Shifts.{gathered-places, fits-test, reach-inside, reach-tells}
@@ -37,7 +38,6 @@ module _ (h w : ℕ) (limits : Limits h w) (lines : List (List ℕ)) (cells : Li
   test-is t = fits-test (v .grid) (block v f) (reach v e) f rows columns count (reachesAt kinds owners near e) places (reach-inside v e) (λ d l. reached-is h w limits lines cells kinds owners held e near groups total floats d l ∙ reach-tells v e d l) t
 
   chains-are : (any test (cellsFrom owners (h * w) e 0) || any (λ m. any test (cellsFrom owners (h * w) m 0)) (take total groups)) ≡ shiftFits v f e
-  unfolding shiftFits
   chains-are = sym (reach-any h w limits lines cells kinds owners held e near groups total floats arrow test) ∙ any-agree test (fits (v .grid) (block v f) (reach v e) f) (reach v e) (λ t _. test-is t)
 
   -- some shift to a cell of the block's chain fits

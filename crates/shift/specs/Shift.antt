@@ -7,12 +7,10 @@ use mathlib.Core.List.{List, _++_, map}
 use lib.Dec.{eqb}
 use lib.IntN.{ℤ, pos, _-ℤ_}
 use lib.ListN.{length, getD, take, drop}
-use Rattle.grid.specs.Lists.{upto, any, all, filter}
+use Rattle.grid.specs.Lists.{upto, all, filter}
 use Rattle.grid.specs.Side.{shiftedOf}
 use Rattle.grid.specs.declared.Side.{Side}
 use Rattle.grid.specs.declared.Side.the-variants.{At, Off}
-use Rattle.groups.specs.Rules.{fits}
-use Rattle.kinds.specs.Kinds.{View, block, reach}
 use Rattle.reach.specs.Chains.{Chains}
 
 -- the cells of the arrow block named f among the first n, by their kinds and owners
@@ -58,10 +56,6 @@ allLand h w rows columns count test dy dx =
 -- the shift that takes the cell at row fy, column fx to the cell t takes every cell to one that passes
 unfoldable pub fitsAt : ℕ → ℕ → List ℕ → List ℕ → ℕ → (ℕ → Bool) → ℕ → ℕ → ℕ → Bool
 fitsAt h w rows columns count test fy fx t = allLand h w rows columns count test (pos (t / w) -ℤ pos fy) (pos (t % w) -ℤ pos fx)
-
--- some shift of the arrow block f lies wholly in the reach of the arrow block e
-unfoldable pub shiftFits : View → ℕ → ℕ → Bool
-shiftFits v f e = any (fits (v .grid) (block v f) (reach v e) f) (reach v e)
 
 -- arrays of 1024 places each, which the checks of the pairs use in turn: names of groups, rows and columns
 pub record Work (groups rows columns : List ℕ) : Type 0 where

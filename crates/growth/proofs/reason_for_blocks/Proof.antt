@@ -6,7 +6,7 @@ use lib.ListN.{length, length-drop}
 use Rattle.grid.proofs.SideLaws.{area}
 use Rattle.kinds.specs.Kinds.{block}
 use Rattle.literals.specs.Buffer.{Wrote}
-use Rattle.growth.specs.Pairs.{viewOn, blockCellFence}
+use Rattle.growth.specs.Pairs.{viewOn}
 use Rattle.literals.specs.Literals.{each}
 use Rattle.literals.proofs.BufferLaws.{wrote-length}
 use Rattle.literals.proofs.Findings.{lent, wrote-part}
@@ -111,7 +111,6 @@ same-length : tie.Need-same-length
 same-length c = search needs
 
 returns : tie.Need-returns
-unfolding blockCellFence
 returns c =
     let p = c .before .before .before .before .before .before in
     let s = p .before .before .before .before .before .before .before in
