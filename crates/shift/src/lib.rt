@@ -40,7 +40,7 @@ fn keep_place(
 
 // The rows and the columns of the cells of the arrow block named f, by rising index; how many they are. They are the cells of kind 1
 // of its chain.
-pub fn gather_block(
+fn gather_block(
     kinds: &[u8; 1024],
     head: &[u16; 1024],
     next: &[u16; 1024],
@@ -65,16 +65,16 @@ pub fn gather_block(
 
 // Does the cell at row y, column x come into the reach of the block named e by the offset? `near` marks the floating groups in it.
 fn lands_in(
+    kinds: &[u8; 1024],
+    owners: &[u16; 1024],
+    near: &[u8; 1024],
     h: usize,
     w: usize,
+    e: u16,
     y: usize,
     x: usize,
     dy: i32,
     dx: i32,
-    kinds: &[u8; 1024],
-    owners: &[u16; 1024],
-    near: &[u8; 1024],
-    e: u16,
 ) -> bool
     requires { ⌜ InPlace h w y x × (mag dy < 1024) × (mag dx < 1024) ⌝ }
     ensures { λ r. ⌜ r ≡ landsIn (reachesAt (now (kinds .entry)) (now (owners .entry)) (now (near .entry)) e) (shiftedOf h w y x dy dx) ⌝ }
@@ -88,14 +88,14 @@ fn lands_in(
 
 // Do all of the gathered cells come into the reach by the offset?
 fn fits_by(
-    h: usize,
-    w: usize,
     rows: &[u16; 1024],
     columns: &[u16; 1024],
     count: usize,
     kinds: &[u8; 1024],
     owners: &[u16; 1024],
     near: &[u8; 1024],
+    h: usize,
+    w: usize,
     e: u16,
     dy: i32,
     dx: i32,
@@ -107,7 +107,7 @@ fn fits_by(
     while k < count {
         let y = grid::wide(rows[k]);
         let x = grid::wide(columns[k]);
-        if !lands_in(h, w, y, x, dy, dx, kinds, owners, near, e) {
+        if !lands_in(kinds, owners, near, h, w, e, y, x, dy, dx) {
             return false;
         }
         k += 1;
@@ -117,14 +117,14 @@ fn fits_by(
 
 // Does the shift that takes the cell at row fy, column fx to cell t take all of the gathered cells into the reach?
 fn fits_at(
-    h: usize,
-    w: usize,
     rows: &[u16; 1024],
     columns: &[u16; 1024],
     count: usize,
     kinds: &[u8; 1024],
     owners: &[u16; 1024],
     near: &[u8; 1024],
+    h: usize,
+    w: usize,
     e: u16,
     fy: usize,
     fx: usize,
@@ -135,13 +135,11 @@ fn fits_at(
 {
     let dy = grid::offset(fy, t / w);
     let dx = grid::offset(fx, t % w);
-    fits_by(h, w, rows, columns, count, kinds, owners, near, e, dy, dx)
+    fits_by(rows, columns, count, kinds, owners, near, h, w, e, dy, dx)
 }
 
 // The same for some cell t of the group named m.
 fn fits_chain(
-    h: usize,
-    w: usize,
     rows: &[u16; 1024],
     columns: &[u16; 1024],
     count: usize,
@@ -150,6 +148,8 @@ fn fits_chain(
     head: &[u16; 1024],
     next: &[u16; 1024],
     near: &[u8; 1024],
+    h: usize,
+    w: usize,
     e: u16,
     fy: usize,
     fx: usize,
@@ -162,14 +162,14 @@ fn fits_chain(
     let mut t = head[m as usize] as usize;
     while t < 1024 {
         if fits_at(
-            h,
-            w,
             rows,
             columns,
             count,
             kinds,
             owners,
             near,
+            h,
+            w,
             e,
             fy,
             fx,
@@ -185,8 +185,6 @@ fn fits_chain(
 // Does some shift of the gathered block, whose first cell is f, lie wholly in the reach of the block named e? The reach has the
 // cells of that block's chain and those of the chains of the floating groups near it, of which `groups` has the names.
 fn fits(
-    h: usize,
-    w: usize,
     rows: &[u16; 1024],
     columns: &[u16; 1024],
     count: usize,
@@ -197,6 +195,8 @@ fn fits(
     near: &[u8; 1024],
     groups: &[u16; 1024],
     total: usize,
+    h: usize,
+    w: usize,
     e: u16,
     f: usize,
 ) -> bool
@@ -211,8 +211,6 @@ fn fits(
     let fy = f / w;
     let fx = f % w;
     if fits_chain(
-        h,
-        w,
         rows,
         columns,
         count,
@@ -221,6 +219,8 @@ fn fits(
         head,
         next,
         near,
+        h,
+        w,
         e,
         fy,
         fx,
@@ -231,8 +231,6 @@ fn fits(
     let mut k = 0;
     while k < total {
         if fits_chain(
-            h,
-            w,
             rows,
             columns,
             count,
@@ -241,6 +239,8 @@ fn fits(
             head,
             next,
             near,
+            h,
+            w,
             e,
             fy,
             fx,
@@ -278,8 +278,6 @@ pub fn shift_fits(
     let total = near::near_floats(kinds, owners, head, next, h, w, e, near, groups);
     let count = gather_block(kinds, head, next, w, f, rows, columns);
     fits(
-        h,
-        w,
         rows,
         columns,
         count,
@@ -290,6 +288,8 @@ pub fn shift_fits(
         near,
         groups,
         total,
+        h,
+        w,
         e,
         f as usize,
     )

@@ -27,10 +27,10 @@ record Amid (total : ℕ) (groups : List ℕ) (test : ℕ → Bool) (k : ℕ) : 
   passed : (j : ℕ) → j < k → test (getD groups j 0) ≡ false
 
 abbrev Inv-loop : tie.InvT-loop
-Inv-loop h w rows columns count kinds owners head next near groups total e f fy fx k₀ k = Amid total groups (test h w rows columns count kinds owners near e fy fx) k
+Inv-loop rows columns count kinds owners head next near groups total h w e f fy fx k₀ k = Amid total groups (test h w rows columns count kinds owners near e fy fx) k
 
 abbrev μ-loop : tie.MeasureT-loop
-μ-loop h w rows columns count kinds owners head next near groups total e f fy fx k₀ k = total - k
+μ-loop rows columns count kinds owners head next near groups total h w e f fy fx k₀ k = total - k
 
 -- the first cell has a row and a column
 first : (c : tie.Start Inv-loop μ-loop) → InPlace (c .args .h) (c .args .w) (c .args .f / c .args .w) (c .args .f % c .args .w)

@@ -28,10 +28,10 @@ record Amid (h w : ℕ) (rows columns : List ℕ) (count : ℕ) (reached : ℕ �
   passed : (j : ℕ) → j < k → test h w rows columns reached dy dx j ≡ true
 
 abbrev Inv-loop : tie.InvT-loop
-Inv-loop h w rows columns count kinds owners near e dy dx k₀ k = Amid h w rows columns count (reachesAt kinds owners near e) (toZ w32 dy) (toZ w32 dx) k
+Inv-loop rows columns count kinds owners near h w e dy dx k₀ k = Amid h w rows columns count (reachesAt kinds owners near e) (toZ w32 dy) (toZ w32 dx) k
 
 abbrev μ-loop : tie.MeasureT-loop
-μ-loop h w rows columns count kinds owners near e dy dx k₀ k = count - k
+μ-loop rows columns count kinds owners near h w e dy dx k₀ k = count - k
 
 loop-holds : tie.Need-loop-holds Inv-loop μ-loop
 loop-holds c = record { high = omega arith; passed = below-none _ }

@@ -21,10 +21,10 @@ record Amid (owners : List ℕ) (n m : ℕ) (test : ℕ → Bool) (t : ℕ) : Ty
   none : any test passed ≡ false
 
 abbrev Inv-loop : tie.InvT-loop
-Inv-loop h w rows columns count kinds owners head next near e fy fx m t₀ t = Amid owners (h * w) m (fitsAt h w rows columns count (reachesAt kinds owners near e) fy fx) t
+Inv-loop rows columns count kinds owners head next near h w e fy fx m t₀ t = Amid owners (h * w) m (fitsAt h w rows columns count (reachesAt kinds owners near e) fy fx) t
 
 abbrev μ-loop : tie.MeasureT-loop
-μ-loop h w rows columns count kinds owners head next near e fy fx m t₀ t = 1024 - t
+μ-loop rows columns count kinds owners head next near h w e fy fx m t₀ t = 1024 - t
 
 -- the test of a cell
 abbrev test : tie.Start Inv-loop μ-loop → ℕ → Bool
