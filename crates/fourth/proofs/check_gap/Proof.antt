@@ -1,3 +1,5 @@
+-- `fourth::check_gap` meets its contract: the sizes are compared, and the reason is the three parts with the empty cells of the gap behind them.
+-- Assumes nothing.
 use Prim.Native.Nat.{ℕ, _+_, _-_, _*_, _≤_}
 use native.Mathlib.Omega.{arith}
 use mathlib.Core.Path.{_≡_, refl, sym, ap, subst, _∙_}

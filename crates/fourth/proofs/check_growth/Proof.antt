@@ -1,3 +1,5 @@
+-- `fourth::check_growth` meets its contract: the sizes are compared, and the reason is the three parts.
+-- Assumes nothing.
 use Prim.Native.Nat.{_*_, _≤_}
 use native.Mathlib.Omega.{arith}
 use mathlib.Core.Path.{refl, ap, _∙_}

@@ -1,3 +1,5 @@
+-- `growth::count_block` meets its contract: the cells of the block that were passed along its chain are counted.
+-- Assumes nothing.
 use Prim.Native.Nat.{ℕ, _-_}
 use native.Mathlib.Omega.{arith}
 use mathlib.Core.Path.{_≡_, refl, ap, _∙_}

@@ -1,3 +1,5 @@
+-- `growth::count_reach` meets its contract: the floating groups near, and the sizes of their chains with the block's own.
+-- Assumes nothing.
 use Rattle.growth.proofs.count_reach.Statement.{statement}
 use Rattle.growth.proofs.count_reach.Tie as tie
 

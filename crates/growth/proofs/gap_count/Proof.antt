@@ -1,3 +1,5 @@
+-- `growth::gap_count` meets its contract: what is counted so far and the most from k on make the most of all.
+-- Assumes nothing.
 use mathlib.Core.Path.{_≡_, ap}
 use mathlib.Core.Bool.{false}
 use Prim.Native.Nat.{ℕ, _+_, _-_, _≤_}

@@ -1,3 +1,5 @@
+-- `growth::in_block` meets its contract: one test after the other.
+-- Assumes nothing.
 use mathlib.Core.Path.{refl}
 use borrow.Author.Tests.{eq-eqb, ne-eqb}
 use borrow.Author.Needs.{needs}

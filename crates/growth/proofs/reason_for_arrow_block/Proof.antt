@@ -1,3 +1,5 @@
+-- `growth::reason_for_arrow_block` meets its contract: the cells of the block that were passed are written.
+-- Assumes nothing.
 use mathlib.Core.Path.{_≡_, subst, _∙_}
 use mathlib.Core.Bool.{Bool, _&&_}
 use mathlib.Core.List.{List}

@@ -1,3 +1,5 @@
+-- `growth::reason_for_blocks` meets its contract: the block, the arrow cell behind it, and the fence in the rest of the buffer.
+-- Assumes nothing.
 use Prim.Native.Nat.{ℕ, _+_, _*_, _≤_}
 use native.Mathlib.Omega.{arith}
 use mathlib.Core.Path.{_≡_}

@@ -1,3 +1,5 @@
+-- `growth::reason_for_pair` meets its contract: the reach is marked, and then the three parts are written.
+-- Assumes nothing.
 use Prim.Native.Nat.{_*_}
 use lib.ListN.{take}
 use borrow.Author.Needs.{needs}

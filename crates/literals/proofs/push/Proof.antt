@@ -1,3 +1,5 @@
+-- `literals::push` meets its contract: the literal is written and counted, or nothing changes.
+-- Assumes nothing.
 use mathlib.Core.Path.{refl}
 use borrow.Author.Needs.{needs}
 use Rattle.literals.proofs.push.Statement.{statement}

@@ -1,3 +1,5 @@
+-- `pairs::check_pair` meets its contract: reason 3, or reason 4 (a) and then (b).
+-- Assumes nothing.
 use borrow.Author.Tests.{not-true, not-false}
 use Rattle.growth.specs.Pairs.{reasonAt, pairAt, viewOn}
 use Rattle.growth.specs.Growth.{reason4aAt, reason4bAt, reason4At}

@@ -1,3 +1,5 @@
+-- `pairs::check_shift` meets its contract: some shift fits, or the reason is the three parts.
+-- Assumes nothing.
 use Prim.Native.Nat.{_*_, _≤_}
 use native.Mathlib.Omega.{arith}
 use mathlib.Core.Path.{refl, sym, _∙_}

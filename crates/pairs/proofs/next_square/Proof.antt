@@ -1,3 +1,5 @@
+-- `pairs::next_square` meets its contract: no place from `from` up to k holds a square.
+-- Assumes nothing.
 use Prim.Native.Nat.{ℕ, _-_, _≤_, _<_}
 use native.Mathlib.Omega.{arith}
 use mathlib.Core.Path.{_≡_}

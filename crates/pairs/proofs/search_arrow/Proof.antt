@@ -1,3 +1,5 @@
+-- `pairs::search_arrow` meets its contract: the pairs before `last` give no reason, so that the first from there on is the first of all.
+-- Assumes nothing.
 use Prim.Native.Nat.{ℕ, _-_, _≤_, _<_}
 use native.Mathlib.Omega.{arith}
 use mathlib.Core.Path.{_≡_, refl, ap, _∙_}

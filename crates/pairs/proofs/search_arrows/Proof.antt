@@ -1,3 +1,5 @@
+-- `pairs::search_arrows` meets its contract: the arrows passed give no reason, so that the first from there on is the first of all.
+-- Assumes nothing.
 use Prim.Native.Nat.{ℕ, _-_, _*_, _≤_, _<_}
 use native.Mathlib.Omega.{arith}
 use mathlib.Core.Path.{_≡_, refl, ap, _∙_}

@@ -1,3 +1,5 @@
+-- `pairs::search_pairs` meets its contract: reason 3 for every pair, and only where none meets it reason 4.
+-- Assumes nothing.
 use mathlib.Core.Path.{refl}
 use Rattle.grid.specs.Lists.{flatMap}
 use Rattle.groups.specs.Arrows.{pairs}

@@ -1,3 +1,5 @@
+-- `paths::breadth_first` meets its contract: the cells before place t have appended theirs, so that what is left makes the whole list.
+-- Assumes nothing.
 use Rattle.grid.proofs.SideLaws.{area}
 use mathlib.Core.Path.{_∙_}
 use Prim.Native.Nat.{_*_, _-_, _<_}

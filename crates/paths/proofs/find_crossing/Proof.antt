@@ -1,3 +1,5 @@
+-- `paths::find_crossing` meets its contract: the first two arrow cells of each block, and the first name that has a second.
+-- Assumes nothing.
 use mathlib.Core.Path.{sym, _∙_, subst}
 use Prim.Native.Nat.{_<_}
 use native.Mathlib.Omega.{arith}

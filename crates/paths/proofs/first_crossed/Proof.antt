@@ -1,3 +1,5 @@
+-- `paths::first_crossed` meets its contract: no name passed has a second arrow cell, so that the first from f on is the first of all.
+-- Assumes nothing.
 use mathlib.Core.Logic.{⊎-elim}
 use mathlib.Core.Path.{_≡_, sym, _∙_, ap}
 use mathlib.Core.Bool.{Bool, false, _&&_, not}

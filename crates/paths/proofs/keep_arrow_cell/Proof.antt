@@ -1,3 +1,5 @@
+-- `paths::keep_arrow_cell` meets its contract: one way out for each case: no arrow cell, no square, the first, the second, a later one.
+-- Assumes nothing.
 use native.Mathlib.Omega.{arith}
 use Rattle.paths.proofs.Crossings.{kept-plain, kept-out, kept-first, kept-second, kept-later}
 use borrow.Author.Needs.{needs}

@@ -1,3 +1,5 @@
+-- `paths::list_cell` meets its contract: one way out for each case: no square, listed before, listed now.
+-- Assumes nothing.
 use native.Mathlib.Omega.{arith}
 use Rattle.paths.proofs.Listings.{room-left, offer-plain, offer-seen, offer-new}
 use borrow.Author.Needs.{needs}

@@ -1,3 +1,5 @@
+-- `paths::list_neighbours` meets its contract: the first k neighbours are offered, each with the list as it is by then.
+-- Assumes nothing.
 use Rattle.grid.proofs.Turns.{Turn, turn, turn-count, in-size}
 use mathlib.Core.Path.{_≡_, sym, _∙_, subst}
 use mathlib.Core.List.{List, _++_}

@@ -1,3 +1,5 @@
+-- `paths::reason_for_path` meets its contract: the way so far is written, and each parent comes earlier in the list, so that it ends at b.
+-- Assumes nothing.
 use mathlib.Core.Path.{sym, _∙_}
 use Prim.Native.Nat.{ℕ, _*_, _-_, _≤_, _<_}
 use native.Mathlib.Omega.{arith}

@@ -1,3 +1,5 @@
+-- `paths::reset` meets its contract: the places passed are 1024, and those behind them are as they were.
+-- Assumes nothing.
 use mathlib.Core.Path.{_≡_, refl}
 use mathlib.Core.List.{_++_}
 use Prim.Native.Nat.{_+_, _-_, _≤_}

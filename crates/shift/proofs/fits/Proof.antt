@@ -1,3 +1,5 @@
+-- `shift::fits` meets its contract: no shift to a cell of the block itself or of the groups passed fits.
+-- Assumes nothing.
 use Prim.Native.Nat.{ℕ, _-_, _*_, _/_, _%_, _≤_, _<_}
 use native.Mathlib.Omega.{arith}
 use mathlib.Core.Path.{_≡_, sym, _∙_}

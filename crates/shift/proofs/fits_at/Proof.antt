@@ -1,3 +1,5 @@
+-- `shift::fits_at` meets its contract: the offset leads from the block's first cell to cell t.
+-- Assumes nothing.
 use Prim.Native.Nat.{_/_, _%_}
 use native.Mathlib.Omega.{arith}
 use mir.Syntax.{w32}

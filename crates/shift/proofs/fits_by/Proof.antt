@@ -1,3 +1,5 @@
+-- `shift::fits_by` meets its contract: the cells passed all come into the reach.
+-- Assumes nothing.
 use mir.Syntax.{w32}
 use mir.Val.{toZ}
 use mir.ValLaws.{toZ-ofZ}

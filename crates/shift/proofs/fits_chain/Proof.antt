@@ -1,3 +1,5 @@
+-- `shift::fits_chain` meets its contract: no shift to a cell of the chain that was passed fits.
+-- Assumes nothing.
 use Prim.Native.Nat.{ℕ, _-_, _*_}
 use native.Mathlib.Omega.{arith}
 use mathlib.Core.Path.{_≡_, refl, sym, ap, _∙_}

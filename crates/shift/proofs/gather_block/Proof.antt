@@ -1,3 +1,5 @@
+-- `shift::gather_block` meets its contract: the cells of the block that were passed along its chain are gathered.
+-- Assumes nothing.
 use Prim.Native.Nat.{ℕ, _-_}
 use native.Mathlib.Omega.{arith}
 use mathlib.Core.Path.{ap, subst, _∙_}

@@ -1,3 +1,5 @@
+-- `shift::keep_place` meets its contract: the row and the column are written and counted, or nothing changes.
+-- Assumes nothing.
 use native.Mathlib.Nat.{div-le-self, mod-le}
 use native.Mathlib.Omega.{arith}
 use mathlib.Core.Path.{refl}

@@ -1,3 +1,5 @@
+-- `shift::lands_in` meets its contract: the cell that the shift leads to is tested, and off the grid there is none.
+-- Assumes nothing.
 use native.Mathlib.Omega.{arith}
 use mathlib.Core.Path.{refl, sym, _∙_}
 use mir.Syntax.{w32}

@@ -1,3 +1,5 @@
+-- `shift::shift_fits` meets its contract: the floating groups near, the gathered block, and the shifts of it to each cell of the reach.
+-- Assumes nothing.
 use Prim.Native.Nat.{_*_, _≤_}
 use native.Mathlib.Omega.{arith}
 use Rattle.grid.specs.Grid.{size}

@@ -1,3 +1,5 @@
+-- `units::find_stranded` meets its contract: the groups are ranked, and the first one marked 1 is the stranded one.
+-- Assumes nothing.
 use mathlib.Core.Path.{sym, ap, _∙_}
 use lib.ListN.{take}
 use Rattle.units.specs.Arrays.{foundAt, boundaryOf}

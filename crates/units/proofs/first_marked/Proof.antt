@@ -1,3 +1,5 @@
+-- `units::first_marked` meets its contract: no name passed is marked 1, so that the first from f on is the first of all.
+-- Assumes nothing.
 use mathlib.Core.Logic.{⊎-elim}
 use mathlib.Core.Path.{_≡_, sym, _∙_}
 use mathlib.Core.Bool.{Bool, false, _&&_}

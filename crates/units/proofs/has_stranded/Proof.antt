@@ -1,4 +1,4 @@
--- The loop's invariant: no cell passed is a square of a group that is not marked.
+-- `units::has_stranded` meets its contract: no cell passed is a square of a group that is not marked.
 -- Assumes nothing.
 use Prim.Native.Nat.{_≤_, _-_}
 use native.Mathlib.Omega.{arith}

@@ -1,3 +1,5 @@
+-- `units::is_square_of` meets its contract: one test after the other.
+-- Assumes nothing.
 use mathlib.Core.Path.{refl}
 use borrow.Author.Tests.{eq-eqb, ne-eqb}
 use borrow.Author.Needs.{needs}

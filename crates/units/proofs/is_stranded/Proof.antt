@@ -1,4 +1,4 @@
--- A square of a group that is not marked.
+-- `units::is_stranded` meets its contract: a name that is none reads the mark at its remainder, which does not count.
 -- Assumes nothing.
 use native.Mathlib.Omega.{arith}
 use Rattle.units.proofs.Quick.{stranded-either}

@@ -1,3 +1,5 @@
+-- `units::last_square` meets its contract: no cell from i on is a square of the group, so that the last below i is the last of all.
+-- Assumes nothing.
 use mathlib.Core.Path.{_≡_, refl, sym, _∙_}
 use mathlib.Core.Bool.{Bool, _&&_}
 use mathlib.Core.List.{List}

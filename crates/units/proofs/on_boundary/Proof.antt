@@ -1,3 +1,5 @@
+-- `units::on_boundary` meets its contract: one test after the other.
+-- Assumes nothing.
 use mathlib.Core.Path.{refl}
 use native.Mathlib.Omega.{arith}
 use borrow.Author.Tests.{eq-eqb, ne-eqb}

@@ -1,3 +1,5 @@
+-- `units::raise` meets its contract: a mark is the higher of what it was and the rank, and a cell of no group changes none.
+-- Assumes nothing.
 use Rattle.units.proofs.Ranks.{raise-out, raise-kept, raise-raised}
 use borrow.Author.Needs.{needs}
 use Rattle.units.proofs.raise.Statement.{statement}

@@ -1,3 +1,5 @@
+-- `units::rank` meets its contract: one way out for each rank.
+-- Assumes nothing.
 use mathlib.Core.Logic.{⊎-elim}
 use mathlib.Core.Path.{refl}
 use borrow.Author.Tests.{eq-eqb, ne-eqb}

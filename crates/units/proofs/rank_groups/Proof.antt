@@ -1,3 +1,5 @@
+-- `units::rank_groups` meets its contract: each group is marked with the highest rank among its cells passed.
+-- Assumes nothing.
 use mathlib.Core.Path.{_≡_, subst}
 use Prim.Native.Nat.{ℕ, _-_, _≤_}
 use native.Mathlib.Omega.{arith}

@@ -1,3 +1,5 @@
+-- `units::reason_for_potential_unit_boundary` meets its contract: the empty cells passed that touch the group are written, and behind them its last square.
+-- Assumes nothing.
 use mathlib.Core.Path.{_≡_, _∙_}
 use mathlib.Core.Bool.{Bool, _&&_}
 use mathlib.Core.List.{List}

@@ -1,4 +1,4 @@
--- The loop's invariant: no neighbour in the directions passed is in the group.
+-- `units::touches_group` meets its contract: no neighbour in the directions passed is in the group.
 -- Assumes nothing.
 use mathlib.Core.Path.{_≡_, refl, sym, _∙_}
 use mathlib.Core.Bool.{Bool, false}

@@ -1,3 +1,5 @@
+-- `units::touches_toward` meets its contract: the neighbour is tested, and off the grid there is none.
+-- Assumes nothing.
 use native.Mathlib.Omega.{arith}
 use Prim.Native.Nat.{_<_}
 use mathlib.Core.Path.{sym, _∙_}
