@@ -62,7 +62,7 @@ pub fn reason_for_gap(
     count
 }
 
-// Is cell i in the arrow block named f?
+// Whether cell i is in the arrow block named f.
 fn in_block(kinds: &[u8; 1024], owners: &[u16; 1024], i: usize, f: u16) -> bool
     requires { ⌜ i < 1024 ⌝ }
     ensures { λ r. ⌜ r ≡ (eqb (getD (now (kinds .entry)) i 0) 1 && eqb (getD (now (owners .entry)) i 0) f) ⌝ }

@@ -77,7 +77,7 @@ take-drop [] (suc a) e = take-nil (e - suc a) ∙ sym (ap (drop (suc a)) (take-n
 take-drop (x ∷ l) (suc a) zero = let z : 0 - suc a ≡ 0 = omega arith in rw z refl
 take-drop (x ∷ l) (suc a) (suc e) = let z : suc e - suc a ≡ e - a = omega arith in rw z (take-drop l a e)
 
--- the arrows from the a-th on, which starts at the place from
+-- the arrows from the a-th on, which starts at the place `from`
 abbrev pub linesFrom : List ℕ → List ℕ → ℕ → ℕ → ℕ → List (List ℕ)
 linesFrom arrows ends number from a = arrowsFrom arrows from (drop a (take number ends))
 

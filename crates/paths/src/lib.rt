@@ -221,7 +221,8 @@ fn find_crossing(
     }
 }
 
-// Reason 2, if it applies. Mostly no two arrow cells are in one block, which one pass over the arrow cells shows. Arrowed marks the arrow blocks afterwards.
+// Reason 2, if it applies. Mostly no two arrow cells are in one block, which one pass over the arrow cells shows. `arrowed` marks the arrow
+// blocks afterwards.
 pub fn check_blocks(
     cells: &[u8; 1024],
     arrows: &[u16; 1024],
@@ -250,6 +251,7 @@ pub fn check_blocks(
     let ends = find_crossing(blocks, onarrow, h * w, &mut first, &mut second);
     match ends {
         Ends::Between(a, b) => {
+            // The two arrays serve again, as the parents and as the order of the breadth-first list.
             let count = reason_for_path(cells, h, w, a, b, &mut first, &mut second, buffer);
             Finding::Reason(count)
         }

@@ -17,7 +17,7 @@ use Rattle.reach.specs.Chains.{Chains}
 unfoldable pub blockIn : List ℕ → List ℕ → ℕ → ℕ → List ℕ
 blockIn kinds owners n f = filter (λ i. eqb (getD kinds i 0) 1 && eqb (getD owners i 0) f) (upto n)
 
--- head and next link the cells of the owners of some grid
+-- `head` and `next` link the cells of the owners of some grid
 pub record Chained (head next : List ℕ) : Type 0 where
   pub owners : List ℕ
   pub size : ℕ
@@ -35,7 +35,7 @@ pub record BlockPlaces (w : ℕ) (b rows columns : List ℕ) (count : ℕ) : Typ
   pub rows-are : take count rows ≡ map (λ i. i / w) b
   pub columns-are : take count columns ≡ map (λ i. i % w) b
 
--- the first count places of the arrays are rows and columns of a grid of at most 32 by 32
+-- the first `count` places of the arrays are rows and columns of a grid of at most 32 by 32
 pub record Places (h w : ℕ) (rows columns : List ℕ) (count : ℕ) : Type 0 where
   pub tall : h ≤ 32
   pub wide : w ≤ 32

@@ -1,4 +1,4 @@
-// The shift test of reason 3: does some shift of one arrow block lie wholly in the reach of another?
+// The shift test of reason 3: whether some shift of one arrow block lies wholly in the reach of another.
 ghost use mathlib.Core.Path.{_≡_};
 ghost use mathlib.Core.Bool.{cond};
 ghost use mathlib.Core.List.{List};
@@ -63,7 +63,7 @@ fn gather_block(
     count
 }
 
-// Does the cell at row y, column x come into the reach of the block named e by the offset? `near` marks the floating groups in it.
+// Whether the cell at row y, column x comes into the reach of the block named e by the offset. `near` marks the floating groups in it.
 fn lands_in(
     kinds: &[u8; 1024],
     owners: &[u16; 1024],
@@ -86,7 +86,7 @@ fn lands_in(
     }
 }
 
-// Do all of the gathered cells come into the reach by the offset?
+// Whether all of the gathered cells come into the reach by the offset.
 fn fits_by(
     rows: &[u16; 1024],
     columns: &[u16; 1024],
@@ -115,7 +115,7 @@ fn fits_by(
     true
 }
 
-// Does the shift that takes the cell at row fy, column fx to cell t take all of the gathered cells into the reach?
+// Whether the shift that takes the cell at row fy, column fx to cell t takes all of the gathered cells into the reach.
 fn fits_at(
     rows: &[u16; 1024],
     columns: &[u16; 1024],
@@ -182,7 +182,7 @@ fn fits_chain(
     false
 }
 
-// Does some shift of the gathered block, whose first cell is f, lie wholly in the reach of the block named e? The reach has the
+// Whether some shift of the gathered block, whose first cell is f, lies wholly in the reach of the block named e. The reach has the
 // cells of that block's chain and those of the chains of the floating groups near it, of which `groups` has the names.
 fn fits(
     rows: &[u16; 1024],
@@ -253,7 +253,7 @@ fn fits(
     false
 }
 
-// Does some shift of the arrow block named f lie wholly in the reach of the arrow block named e?
+// Whether some shift of the arrow block named f lies wholly in the reach of the arrow block named e.
 pub fn shift_fits(
     kinds: &[u8; 1024],
     owners: &[u16; 1024],

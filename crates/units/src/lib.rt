@@ -105,7 +105,7 @@ fn find_stranded(
     first_marked(groups, &*marks, n)
 }
 
-// Is the neighbour in direction k of the cell at row y, column x in the group named f?
+// Whether the neighbour in direction k of the cell at row y, column x is in the group named f.
 fn touches_toward(
     groups: &[u16; 1024],
     h: usize,
@@ -125,7 +125,7 @@ fn touches_toward(
     }
 }
 
-// Does cell i touch the group named f?
+// Whether cell i touches the group named f.
 fn touches_group(groups: &[u16; 1024], h: usize, w: usize, i: usize, f: u16) -> bool
     requires { ⌜ InGrid h w i ⌝ }
     ensures { λ r. ⌜ r ≡ any (λ j. eqb (getD (now (groups .entry)) j 0) f) (neighbours (sized h w) i) ⌝ }
@@ -140,7 +140,7 @@ fn touches_group(groups: &[u16; 1024], h: usize, w: usize, i: usize, f: u16) -> 
     false
 }
 
-// Is cell i empty, and does it touch the group named f?
+// Whether cell i is empty and touches the group named f.
 fn on_boundary(
     cells: &[u8; 1024],
     groups: &[u16; 1024],
@@ -158,7 +158,7 @@ fn on_boundary(
     touches_group(groups, h, w, i, f)
 }
 
-// Is cell i a square of the group named f?
+// Whether cell i is a square of the group named f.
 fn is_square_of(cells: &[u8; 1024], groups: &[u16; 1024], i: usize, f: u16) -> bool
     requires { ⌜ i < 1024 ⌝ }
     ensures { λ r. ⌜ r ≡ (eqb (getD (now (groups .entry)) i 0) f && eqb (getD (now (cells .entry)) i 0) 1) ⌝ }
@@ -208,7 +208,7 @@ fn reason_for_potential_unit_boundary(
     count + 1
 }
 
-// Is cell i a square of a group that is not marked? All three tests are always made, so that there is no branch to predict; where there is
+// Whether cell i is a square of a group that is not marked. All three tests are always made, so that there is no branch to predict; where there is
 // no group, the mark that is read does not matter.
 fn is_stranded(cells: &[u8; 1024], groups: &[u16; 1024], marks: &[u8; 1024], i: usize) -> bool
     requires { ⌜ (i < 1024) × (length (now marks) ≡ 1024) ⌝ }
@@ -219,7 +219,7 @@ fn is_stranded(cells: &[u8; 1024], groups: &[u16; 1024], marks: &[u8; 1024], i: 
     (cells[i] == 1) & ((1024 <= f) | (mark != 1))
 }
 
-// Is there a square of a group that is not marked?
+// Whether there is a square of a group that is not marked.
 fn has_stranded(cells: &[u8; 1024], groups: &[u16; 1024], marks: &[u8; 1024], n: usize) -> bool
     requires { ⌜ (n ≤ 1024) × (length (now marks) ≡ 1024) ⌝ }
     ensures { λ r. ⌜ r ≡ any (strandedAt (now (cells .entry)) (now (groups .entry)) (now (marks .entry))) (upto n) ⌝ }
