@@ -10,8 +10,7 @@ use Rattle.grid.specs.Lists.{filter}
 use Rattle.grid.proofs.ListLaws.{filter-length}
 use Rattle.grid.proofs.SideLaws.{area}
 use Rattle.grid.specs.Cells.{empty}
-use Rattle.kinds.specs.Kinds.{block, reach}
-use Rattle.kinds.specs.Inside.{Held}
+use Rattle.kinds.specs.Kinds.{View, block, reach}
 use Rattle.growth.specs.Pairs.{viewOn, Scene}
 use Rattle.literals.proofs.BufferLaws.{wrote-length}
 use Rattle.literals.proofs.Findings.{lent, wrote-part}
@@ -27,40 +26,67 @@ use Rattle.fourth.proofs.check_gap.Tie as tie
 small : (c : tie.Start) → c .args .h * c .args .w ≤ 1024
 small c = area (c .args .h) (c .args .w) (c .pre .0 .tall) (c .pre .0 .wide)
 
+-- the start, seen from behind the count of the reach
+abbrev start : tie.After-count-reach → tie.Start
+start c = c .before .before .before .before .before .before .before .before
+
+-- the count of the reach, seen from behind the count of the block
+abbrev reach-counted : tie.After-count-block → tie.After-count-reach
+reach-counted c = c .before .before
+
+-- the count of the block, seen from behind the first parts of the reason
+abbrev block-counted : tie.After-reason-for-pair → tie.After-count-block
+block-counted c = c .before .before .before
+
+-- the board whose arrows are these lines
+abbrev board : tie.Start → List (List ℕ) → View
+board s lines = viewOn (s .args .h) (s .args .w) lines (s .args .cells .now)
+
+-- the arrays hold it
+abbrev Shown : tie.Start → List (List ℕ) → Type 0
+Shown s lines = Scene (s .args .h) (s .args .w) lines (s .args .cells .now) (s .args .arrows .now) (s .args .kinds .now) (s .args .owners .now) (s .args .last) (s .args .cur + 1)
+
+-- the names of the blocks of the last and of the current square
+abbrev lastBlock : tie.Start → ℕ
+lastBlock s = getD (s .args .owners .now) (getD (s .args .arrows .now) (s .args .last) 0) 0
+
+abbrev curBlock : tie.Start → ℕ
+curBlock s = getD (s .args .owners .now) (getD (s .args .arrows .now) (s .args .cur) 0) 0
+
 -- the size of the reach of the last square's block
-reached : (c : tie.After-count-reach) (lines : List (List ℕ)) → Scene (c .before .before .before .before .before .before .before .before .args .h) (c .before .before .before .before .before .before .before .before .args .w) lines (c .before .before .before .before .before .before .before .before .args .cells .now) (c .before .before .before .before .before .before .before .before .args .arrows .now) (c .before .before .before .before .before .before .before .before .args .kinds .now) (c .before .before .before .before .before .before .before .before .args .owners .now) (c .before .before .before .before .before .before .before .before .args .last) (c .before .before .before .before .before .before .before .before .args .cur + 1)
-    → c .count-reach .result ≡ length (reach (viewOn (c .before .before .before .before .before .before .before .before .args .h) (c .before .before .before .before .before .before .before .before .args .w) lines (c .before .before .before .before .before .before .before .before .args .cells .now)) (getD (c .before .before .before .before .before .before .before .before .args .owners .now) (getD (c .before .before .before .before .before .before .before .before .args .arrows .now) (c .before .before .before .before .before .before .before .before .args .last) 0) 0))
+reached : (c : tie.After-count-reach) (lines : List (List ℕ)) → Shown (start c) lines → c .count-reach .result ≡ length (reach (board (start c) lines) (lastBlock (start c)))
 reached c lines k =
-    let s = c .before .before .before .before .before .before .before .before in
+    let s = start c in
     let a = s .args in
     c .count-reach .ensures .0 lines (take (a .h * a .w) (a .cells .now)) (k .held) (s .pre .2 .counts) (scene-kind k (a .last) (omega arith) (omega (arith, s .pre .1 .order)) (s .pre .1 .first))
 
 -- .. is small
 reach-low : (c : tie.After-count-reach) → c .count-reach .result ≤ 1024
 reach-low c =
-    let s = c .before .before .before .before .before .before .before .before in
+    let s = start c in
     let a = s .args in
     let l = s .pre .1 .line in
-    omega (arith, reached c (l .lines) (l .scene), reach-few (a .h) (a .w) (l .lines) (a .cells .now) (getD (a .owners .now) (getD (a .arrows .now) (a .last) 0) 0), small s)
+    omega (arith, reached c (l .lines) (l .scene), reach-few (a .h) (a .w) (l .lines) (a .cells .now) (lastBlock s), small s)
 
 -- the size of the current square's block
-size-is : (c : tie.After-count-block) (lines : List (List ℕ)) → Held (viewOn (c .before .before .before .before .before .before .before .before .before .before .args .h) (c .before .before .before .before .before .before .before .before .before .before .args .w) lines (c .before .before .before .before .before .before .before .before .before .before .args .cells .now)) (c .before .before .before .before .before .before .before .before .before .before .args .kinds .now) (c .before .before .before .before .before .before .before .before .before .before .args .owners .now)
-    → c .count-block .result ≡ length (block (viewOn (c .before .before .before .before .before .before .before .before .before .before .args .h) (c .before .before .before .before .before .before .before .before .before .before .args .w) lines (c .before .before .before .before .before .before .before .before .before .before .args .cells .now)) (getD (c .before .before .before .before .before .before .before .before .before .before .args .owners .now) (getD (c .before .before .before .before .before .before .before .before .before .before .args .arrows .now) (c .before .before .before .before .before .before .before .before .before .before .args .cur) 0) 0))
+size-is : (c : tie.After-count-block) (lines : List (List ℕ)) → Shown (start (reach-counted c)) lines
+    → c .count-block .result ≡ length (block (board (start (reach-counted c)) lines) (curBlock (start (reach-counted c))))
 size-is c lines k =
-    let s = c .before .before .before .before .before .before .before .before .before .before in
+    let s = start (reach-counted c) in
     let a = s .args in
-    c .count-block .ensures (a .owners .now) (a .h * a .w) (s .pre .2 .chains) ∙ ap length (block-in (a .h) (a .w) lines (a .cells .now) k (getD (a .owners .now) (getD (a .arrows .now) (a .cur) 0) 0))
+    c .count-block .ensures (a .owners .now) (a .h * a .w) (s .pre .2 .chains) ∙ ap length (block-in (a .h) (a .w) lines (a .cells .now) (k .held) (curBlock s))
 
 -- the first parts of the reason leave room for the gap
-few : (c : tie.After-reason-for-pair) → c .reason-for-pair .result ≤ 2 * (c .before .before .before .before .before .before .before .before .before .before .before .before .before .args .h * c .before .before .before .before .before .before .before .before .before .before .before .before .before .args .w) + 1
+few : (c : tie.After-reason-for-pair)
+    → c .reason-for-pair .result ≤ 2 * (start (reach-counted (block-counted c)) .args .h * start (reach-counted (block-counted c)) .args .w) + 1
 few c =
-    let s = c .before .before .before .before .before .before .before .before .before .before .before .before .before in
+    let s = start (reach-counted (block-counted c)) in
     let a = s .args in
     let l = s .pre .1 .line in
-    omega (arith, c .reason-for-pair .ensures (l .lines) (l .scene .held) .many, parts-few (a .h) (a .w) (l .lines) (a .cells .now) (getD (a .owners .now) (getD (a .arrows .now) (a .cur) 0) 0) (getD (a .arrows .now) (a .last) 0) (getD (a .owners .now) (getD (a .arrows .now) (a .last) 0) 0))
+    omega (arith, c .reason-for-pair .ensures (l .lines) (l .scene .held) .many, parts-few (a .h) (a .w) (l .lines) (a .cells .now) (curBlock s) (getD (a .arrows .now) (a .last) 0) (lastBlock s))
 
-fits : (c : tie.After-reason-for-pair) → c .reason-for-pair .result ≤ length (c .before .before .before .before .before .before .before .before .before .before .before .before .before .args .buffer .now)
-fits c = omega (arith, few c, c .before .before .before .before .before .before .before .before .before .before .before .before .before .pre .0 .room)
+fits : (c : tie.After-reason-for-pair) → c .reason-for-pair .result ≤ length (start (reach-counted (block-counted c)) .args .buffer .now)
+fits c = omega (arith, few c, start (reach-counted (block-counted c)) .pre .0 .room)
 
 mul-cell : tie.Need-mul-cell
 mul-cell c = search needs
@@ -109,51 +135,52 @@ gap-count-requires c κs = search needs
 
 count-block-requires : tie.Need-count-block-requires
 count-block-requires c κs =
-    let s = c .before .before .before .before .before .before .before .before .before in
+    let s = start (c .before) in
     let a = s .args in
     (record { owners = a .owners .now; size = a .h * a .w; chains = s .pre .2 .chains }, omega (arith, cur-name (s .pre .1), small s))
 
 add-if1 : tie.Need-add-if1
-add-if1 c = omega (arith, reach-low (c .before .before))
+add-if1 c = omega (arith, reach-low (reach-counted c))
 
 add-if1-2 : tie.Need-add-if1-2
 add-if1-2 c =
-    let low = subst (λ (n : ℕ). n ≤ 1024) (sym (c .before .gap-count .ensures)) (most-low _ _ (simp (length-drop, length-take) (omega (arith, c .before .before .before .before .before .before .before .before .before .before .pre .1 .line .places .long)))) in
-    omega (arith, reach-low (c .before .before), low)
+    let low = subst (λ (n : ℕ). n ≤ 1024) (sym (c .before .gap-count .ensures)) (most-low _ _ (simp (length-drop, length-take) (omega (arith, start (reach-counted c) .pre .1 .line .places .long)))) in
+    omega (arith, reach-low (reach-counted c), low)
 
 returns : tie.Need-returns
 returns c =
-    let p = c .before .before .before .before .before .before .before .before .before .before .before .pre .1 in (
+    let counted = reach-counted (c .before) in
+    let p = start counted .pre .1 in (
       (λ lines k. no-gap k (p .order) (p .first) (p .second) _ _ refl refl (p .line .places) (p .line .short)
-          (omega (arith, c .if1 .taken, size-is (c .before) lines (k .held), reached (c .before .before .before) lines k, c .before .before .gap-count .ensures))),
-      c .before .before .before .count-reach .ensures .1,
+          (omega (arith, c .if1 .taken, size-is (c .before) lines k, reached counted lines k, c .before .before .gap-count .ensures))),
+      counted .count-reach .ensures .1,
     )
 
 reason-for-pair-requires : tie.Need-reason-for-pair-requires
 reason-for-pair-requires c κs =
-    let s = c .before .before .before .before .before .before .before .before .before .before .before .before in
+    let s = start (reach-counted (c .before .before)) in
     let p = s .pre .1 in
     (s .pre .0, record { lines = p .line .lines; held = p .line .scene .held }, p .line .scene .inside (s .args .last) (omega arith) (omega (arith, p .order)))
 
 add-reason-for-gap : tie.Need-add-reason-for-gap
-add-reason-for-gap c = let p = c .before .before .before .before .before .before .before .before .before .before .before .before .before .before .before .pre .1 in omega (arith, p .order, p .line .short)
+add-reason-for-gap c = let p = start (reach-counted (block-counted (c .before .before))) .pre .1 in omega (arith, p .order, p .line .short)
 
 sub-reason-for-gap : tie.Need-sub-reason-for-gap
 sub-reason-for-gap c = search needs
 
 mul-reason-for-gap : tie.Need-mul-reason-for-gap
-mul-reason-for-gap c = omega (arith, few (c .before .before), small (c .before .before .before .before .before .before .before .before .before .before .before .before .before .before .before))
+mul-reason-for-gap c = omega (arith, few (c .before .before), small (start (reach-counted (block-counted (c .before .before)))))
 
 sub-reason-for-gap-2 : tie.Need-sub-reason-for-gap-2
 sub-reason-for-gap-2 c =
     let r = c .before .before in
-    let l = c .before .before .before .before .before .before .before .before .before .before .before .before .before .before .before .pre .1 .line in
+    let l = start (reach-counted (block-counted r)) .pre .1 .line in
     omega (arith, fits r, wrote-length (r .reason-for-pair .ensures (l .lines) (l .scene .held)) (fits r))
 
 part-reason-for-gap-start : tie.Need-part-reason-for-gap-start
 part-reason-for-gap-start c =
     let r = c .before .before in
-    let l = c .before .before .before .before .before .before .before .before .before .before .before .before .before .before .before .pre .1 .line in
+    let l = start (reach-counted (block-counted r)) .pre .1 .line in
     omega (arith, fits r, wrote-length (r .reason-for-pair .ensures (l .lines) (l .scene .held)) (fits r))
 
 part-reason-for-gap-end : tie.Need-part-reason-for-gap-end
@@ -161,9 +188,9 @@ part-reason-for-gap-end c = search needs
 
 reason-for-gap-requires : tie.Need-reason-for-gap-requires
 reason-for-gap-requires c κs =
-    let s = c .before .before .before .before .before .before .before .before .before .before .before .before .before .before .before .before in
-    let p = s .pre .1 in
-    let r = c .before .before .before in (
+    let r = c .before .before .before in
+    let s = start (reach-counted (block-counted r)) in
+    let p = s .pre .1 in (
       omega (arith, p .line .short),
       p .line .places,
       rw (lent (r .reason-for-pair .ensures (p .line .lines) (p .line .scene .held)) (fits r), length-drop) (omega (arith, few r, s .pre .0 .room, p .line .scene .few)),
@@ -171,22 +198,24 @@ reason-for-gap-requires c κs =
 
 add-t31 : tie.Need-add-t31
 add-t31 c =
-    let s = c .before .before .before .before .before .before .before .before .before .before .before .before .before .before .before .before .before .before .before in
+    let r = c .before .before .before .before .before .before in
+    let s = start (reach-counted (block-counted r)) in
     let a = s .args in
     let l = slice (a .last + 2) (a .cur - 1) (a .arrows .now) in
-    omega (arith, few (c .before .before .before .before .before .before), small s, c .before .before .reason-for-gap .ensures .many, each-length 0 (filter (empty (a .cells .now)) l), filter-length (empty (a .cells .now)) l, slice-short (a .arrows .now) (a .last + 2) (a .cur - 1), s .pre .1 .line .short)
+    omega (arith, few r, small s, c .before .before .reason-for-gap .ensures .many, each-length 0 (filter (empty (a .cells .now)) l), filter-length (empty (a .cells .now)) l, slice-short (a .arrows .now) (a .last + 2) (a .cur - 1), s .pre .1 .line .short)
 
 same-length : tie.Need-same-length
 same-length c = search needs
 
 returns-2 : tie.Need-returns-2
 returns-2 c =
-    let p = c .before .before .before .before .before .before .before .before .before .before .before .before .before .before .before .before .before .before .before .pre .1 in
-    let r = c .before .before .before .before .before .before in (
+    let r = c .before .before .before .before .before .before in
+    let counted = reach-counted (block-counted r) in
+    let p = start counted .pre .1 in (
       (λ lines k. gap-found k (p .order) (p .first) (p .second) _ _ refl refl (p .line .places) (p .line .short)
-          (omega (arith, c .before .before .before .before .before .before .before .before .if1 .left, size-is (c .before .before .before .before .before .before .before .before .before) lines (k .held), reached (c .before .before .before .before .before .before .before .before .before .before .before) lines k, c .before .before .before .before .before .before .before .before .before .before .gap-count .ensures))
+          (omega (arith, r .before .before .if1 .left, size-is (block-counted r) lines k, reached counted lines k, block-counted r .before .gap-count .ensures))
           (wrote-part (r .reason-for-pair .ensures lines (k .held)) (fits r) (rw (lent (r .reason-for-pair .ensures lines (k .held)) (fits r)) at (c .before .before .reason-for-gap .ensures)))),
-      c .before .before .before .before .before .before .before .before .before .before .before .count-reach .ensures .1,
+      counted .count-reach .ensures .1,
     )
 
 pub check-gap-spec : {M : Type 1} → statement M
