@@ -12,7 +12,8 @@ use Rattle.grid.specs.Grid.{Grid, size}
 use Rattle.grid.specs.Side.{sized}
 use Rattle.record.specs.Record.{Puzzle}
 use Rattle.grid.specs.Cells.{square}
-use Rattle.groups.specs.Groups.{Joined, labelArray, maskOf}
+use Rattle.groups.specs.Groups.{Joined}
+use Rattle.groups.specs.Arrays.{labelArray, maskOf}
 use Rattle.groups.specs.Arrows.{onArrow}
 use Rattle.literals.specs.Literals.{Found, each}
 use Rattle.paths.specs.Paths.{breadthFirst, path, reason2}
