@@ -1,18 +1,98 @@
 -- `inconsistency::find_inconsistency` meets its contract: one search after the other, and the first reason that applies.
 -- Assumes nothing.
-use Prim.Native.Nat.{_*_}
-use mathlib.Core.Path.{_∙_}
+use Prim.Native.Nat.{ℕ, _*_}
+use mathlib.Core.Path.{_≡_, _∙_}
+use mathlib.Core.List.{List}
 use lib.ListN.{take}
 use Rattle.grid.specs.Side.{sized}
+use Rattle.record.specs.Record.{Puzzle}
 use Rattle.kinds.specs.Inside.{puzzleWith}
 use Rattle.units.specs.Units.{reason1}
 use Rattle.paths.specs.Paths.{reason2}
 use Rattle.groups.specs.Arrays.{linesOf}
+use Rattle.literals.specs.Buffer.{FoundAs}
+use Rattle.literals.specs.declared.Finding.the-variants.{Nothing}
+use Rattle.paths.specs.Ends.{BlockArrays}
 use Rattle.inconsistency.specs.Arrays.{ArrowArrays}
 use Rattle.inconsistency.proofs.Checks.{line-is, listed-is, potentials-held, blocks-held, fit-after, same-after, never-refused, first-found, second-found, rest-found}
 use borrow.Author.Needs.{needs}
 use Rattle.inconsistency.proofs.find_inconsistency.Statement.{statement}
 use Rattle.inconsistency.proofs.find_inconsistency.Tie as tie
+
+-- the start, seen from behind the search for reason 1
+abbrev start : tie.After-check-potential-groups → tie.Start
+start c = c .before .before .before .before .before .before .before .before .before .before
+
+-- the total of the arrows' cells and their marks, seen from there
+abbrev totalled : tie.After-check-potential-groups → tie.After-arrow-total
+totalled c = c .before .before .before .before .before .before .before .before
+
+abbrev marked : tie.After-check-potential-groups → tie.After-mark-arrow-cells
+marked c = c .before .before .before .before .before .before
+
+-- the search for reason 1, seen from where it found nothing
+abbrev searched : tie.After-enum-told → tie.After-check-potential-groups
+searched c = c .before .before .before .before
+
+-- that place, seen from behind the labels of the blocks
+abbrev passed : tie.After-compute-connected-components2 → tie.After-enum-told
+passed c = c .before .before
+
+-- the labels of the blocks, seen from behind the search for reason 2
+abbrev labelled : tie.After-check-blocks → tie.After-compute-connected-components2
+labelled c = c .before .before .before .before .before
+
+-- the search for reason 2, seen from where it found nothing
+abbrev searched-2 : tie.After-enum-told2 → tie.After-check-blocks
+searched-2 c = c .before .before .before .before
+
+-- the arrows as lists of cells
+abbrev lines : tie.Start → List (List ℕ)
+lines s = linesOf (s .args .arrows .now) (s .args .ends .now) (s .args .number)
+
+-- the puzzle and the cells that the arrays hold
+abbrev puzzle : tie.Start → Puzzle
+puzzle s = puzzleWith (sized (s .args .h) (s .args .w)) (lines s)
+
+abbrev held : tie.Start → List ℕ
+held s = take (s .args .h * s .args .w) (s .args .cells .now)
+
+-- the buffer after each of the two searches
+abbrev after-one : tie.After-check-potential-groups → List ℕ
+after-one c = c .check-potential-groups .last .1 .1 .1 .1 .1 .1 .1 .0
+
+abbrev after-two : tie.After-check-blocks → List ℕ
+after-two c = c .check-blocks .last .1 .1 .1 .1 .1 .1 .1 .1 .0
+
+-- the arrows with the total of their cells, as it was found
+drawn : (c : tie.After-arrow-total) → let s = c .before .before in ArrowArrays (s .args .h * s .args .w) (s .args .arrows .now) (s .args .ends .now) (s .args .number) (c .arrow-total .result)
+drawn c = rw (c .arrow-total .ensures) (c .before .before .pre .1)
+
+-- what the search for reason 1 says
+one : (c : tie.After-check-potential-groups) → FoundAs (reason1 (puzzle (start c)) (held (start c))) (start c .args .buffer .now) (after-one c) (c .check-potential-groups .result)
+one c =
+    let s = start c in
+    let fit = s .pre .0 in
+    let labels = c .before .before .before .before .compute-connected-components .ensures in
+    c .check-potential-groups .ensures (lines s) (potentials-held (s .args .h) (s .args .w) (fit .tall) (fit .wide) (drawn (totalled c)) (s .args .cells .now) labels (marked c .mark-arrow-cells .ensures))
+
+-- .. and where it found nothing
+none : (c : tie.After-enum-told) → searched c .check-potential-groups .result ≡ Nothing
+none c = c .enum-told .given .1
+
+-- the blocks that were labelled
+blocks : (c : tie.After-compute-connected-components2)
+    → let k = searched (passed c) in BlockArrays (puzzle (start k)) (held (start k)) (c .compute-connected-components2 .last .1 .1 .1 .1 .0) (marked k .mark-arrow-cells .last .1 .1 .0)
+blocks c =
+    let k = searched (passed c) in
+    let s = start k in
+    let fit = s .pre .0 in
+    blocks-held (s .args .h) (s .args .w) (fit .tall) (fit .wide) (drawn (totalled k)) (s .args .cells .now) (c .compute-connected-components2 .ensures) (marked k .mark-arrow-cells .ensures)
+
+-- what the search for reason 2 says
+two : (c : tie.After-check-blocks)
+    → let k = searched (passed (labelled c)) in FoundAs (reason2 (puzzle (start k)) (held (start k))) (after-one k) (after-two c) (c .check-blocks .result)
+two c = c .check-blocks .ensures .0 (lines (start (searched (passed (labelled c))))) (blocks (labelled c))
 
 arrow-total-requires : tie.Need-arrow-total-requires
 arrow-total-requires c κs = search needs
@@ -20,7 +100,7 @@ arrow-total-requires c κs = search needs
 mark-arrow-cells-requires : tie.Need-mark-arrow-cells-requires
 mark-arrow-cells-requires c κs =
     let s = c .before .before .before in
-    rw (c .before .arrow-total .ensures) (line-is (s .args .h) (s .args .w) (s .pre .0 .tall) (s .pre .0 .wide) (s .pre .1))
+    line-is (s .args .h) (s .args .w) (s .pre .0 .tall) (s .pre .0 .wide) (drawn (c .before))
 
 compute-connected-components-requires : tie.Need-compute-connected-components-requires
 compute-connected-components-requires c κs = search needs
@@ -28,12 +108,8 @@ compute-connected-components-requires c κs = search needs
 check-potential-groups-requires : tie.Need-check-potential-groups-requires
 check-potential-groups-requires c κs =
     let s = c .before .before .before .before .before .before .before .before .before in
-    let h = s .args .h in
-    let w = s .args .w in
     let fit = s .pre .0 in
-    let total = c .before .before .before .before .before .before .before .arrow-total in
-    let d : ArrowArrays (h * w) (s .args .arrows .now) (s .args .ends .now) (s .args .number) (total .result) = rw (total .ensures) (s .pre .1) in
-    (fit, listed-is h w (fit .tall) (fit .wide) d (c .before .before .before .before .before .mark-arrow-cells .ensures))
+    (fit, listed-is (s .args .h) (s .args .w) (fit .tall) (fit .wide) (drawn (c .before .before .before .before .before .before .before)) (c .before .before .before .before .before .mark-arrow-cells .ensures))
 
 enum-told : tie.Need-enum-told
 enum-told c = search needs
@@ -46,17 +122,8 @@ same-length c = search needs
 
 returns : tie.Need-returns
 returns c =
-    let s = c .before .before .before .before .before .before .before .before .before .before .before .before .before .before .before in
-    let h = s .args .h in
-    let w = s .args .w in
-    let fit = s .pre .0 in
-    let cells = s .args .cells .now in
-    let lines = linesOf (s .args .arrows .now) (s .args .ends .now) (s .args .number) in
-    let total = c .before .before .before .before .before .before .before .before .before .before .before .before .before .arrow-total in
-    let d : ArrowArrays (h * w) (s .args .arrows .now) (s .args .ends .now) (s .args .number) (total .result) = rw (total .ensures) (s .pre .1) in
-    let marks = c .before .before .before .before .before .before .before .before .before .before .before .mark-arrow-cells .ensures in
-    let one = c .before .before .before .before .before .check-potential-groups .ensures lines (potentials-held h w (fit .tall) (fit .wide) d cells (c .before .before .before .before .before .before .before .before .before .compute-connected-components .ensures) marks) in
-    first-found (puzzleWith (sized h w) lines) (take (h * w) cells) one (c .before .first .given .1)
+    let k = c .before .before .before .before .before in
+    first-found (puzzle (start k)) (held (start k)) (one k) (c .before .first .given .1)
 
 enum-known-first-2 : tie.Need-enum-known-first-2
 enum-known-first-2 c = search needs
@@ -66,36 +133,21 @@ same-length-2 c = search needs
 
 returns-2 : tie.Need-returns-2
 returns-2 c =
-    let s = c .before .before .before .before .before .before .before .before .before .before .before .before .before .before .before in
-    let h = s .args .h in
-    let w = s .args .w in
-    let fit = s .pre .0 in
-    let cells = s .args .cells .now in
-    let lines = linesOf (s .args .arrows .now) (s .args .ends .now) (s .args .number) in
-    let total = c .before .before .before .before .before .before .before .before .before .before .before .before .before .arrow-total in
-    let d : ArrowArrays (h * w) (s .args .arrows .now) (s .args .ends .now) (s .args .number) (total .result) = rw (total .ensures) (s .pre .1) in
-    let marks = c .before .before .before .before .before .before .before .before .before .before .before .mark-arrow-cells .ensures in
-    let one = c .before .before .before .before .before .check-potential-groups .ensures lines (potentials-held h w (fit .tall) (fit .wide) d cells (c .before .before .before .before .before .before .before .before .before .compute-connected-components .ensures) marks) in
-    absurd (never-refused (reason1 (puzzleWith (sized h w) lines) (take (h * w) cells)) one (c .before .first2 .given .1))
+    let k = c .before .before .before .before .before in
+    absurd (never-refused (reason1 (puzzle (start k)) (held (start k))) (one k) (c .before .first2 .given .1))
 
 compute-connected-components-requires-2 : tie.Need-compute-connected-components-requires-2
 compute-connected-components-requires-2 c κs = search needs
 
 check-blocks-requires : tie.Need-check-blocks-requires
 check-blocks-requires c κs =
-    let s = c .before .before .before .before .before .before .before .before .before .before .before .before .before .before .before .before .before .before .before .before in
-    let h = s .args .h in
-    let w = s .args .w in
-    let fit = s .pre .0 in
-    let cells = s .args .cells .now in
-    let lines = linesOf (s .args .arrows .now) (s .args .ends .now) (s .args .number) in
-    let total = c .before .before .before .before .before .before .before .before .before .before .before .before .before .before .before .before .before .before .arrow-total in
-    let d : ArrowArrays (h * w) (s .args .arrows .now) (s .args .ends .now) (s .args .number) (total .result) = rw (total .ensures) (s .pre .1) in
-    let marks = c .before .before .before .before .before .before .before .before .before .before .before .before .before .before .before .before .mark-arrow-cells .ensures in
-    let one = c .before .before .before .before .before .before .before .before .before .before .check-potential-groups .ensures lines (potentials-held h w (fit .tall) (fit .wide) d cells (c .before .before .before .before .before .before .before .before .before .before .before .before .before .before .compute-connected-components .ensures) marks) in (
-      fit-after fit (same-after (reason1 (puzzleWith (sized h w) lines) (take (h * w) cells)) one (c .before .before .before .before .before .before .enum-told .given .1)),
-      record { arrows = lines; held = blocks-held h w (fit .tall) (fit .wide) d cells (c .before .before .before .before .compute-connected-components2 .ensures) marks },
-      listed-is h w (fit .tall) (fit .wide) d marks,
+    let b = c .before .before .before .before in
+    let k = searched (passed b) in
+    let s = start k in
+    let fit = s .pre .0 in (
+      fit-after fit (same-after (reason1 (puzzle s) (held s)) (one k) (none (passed b))),
+      record { arrows = lines s; held = blocks b },
+      listed-is (s .args .h) (s .args .w) (fit .tall) (fit .wide) (drawn (totalled k)) (marked k .mark-arrow-cells .ensures),
     )
 
 enum-told-2 : tie.Need-enum-told-2
@@ -103,23 +155,12 @@ enum-told-2 c = search needs
 
 check-arrows-requires : tie.Need-check-arrows-requires
 check-arrows-requires c κs =
-    let s = c .before .before .before .before .before .before .before .before .before .before .before .before .before .before .before .before .before .before .before .before .before .before .before .before .before .before .before .before in
-    let h = s .args .h in
-    let w = s .args .w in
-    let fit = s .pre .0 in
-    let cells = s .args .cells .now in
-    let lines = linesOf (s .args .arrows .now) (s .args .ends .now) (s .args .number) in
-    let total = c .before .before .before .before .before .before .before .before .before .before .before .before .before .before .before .before .before .before .before .before .before .before .before .before .before .before .arrow-total in
-    let d : ArrowArrays (h * w) (s .args .arrows .now) (s .args .ends .now) (s .args .number) (total .result) = rw (total .ensures) (s .pre .1) in
-    let marks = c .before .before .before .before .before .before .before .before .before .before .before .before .before .before .before .before .before .before .before .before .before .before .before .before .mark-arrow-cells .ensures in
-    let one = c .before .before .before .before .before .before .before .before .before .before .before .before .before .before .before .before .before .before .check-potential-groups .ensures lines (potentials-held h w (fit .tall) (fit .wide) d cells (c .before .before .before .before .before .before .before .before .before .before .before .before .before .before .before .before .before .before .before .before .before .before .compute-connected-components .ensures) marks) in
-    let held = blocks-held h w (fit .tall) (fit .wide) d cells (c .before .before .before .before .before .before .before .before .before .before .before .before .compute-connected-components2 .ensures) marks in
-    let none = c .before .before .before .before .before .before .before .before .before .before .before .before .before .before .enum-told .given .1 in
-    let two = c .before .before .before .before .before .before .before .check-blocks .ensures .0 lines held in (
-      fit-after fit
-          (same-after (reason2 (puzzleWith (sized h w) lines) (take (h * w) cells)) two (c .before .before .before .enum-told2 .given .1)
-          ∙ same-after (reason1 (puzzleWith (sized h w) lines) (take (h * w) cells)) one none),
-      record { total = total .result; drawn = d; held = c .before .before .before .before .before .before .before .check-blocks .ensures .1 lines held },
+    let e = c .before .before .before in
+    let b = searched-2 e in
+    let p = passed (labelled b) in
+    let s = start (searched p) in (
+      fit-after (s .pre .0) (same-after (reason2 (puzzle s) (held s)) (two b) (e .enum-told2 .given .1) ∙ same-after (reason1 (puzzle s) (held s)) (one (searched p)) (none p)),
+      record { total = totalled (searched p) .arrow-total .result; drawn = drawn (totalled (searched p)); held = b .check-blocks .ensures .1 (lines s) (blocks (labelled b)) },
     )
 
 enum-known-second : tie.Need-enum-known-second
@@ -133,60 +174,30 @@ same-length-3 c = search needs
 
 returns-3 : tie.Need-returns-3
 returns-3 c =
-    let s = c .before .before .before .before .before .before .before .before .before .before .before .before .before .before .before .before .before .before .before .before .before .before .before .before .before .before .before .before .before .before .before in
-    let h = s .args .h in
-    let w = s .args .w in
-    let fit = s .pre .0 in
-    let cells = s .args .cells .now in
-    let lines = linesOf (s .args .arrows .now) (s .args .ends .now) (s .args .number) in
-    let total = c .before .before .before .before .before .before .before .before .before .before .before .before .before .before .before .before .before .before .before .before .before .before .before .before .before .before .before .before .before .arrow-total in
-    let d : ArrowArrays (h * w) (s .args .arrows .now) (s .args .ends .now) (s .args .number) (total .result) = rw (total .ensures) (s .pre .1) in
-    let marks = c .before .before .before .before .before .before .before .before .before .before .before .before .before .before .before .before .before .before .before .before .before .before .before .before .before .before .before .mark-arrow-cells .ensures in
-    let one = c .before .before .before .before .before .before .before .before .before .before .before .before .before .before .before .before .before .before .before .before .before .check-potential-groups .ensures lines (potentials-held h w (fit .tall) (fit .wide) d cells (c .before .before .before .before .before .before .before .before .before .before .before .before .before .before .before .before .before .before .before .before .before .before .before .before .before .compute-connected-components .ensures) marks) in
-    let held = blocks-held h w (fit .tall) (fit .wide) d cells (c .before .before .before .before .before .before .before .before .before .before .before .before .before .before .before .compute-connected-components2 .ensures) marks in
-    let none = c .before .before .before .before .before .before .before .before .before .before .before .before .before .before .before .before .before .enum-told .given .1 in
-    let two = c .before .before .before .before .before .before .before .before .before .before .check-blocks .ensures .0 lines held in
-    rest-found (puzzleWith (sized h w) lines) (take (h * w) cells) one none two (c .before .before .before .before .before .before .enum-told2 .given .1) (c .before .before .check-arrows .ensures)
+    let e = c .before .before .before .before .before .before in
+    let b = searched-2 e in
+    let p = passed (labelled b) in
+    let s = start (searched p) in
+    rest-found (puzzle s) (held s) (one (searched p)) (none p) (two b) (e .enum-told2 .given .1) (c .before .before .check-arrows .ensures)
 
 same-length-4 : tie.Need-same-length-4
 same-length-4 c = search needs
 
 returns-4 : tie.Need-returns-4
 returns-4 c =
-    let s = c .before .before .before .before .before .before .before .before .before .before .before .before .before .before .before .before .before .before .before .before .before .before .before .before .before .before in
-    let h = s .args .h in
-    let w = s .args .w in
-    let fit = s .pre .0 in
-    let cells = s .args .cells .now in
-    let lines = linesOf (s .args .arrows .now) (s .args .ends .now) (s .args .number) in
-    let total = c .before .before .before .before .before .before .before .before .before .before .before .before .before .before .before .before .before .before .before .before .before .before .before .before .arrow-total in
-    let d : ArrowArrays (h * w) (s .args .arrows .now) (s .args .ends .now) (s .args .number) (total .result) = rw (total .ensures) (s .pre .1) in
-    let marks = c .before .before .before .before .before .before .before .before .before .before .before .before .before .before .before .before .before .before .before .before .before .before .mark-arrow-cells .ensures in
-    let one = c .before .before .before .before .before .before .before .before .before .before .before .before .before .before .before .before .check-potential-groups .ensures lines (potentials-held h w (fit .tall) (fit .wide) d cells (c .before .before .before .before .before .before .before .before .before .before .before .before .before .before .before .before .before .before .before .before .compute-connected-components .ensures) marks) in
-    let held = blocks-held h w (fit .tall) (fit .wide) d cells (c .before .before .before .before .before .before .before .before .before .before .compute-connected-components2 .ensures) marks in
-    let none = c .before .before .before .before .before .before .before .before .before .before .before .before .enum-told .given .1 in
-    let two = c .before .before .before .before .before .check-blocks .ensures .0 lines held in
-    second-found (puzzleWith (sized h w) lines) (take (h * w) cells) one none two (c .before .second .given .1)
+    let b = c .before .before .before .before .before in
+    let p = passed (labelled b) in
+    let s = start (searched p) in
+    second-found (puzzle s) (held s) (one (searched p)) (none p) (two b) (c .before .second .given .1)
 
 same-length-5 : tie.Need-same-length-5
 same-length-5 c = search needs
 
 returns-5 : tie.Need-returns-5
 returns-5 c =
-    let s = c .before .before .before .before .before .before .before .before .before .before .before .before .before .before .before .before .before .before .before .before .before .before .before .before .before .before in
-    let h = s .args .h in
-    let w = s .args .w in
-    let fit = s .pre .0 in
-    let cells = s .args .cells .now in
-    let lines = linesOf (s .args .arrows .now) (s .args .ends .now) (s .args .number) in
-    let total = c .before .before .before .before .before .before .before .before .before .before .before .before .before .before .before .before .before .before .before .before .before .before .before .before .arrow-total in
-    let d : ArrowArrays (h * w) (s .args .arrows .now) (s .args .ends .now) (s .args .number) (total .result) = rw (total .ensures) (s .pre .1) in
-    let marks = c .before .before .before .before .before .before .before .before .before .before .before .before .before .before .before .before .before .before .before .before .before .before .mark-arrow-cells .ensures in
-    let one = c .before .before .before .before .before .before .before .before .before .before .before .before .before .before .before .before .check-potential-groups .ensures lines (potentials-held h w (fit .tall) (fit .wide) d cells (c .before .before .before .before .before .before .before .before .before .before .before .before .before .before .before .before .before .before .before .before .compute-connected-components .ensures) marks) in
-    let held = blocks-held h w (fit .tall) (fit .wide) d cells (c .before .before .before .before .before .before .before .before .before .before .compute-connected-components2 .ensures) marks in
-    let none = c .before .before .before .before .before .before .before .before .before .before .before .before .enum-told .given .1 in
-    let two = c .before .before .before .before .before .check-blocks .ensures .0 lines held in
-    absurd (never-refused (reason2 (puzzleWith (sized h w) lines) (take (h * w) cells)) two (c .before .second2 .given .1))
+    let b = c .before .before .before .before .before in
+    let s = start (searched (passed (labelled b))) in
+    absurd (never-refused (reason2 (puzzle s) (held s)) (two b) (c .before .second2 .given .1))
 
 pub find-inconsistency-spec : {M : Type 1} → statement M
 find-inconsistency-spec =
