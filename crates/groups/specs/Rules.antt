@@ -25,14 +25,6 @@ pub record Moved (g : Grid) (s : Shift) (x y : ℕ) : Type 0 where
   pub rows : row g y + s .up ≡ row g x + s .down
   pub cols : col g y + s .left ≡ col g x + s .right
 
--- the shift of P lies wholly in Q
-abbrev pub Contains : Grid → Shift → (ℕ → Type 0) → (ℕ → Type 0) → Type 0
-Contains g s P Q = (x : ℕ) → P x → (y : ℕ) × Q y × Moved g s x y
-
--- P holds of cells of the grid only
-abbrev pub Below : Grid → (ℕ → Type 0) → Type 0
-Below g P = (c : ℕ) → P c → c < size g
-
 -- Q is a shifted copy of P plus exactly one square; no turning, no flipping
 pub record Grown (g : Grid) (P Q : ℕ → Type 0) : Type 0 where
   pub shift : Shift
@@ -71,11 +63,21 @@ module _ (p : Puzzle) (cells : List ℕ) where
     -- for two squares on one arrow with none between them, the later cell's block is the earlier cell's block, grown
     pub grown : (i j : ℕ) → Next i j → Grown (p .grid) (SameBlock (p .grid) cells i) (SameBlock (p .grid) cells j)
 
--- the same as tests
+-- shifts of sets: what the tests below mean
 
 -- the shift that takes the cell f to the cell t
 abbrev pub taking : Grid → ℕ → ℕ → Shift
 taking g f t = record { up = row g f; down = row g t; left = col g f; right = col g t }
+
+-- the shift of P lies wholly in Q
+abbrev pub Contains : Grid → Shift → (ℕ → Type 0) → (ℕ → Type 0) → Type 0
+Contains g s P Q = (x : ℕ) → P x → (y : ℕ) × Q y × Moved g s x y
+
+-- P holds of cells of the grid only
+abbrev pub Below : Grid → (ℕ → Type 0) → Type 0
+Below g P = (c : ℕ) → P c → c < size g
+
+-- the same as tests
 
 -- the set b, shifted so that its cell f comes to t, lies in the set r
 unfoldable pub fits : Grid → List ℕ → List ℕ → ℕ → ℕ → Bool

@@ -4,7 +4,6 @@ use Prim.Native.Nat.{_<_}
 use native.Mathlib.Omega.{arith}
 use borrow.Author.Needs.{needs}
 use Rattle.board.specs.Inside.{bits, off, twice, put}
-use borrow.Author.Needs.{needs}
 use Rattle.board.proofs.place.Statement.{statement}
 use Rattle.board.proofs.place.Tie as tie
 

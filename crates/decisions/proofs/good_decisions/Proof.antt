@@ -10,7 +10,6 @@ use borrow.Author.Tests.{not-true, not-false}
 use Rattle.grid.specs.Lists.{all, upto}
 use Rattle.form.specs.Form.{fresh, shown}
 use Rattle.form.proofs.Verdicts.{blank-zeros, decisions-many, decisions-twice, decisions-zeros, decisions-shown, decisions-are}
-use borrow.Author.Needs.{needs}
 use Rattle.decisions.proofs.good_decisions.Statement.{statement}
 use Rattle.decisions.proofs.good_decisions.Tie as tie
 

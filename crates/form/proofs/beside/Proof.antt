@@ -2,7 +2,6 @@
 -- Assumes nothing.
 use borrow.Author.Needs.{needs}
 use Rattle.form.proofs.Steps.{step-up, step-down, step-left, step-right, step-none}
-use borrow.Author.Needs.{needs}
 use Rattle.form.proofs.beside.Statement.{statement}
 use Rattle.form.proofs.beside.Tie as tie
 

@@ -14,10 +14,6 @@ use Rattle.record.specs.Problem.{arrowsFrom}
 use Rattle.form.specs.Form.{fresh, path}
 use Rattle.form.specs.Inside.{Below}
 use Rattle.form.proofs.Verdicts.{blank-zeros, fresh-below, drawn-far, drawn-twice, drawn-broken, drawn-is}
-use mathlib.Core.List.{List, []}
-use Prim.Native.Nat.{ℕ}
-use lib.ListN.{take}
-use borrow.Author.Needs.{needs}
 use Rattle.form.proofs.good_arrows.Statement.{statement}
 use Rattle.form.proofs.good_arrows.Tie as tie
 

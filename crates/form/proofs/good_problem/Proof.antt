@@ -12,7 +12,6 @@ use Rattle.record.specs.Problem.{gridOf}
 use Rattle.record.specs.declared.Problem.{Problem}
 use Rattle.form.specs.Form.{goodSize, rises, drawn}
 use Rattle.form.proofs.Verdicts.{problem-size, problem-count, problem-rise, problem-drawn, problem-codes, problem-behind, problem-is, area-of}
-use borrow.Author.Needs.{needs}
 use Rattle.form.proofs.good_problem.Statement.{statement}
 use Rattle.form.proofs.good_problem.Tie as tie
 

@@ -13,7 +13,6 @@ use Rattle.board.specs.Form.{wellFormed}
 use Rattle.board.specs.Decide.{area, placed}
 use Rattle.board.proofs.BoardForm.{whole-is, whole-room, whole-most}
 use Rattle.board.proofs.Answers.{decide-6, decide-7, decide-8, decide-9, decide-done}
-use borrow.Author.Needs.{needs}
 use Rattle.board.proofs.Board.decide.Statement.{statement}
 use Rattle.board.proofs.Board.decide.Tie as tie
 

@@ -13,7 +13,6 @@ use Rattle.board.specs.Decide.{refusedWith, decideAllOf, allPlaced}
 use Rattle.board.specs.Inside.{held}
 use Rattle.board.proofs.BoardForm.{whole-is, whole-most}
 use Rattle.board.proofs.Fold.{all-6, all-placed, all-done, all-refused}
-use borrow.Author.Needs.{needs}
 use Rattle.board.proofs.Board.decide_all.Statement.{statement}
 use Rattle.board.proofs.Board.decide_all.Tie as tie
 

@@ -11,7 +11,6 @@ use Rattle.board.specs.Form.{wellFormed}
 use Rattle.board.specs.Decide.{removed}
 use Rattle.board.proofs.BoardForm.{whole-is, whole-latest, whole-most}
 use Rattle.board.proofs.Answers.{undo-6, undo-10, undo-done}
-use borrow.Author.Needs.{needs}
 use Rattle.board.proofs.Board.undo.Statement.{statement}
 use Rattle.board.proofs.Board.undo.Tie as tie
 

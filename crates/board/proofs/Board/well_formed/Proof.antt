@@ -13,7 +13,6 @@ use Rattle.form.specs.Form.{problemFormed}
 use Rattle.form.proofs.ProblemForm.{formed-is}
 use Rattle.board.specs.declared.Board.{Board}
 use Rattle.board.proofs.Verdicts.{board-problem, board-decisions}
-use borrow.Author.Needs.{needs}
 use Rattle.board.proofs.Board.well_formed.Statement.{statement}
 use Rattle.board.proofs.Board.well_formed.Tie as tie
 
