@@ -5,7 +5,6 @@ use native.Mathlib.Omega.{arith}
 use native.Mathlib.Decide.{decLe}
 use mathlib.Core.Logic.{_↔_}
 use mathlib.Core.Path.{_≡_, refl, sym, ap, _∙_}
-use mathlib.Core.Bool.{true}
 use mathlib.Core.List.{List, [], _∷_, map, List·Memᴰ, List·Memᴰ·head, List·Memᴰ·tail}
 use mathlib.Core.Option.{none, some}
 use lib.ListN.{length, drop, length-map}
@@ -23,10 +22,8 @@ use Rattle.board.specs.Board.{Call, find, refusal, Full, cellsAfter, enough}
 use Rattle.groups.specs.Rules.{BlockRules}
 use Rattle.board.specs.Kept.{boardOf}
 use Rattle.board.specs.Calls.{standing}
-use Rattle.board.specs.Form.{wellFormed}
 use Rattle.board.proofs.Standing.{Standing, calls-standing, cells-valid, standing-low}
-use Rattle.board.proofs.BoardForm.{is-whole, standing-whole}
-use Rattle.board.proofs.CallLaws.{opened-left, after-calls}
+use Rattle.board.proofs.CallLaws.{standing-well, opened-left, after-calls}
 use Rattle.literals.specs.Literals.{Found}
 use Rattle.reasons.specs.Reasons.{findOn}
 use Rattle.reasons.specs.Find.{cellsOn, reasonOn, findRefusal, findOf, bufferAfter, literalOf, told, answerOn}
@@ -64,16 +61,13 @@ module _ (p : Puzzle) (v : Valid p) {ds : List Literal} (s : Standing (p .grid) 
   unfolding reasonOn findOn boardOf
   reason-on = rw (cells-on, problem-puzzle p v) refl
 
-  well : wellFormed (boardOf p ds) ≡ true
-  well = is-whole (boardOf p ds) (standing-whole p v s)
-
   accepted : (k : ℕ) → enough (p .grid) ≤ k → findRefusal (boardOf p ds) k ≡ 0
   unfolding findRefusal boardOf problemOf gridOf
-  accepted k h = rw (well, le-ltb k (enough (p .grid)) h) refl
+  accepted k h = rw (standing-well p v s, le-ltb k (enough (p .grid)) h) refl
 
   short : (k : ℕ) → k < enough (p .grid) → findRefusal (boardOf p ds) k ≡ 11
   unfolding findRefusal boardOf problemOf gridOf
-  short k h = rw (well, lt-ltb k (enough (p .grid)) h) refl
+  short k h = rw (standing-well p v s, lt-ltb k (enough (p .grid)) h) refl
 
   -- every index of a reason is below 32,768
   module _ (low : (r : List Literal) → findOn p ds ≡ some r → (l : Literal) → List·Memᴰ l r → l .0 < 32768) where
@@ -142,4 +136,4 @@ demand-3 s p read cs ds = record {
 -- after any list of calls find's refusal is the machine's
 pub find-refusal : (s : List ℕ) (p : Puzzle) → readRecord s ≡ ok p → (cs : List Call) (k : ℕ) → findRefusal (boardAfter s cs) k ≡ refusal (p .grid) (find k) (standing p cs)
 unfolding findRefusal refusal enough boardOf problemOf gridOf
-find-refusal s p read cs k = rw (opened-left s p read cs, well p (record-valid s read) (calls-standing (p .grid) cs)) refl
+find-refusal s p read cs k = rw (opened-left s p read cs, standing-well p (record-valid s read) (calls-standing (p .grid) cs)) refl
