@@ -1,7 +1,7 @@
 -- The steps of an arrow, and an arrow with its start.
 -- Assumes nothing.
 use Prim.Native.Nat.{ℕ, zero, suc, _+_, _-_, _*_, _≤_, _<_}
-use native.Mathlib.Nat.{sub-zero, add-zero, mul-le-mul-right}
+use native.Mathlib.Nat.{sub-zero, add-zero}
 use native.Mathlib.Omega.{arith}
 use mathlib.Core.Path.{_≡_, refl, sym, ap, _∙_, subst}
 use mathlib.Core.Bool.{Bool, _&&_, _||_, not, or-comm}
@@ -130,12 +130,6 @@ stepped-to (off e) q = let z : _≡_ {A = ℕ} 0 1 = cc in absurd (omega arith)
 pub stepped-off : {g : Grid} {o : Outcome ℕ} {r : Place} {k : ℕ} → Stepped g o r → r ≡ Lost k → o ≡ refused k
 stepped-off (to e h l) q = let z : _≡_ {A = ℕ} 0 1 = cc in absurd (omega arith)
 stepped-off (off e) q = e ∙ ap {B = Outcome ℕ} refused (cc)
-
--- a cell of a grid within the limits
-pub cell-small : (h w y x : ℕ) → h ≤ 32 → w ≤ 32 → y < h → x < w → y * w + x < 1024
-cell-small h w y x hh hw hy hx =
-    let l : y ≤ 31 = omega arith in
-    omega (arith, mul-le-mul-right w l)
 
 module _ (s : List ℕ) (g : Grid) (l : List ℕ) (i at : ℕ) where
   -- a step that is taken: each way out

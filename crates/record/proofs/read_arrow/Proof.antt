@@ -8,10 +8,11 @@ use lib.ListN.{length, length-append}
 use Rattle.fields.specs.Fields.{ok}
 use Rattle.grid.specs.Grid.{Grid}
 use Rattle.grid.specs.Side.{sized}
+use Rattle.grid.proofs.SideLaws.{index-small}
 use Rattle.fields.specs.Inside.{openingAt}
 use Rattle.record.specs.Inside.{Kept}
 use Rattle.record.proofs.KeptLaws.{kept-length}
-use Rattle.record.proofs.ArrowLaws.{answered-done, cell-small, start-ok, start-bad, opening-fits, arrow-bad, arrow-used, arrow-cut, arrow-whole}
+use Rattle.record.proofs.ArrowLaws.{answered-done, start-ok, start-bad, opening-fits, arrow-bad, arrow-used, arrow-cut, arrow-whole}
 use borrow.Author.Needs.{needs}
 use Rattle.record.proofs.read_arrow.Statement.{statement}
 use Rattle.record.proofs.read_arrow.Tie as tie
@@ -59,7 +60,7 @@ small : (c : tie.After-known-told) → row c * start c .args .width + col c < 10
 small c =
     let a = start c in
     let o = fits c in
-    cell-small (a .args .height) (a .args .width) (row c) (col c) (a .pre .0) (a .pre .1) (o .0) (o .1)
+    index-small (row c) (col c) (a .pre .0) (a .pre .1) (o .0) (o .1) .1
 
 -- the arrow cells with the start
 entered : (c : tie.After-enum-told) →

@@ -3,7 +3,8 @@
 use Prim.Native.Nat.{ℕ, _+_, _*_, _<_}
 use native.Mathlib.Omega.{arith}
 use Rattle.grid.specs.Side.{sized}
-use Rattle.record.proofs.ArrowLaws.{stepped-to, stepped-off, cell-small, step-lost, step-used, step-new}
+use Rattle.grid.proofs.SideLaws.{index-small}
+use Rattle.record.proofs.ArrowLaws.{stepped-to, stepped-off, step-lost, step-used, step-new}
 use borrow.Author.Needs.{needs}
 use Rattle.record.proofs.take_step.Statement.{statement}
 use Rattle.record.proofs.take_step.Tie as tie
@@ -33,7 +34,7 @@ small : (c : tie.After-known-told) → row c * start c .args .width + col c < 10
 small c =
     let a = start c in
     let t = stepped-to (c .before .before .before .read-step .ensures) (c .before .p .given .1) in
-    cell-small (a .args .height) (a .args .width) (row c) (col c) (a .pre .2) (a .pre .3) (t .1) (t .2)
+    index-small (row c) (col c) (a .pre .2) (a .pre .3) (t .1) (t .2) .1
 
 mul-enter : tie.Need-mul-enter
 mul-enter c = omega (arith, small c)
