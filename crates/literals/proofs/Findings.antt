@@ -13,6 +13,7 @@ use Rattle.literals.specs.Buffer.{Wrote, findingBy, bufferBy, FoundAs}
 use Rattle.literals.specs.Literals.{Found, orElse, firstOf}
 use Rattle.literals.specs.declared.Finding.{Finding}
 use Rattle.literals.specs.declared.Finding.the-variants.{Nothing, Reason, Refused}
+use Rattle.literals.proofs.BufferLaws.{wrote-length}
 
 -- nothing was found, and the buffer is as it was
 pub found-none : (b : List ℕ) → FoundAs none b b Nothing
@@ -63,9 +64,6 @@ module _ {A : Type 0} (f : A → Found) where
 -- ---- literals written into the later part of a buffer, from k on
 
 module _ {ls : List Literal} {b a : List ℕ} {k : ℕ} (w : Wrote ls b a k) (fits : k ≤ length b) where
-  written : length a ≡ length b
-  written = ap length (w .whole) ∙ simp (length-append, length-map, length-drop) (omega (arith, w .many))
-
   -- the part that is lent
   pub lent : take (length a - k) (drop k a) ≡ drop k b
   lent =
@@ -74,7 +72,7 @@ module _ {ls : List Literal} {b a : List ℕ} {k : ℕ} (w : Wrote ls b a k) (fi
 
   put : (part : List ℕ) → putMid k (length a - k) a part ≡ map word ls ++ part
   put part =
-      let long : k ≤ length a = omega (arith, written) in
+      let long : k ≤ length a = omega (arith, wrote-length w fits) in
       let end : drop (length a - k) (drop k a) ≡ [] = drop-of-length-le (drop k a) {i = length a - k} (omega (arith, length-drop k a)) in
       let front : take k a ≡ map word ls = rw (w .whole) (take-at (map word ls) (drop k b) k (length-map ls word ∙ sym (w .many))) in
       rw (end, front, append-nil part) refl
