@@ -13,7 +13,7 @@ use borrow.Author.Tests.{eqb-true, eq-eqb, ne-eqb, lt-ltb, le-ltb}
 use Rattle.grid.specs.Lists.{range, upto, filter, any}
 use Rattle.grid.specs.Grid.{Grid, neighbours}
 use Rattle.grid.proofs.ListLaws.{split, and-true, true-and, so-orl, so-orr, or-so, any-mem, mem-any}
-use Rattle.grid.proofs.AppendLaws.{any-append, any-more}
+use Rattle.grid.proofs.AppendLaws.{any-append, any-more, none-more}
 use Rattle.fence.specs.Inside.{key, Place, Inserted, litAt, Ordered, Whole, ofBlock, inDisturbing, touched, adds}
 use Rattle.fence.proofs.Ordering.{key-lit, ordered-same, found, absent, ordered-insert}
 
@@ -153,8 +153,7 @@ module _ (marks : List ℕ) where
   touch-none = refl
 
   pub touch-more : (js : List ℕ) (j : ℕ) → any (λ k. eqb (getD marks k 0) 1) js ≡ false → (getD marks j 0 ≡ 1 → ⊥) → any (λ k. eqb (getD marks k 0) 1) (js ++ (j ∷ [])) ≡ false
-  unfolding any
-  touch-more js j e h = any-append (λ k. eqb (getD marks k 0) 1) js (j ∷ []) ∙ rw (e, ne-eqb (getD marks j 0) 1 h)
+  touch-more js j e h = none-more (λ k. eqb (getD marks k 0) 1) js j e (ne-eqb (getD marks j 0) 1 h)
 
   pub touch-hit : (g : Grid) (i j : ℕ) → List·Memᴰ j (neighbours g i) → getD marks j 0 ≡ 1 → true ≡ touched marks g i
   unfolding touched

@@ -58,6 +58,11 @@ module _ {A : Type 0} where
       go true h = refl
       go false h = h
 
+  -- one more that does not pass either
+  pub none-more : (p : A → Bool) (l : List A) (x : A) → any p l ≡ false → p x ≡ false → any p (l ++ (x ∷ [])) ≡ false
+  unfolding any
+  none-more p l x h e = any-append p l (x ∷ []) ∙ rw (h, e) refl
+
   pub filter-append : (p : A → Bool) (l m : List A) → filter p (l ++ m) ≡ filter p l ++ filter p m
   unfolding filter
   filter-append p [] m = refl

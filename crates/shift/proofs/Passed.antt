@@ -3,7 +3,7 @@
 use Prim.Native.Nat.{ℕ, _+_, _≤_, _<_}
 use native.Mathlib.Omega.{arith}
 use mathlib.Core.Path.{_≡_, refl, sym, _∙_}
-use mathlib.Core.Bool.{Bool, true, false, cond, _||_, false≢true}
+use mathlib.Core.Bool.{Bool, true, false, cond, false≢true}
 use mathlib.Core.List.{List, [], _∷_, _++_, append-nil}
 use lib.Dec.{eqb}
 use lib.ListN.{length, getD, take, length-take, length-append}
@@ -39,15 +39,6 @@ unfolding blockIn
 block-all kinds owners n f = owned-both owners n f (λ i. eqb (getD kinds i 0) 1)
 
 -- ---- a test that no cell passed so far meets
-
-pub none-more : (p : ℕ → Bool) (l : List ℕ) (x : ℕ) → any p l ≡ false → p x ≡ false → any p (l ++ (x ∷ [])) ≡ false
-unfolding any
-none-more p [] x h e = rw e refl
-none-more p (y ∷ ys) x h e = go (p y) refl (λ r. none-more p ys x r e)
-  where
-    go : (b : Bool) → p y ≡ b → (any p ys ≡ false → any p (ys ++ (x ∷ [])) ≡ false) → (p y || any p (ys ++ (x ∷ []))) ≡ false
-    go true q k = absurd (false≢true (sym h ∙ rw q refl))
-    go false q k = rw q (k (rw q at h))
 
 -- the first places of an array
 pub none-taken : (p : ℕ → Bool) (l : List ℕ) (n : ℕ) → ((j : ℕ) → j < n → p (getD l j 0) ≡ false) → any p (take n l) ≡ false

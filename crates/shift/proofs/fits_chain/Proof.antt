@@ -7,11 +7,11 @@ use mathlib.Core.Bool.{Bool, false}
 use mathlib.Core.List.{List, [], _∷_, _++_}
 use Rattle.grid.specs.Lists.{any}
 use Rattle.grid.proofs.ListLaws.{mem-any}
+use Rattle.grid.proofs.AppendLaws.{none-more}
 use Rattle.reach.specs.Chains.{cellsFrom}
 use Rattle.reach.specs.Inside.{reachesAt}
 use Rattle.shift.specs.Shift.{fitsAt}
 use Rattle.reach.proofs.ChainWalks.{Walk, walk-start, walk-in, walk-high, walk-mem, walk-more, walk-less, walk-end}
-use Rattle.shift.proofs.Passed.{none-more}
 use borrow.Author.Needs.{needs}
 use Rattle.shift.proofs.fits_chain.Statement.{statement}
 use Rattle.shift.proofs.fits_chain.Tie as tie
