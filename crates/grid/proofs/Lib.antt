@@ -1,5 +1,6 @@
 pub mod ListLaws
 pub mod AppendLaws
+pub mod SliceLaws
 pub mod LinkLaws
 pub mod Count
 pub mod Finite

@@ -12,6 +12,7 @@ use borrow.Author.Tests.{lt-ltb, le-ltb}
 use Rattle.grid.specs.Lists.{filter, init, tail}
 use Rattle.grid.specs.Grid.{size}
 use Rattle.grid.proofs.AppendLaws.{filter-agree}
+use Rattle.grid.proofs.SliceLaws.{slice-tail, slice-init}
 use Rattle.grid.specs.Cells.{Literal, empty, undecided, word}
 use Rattle.groups.specs.Arrows.{Pair}
 use Rattle.kinds.specs.Kinds.{View, view, viewWith, block, reach, fence}
@@ -24,7 +25,6 @@ use Rattle.literals.specs.Literals.{reasonIf, each}
 use Rattle.shift.specs.Fits.{shiftFits}
 use Rattle.shift.specs.Shift.{blockIn}
 use Rattle.literals.proofs.BufferLaws.{wrote-more}
-use Rattle.growth.proofs.PairPlaces.{slice-tail, slice-init}
 use Rattle.kinds.proofs.BlockArrays.{block-by}
 
 -- the pair p, and the names f and e of the blocks of its squares

@@ -8,6 +8,7 @@ use mathlib.Core.List.{List, _++_, List·Memᴰ}
 use lib.ListN.{length, getD}
 use lib.Seq.{slice}
 use Rattle.grid.specs.Lists.{filter}
+use Rattle.grid.proofs.SliceLaws.{slice-mem}
 use Rattle.grid.specs.Cells.{empty, square}
 use Rattle.groups.specs.Arrows.{Pair}
 use Rattle.groups.specs.Arrays.{CellArray}
@@ -21,7 +22,6 @@ use Rattle.literals.specs.declared.Finding.the-variants.{Nothing, Reason}
 use Rattle.literals.proofs.Findings.{found-none, wrote-found}
 use Rattle.growth.proofs.PairChecks.{shift-none, shift-some, growth-none, growth-some, gap-none, gap-some, gap-places, most-taken, empty-agree}
 use Rattle.growth.proofs.PairNames.{scene-owner}
-use Rattle.growth.proofs.PairPlaces.{slice-mem}
 
 -- two squares of an arrow, and the names of their blocks in the array
 module _ {h w : ℕ} {lines : List (List ℕ)} {cells arrows kinds owners : List ℕ} {last cur : ℕ} (s : Scene h w lines cells arrows kinds owners last (cur + 1)) (order : last < cur)

@@ -1,14 +1,11 @@
 -- One pass over the cells that writes those that pass a test.
 -- Assumes nothing.
-use Prim.Native.Nat.{ℕ, _+_, _-_, _≤_, _<_, max}
+use Prim.Native.Nat.{ℕ, _+_, _≤_, _<_}
 use native.Mathlib.Omega.{arith}
-use native.Mathlib.Numerals.{add-one}
-use native.Mathlib.Decide.{decLe}
-use mathlib.Core.Path.{_≡_, refl, sym, _∙_}
+use mathlib.Core.Path.{_≡_, refl}
 use mathlib.Core.Bool.{Bool, true, false, cond}
 use mathlib.Core.List.{List, [], _∷_, _++_, map-append, append-nil}
-use lib.ListN.{length, getD, set, take, length-map, length-take, length-drop, drop-of-length-le}
-use lib.Seq.{slice, take-suc, drop-append-le, length-take-le}
+use lib.ListN.{length, set, length-map}
 use Rattle.grid.specs.Lists.{range, upto, filter}
 use Rattle.grid.proofs.ListLaws.{filter-length}
 use Rattle.grid.proofs.AppendLaws.{upto-more, filter-more, upto-length}
@@ -64,22 +61,3 @@ cells-more p v i w h e f g = rw (upto-more i) (pass-more p v (upto i) i w h e f 
 
 pub cells-count : (p : ℕ → Bool) (v i : ℕ) {b a : List ℕ} {k : ℕ} → Wrote (each v (filter p (upto i))) b a k → k ≤ i
 cells-count p v i w = omega (arith, pass-count p v (upto i) i w, upto-length i)
-
-module _ (l : List ℕ) (f : ℕ) where
-  -- a part of a list, one place longer
-  pub slice-more : (k : ℕ) → f ≤ k → k < length l → slice f (k + 1) l ≡ slice f k l ++ (getD l k 0 ∷ [])
-  slice-more k h e = rw (add-one k, take-suc l k 0 e) (drop-append-le f (take k l) (getD l k 0 ∷ []) (rw (length-take-le k l (omega arith)) h))
-
-  pub slice-none : (t : ℕ) → t ≤ f → slice f t l ≡ []
-  slice-none t h = drop-of-length-le (take t l) {i = f} (simp length-take (omega arith))
-
-  -- the whole part was passed
-  pub slice-all : (t k : ℕ) → f ≤ k → t ≤ k → k ≤ max f t → slice f k l ≡ slice f t l
-  slice-all t k h e m = go (decLe t f)
-    where
-      go : Dec (t ≤ f) → slice f k l ≡ slice f t l
-      go (yes q) = let z : k ≡ f = omega arith in rw z (slice-none f (omega arith) ∙ sym (slice-none t q))
-      go (no q) = let z : k ≡ t = omega arith in rw z refl
-
-  pub slice-short : (t : ℕ) → length (slice f t l) ≤ t - f
-  slice-short t = simp (length-drop, length-take) (omega arith)

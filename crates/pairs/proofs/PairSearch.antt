@@ -8,9 +8,10 @@ use mathlib.Core.Bool.{Bool, true}
 use mathlib.Core.List.{List, [], _∷_, List·Memᴰ, List·Memᴰ·head, List·Memᴰ·tail}
 use mathlib.Core.Option.{none}
 use lib.ListN.{length, getD, take, drop, length-take, drop-of-length-le}
-use lib.Seq.{slice, slice-cons, length-slice, take-nil, drop-nil, getD-take, getD-drop}
+use lib.Seq.{slice, slice-cons, length-slice, take-nil, drop-nil}
 use Rattle.grid.specs.Lists.{flatMap, member}
-use Rattle.grid.proofs.ListLaws.{mem-any, mem-member, at-mem}
+use Rattle.grid.proofs.ListLaws.{mem-any, mem-member}
+use Rattle.grid.proofs.SliceLaws.{slice-none, slice-at}
 use Rattle.grid.specs.Cells.{square}
 use Rattle.record.specs.Problem.{arrowsFrom}
 use Rattle.groups.specs.Arrows.{onArrow, Pair, pairs}
@@ -22,7 +23,6 @@ use Rattle.literals.specs.declared.Finding.the-variants.{Nothing, Reason}
 use Rattle.literals.proofs.Findings.{nothing-found, found-first, first-append}
 use Rattle.growth.proofs.PairNames.{square-taken, next-taken}
 use Rattle.growth.proofs.PairPlaces.{pairs-start, pairs-more, pairs-end}
-use Rattle.literals.proofs.Pass.{slice-none}
 
 -- ---- one arrow
 
@@ -116,13 +116,6 @@ module _ (f : Pair → Found) (cells arrows ends : List ℕ) (number from a : �
     rest-found x =
         rw rest-split
         (found-first (firstOf f (pairs cells (slice from (getD ends a 0) arrows))) (restOf f cells (linesFrom arrows ends number (getD ends a 0) (a + 1))) x)
-
--- a place of a part
-slice-at : (l : List ℕ) (a t k : ℕ) → a ≤ k → k < t → t ≤ length l → List·Memᴰ (getD l k 0) (slice a t l)
-slice-at l a t k p q r =
-    let z : a + (k - a) ≡ k = omega arith in
-    let e : getD (slice a t l) (k - a) 0 ≡ getD l k 0 = getD-drop a (take t l) (k - a) 0 ∙ rw z (getD-take t l k 0 q) in
-    rw e at (at-mem (slice a t l) (k - a) (omega (arith, length-slice a t l r)))
 
 -- the next arrow is one of the board's
 module _ {h w : ℕ} {cells arrows ends kinds owners : List ℕ} {number : ℕ} (all : Whole h w cells arrows ends kinds owners number) (from a : ℕ) (within : a < number)

@@ -8,6 +8,7 @@ use lib.ListN.{length, getD, take, length-take, length-drop}
 use lib.Seq.{slice}
 use Rattle.grid.specs.Lists.{filter}
 use Rattle.grid.proofs.ListLaws.{filter-length}
+use Rattle.grid.proofs.SliceLaws.{slice-short}
 use Rattle.grid.proofs.SideLaws.{area}
 use Rattle.grid.specs.Cells.{empty}
 use Rattle.kinds.specs.Kinds.{View, block, reach}
@@ -18,7 +19,7 @@ use Rattle.growth.proofs.PairChecks.{block-in}
 use Rattle.growth.proofs.PairFinds.{no-gap, gap-found}
 use Rattle.growth.proofs.PairNames.{scene-kind, last-cell, cur-cell, last-name, cur-name}
 use Rattle.growth.proofs.PairSizes.{reach-few, parts-few, most-low}
-use Rattle.literals.proofs.Pass.{each-length, slice-short}
+use Rattle.literals.proofs.Pass.{each-length}
 use borrow.Author.Needs.{needs}
 use Rattle.fourth.proofs.check_gap.Statement.{statement}
 use Rattle.fourth.proofs.check_gap.Tie as tie

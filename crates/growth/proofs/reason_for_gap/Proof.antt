@@ -8,11 +8,12 @@ use lib.ListN.{getD}
 use lib.Seq.{slice}
 use borrow.Author.Needs.{needs}
 use Rattle.grid.specs.Lists.{filter}
+use Rattle.grid.proofs.SliceLaws.{slice-more, slice-none, slice-all, slice-short}
 use Rattle.grid.specs.Cells.{empty}
 use Rattle.literals.specs.Literals.{each}
 use Rattle.literals.specs.Buffer.{Wrote}
 use Rattle.literals.proofs.BufferLaws.{wrote-length}
-use Rattle.literals.proofs.Pass.{pass-none, pass-count, pass-more, slice-more, slice-none, slice-all, slice-short}
+use Rattle.literals.proofs.Pass.{pass-none, pass-count, pass-more}
 use Rattle.growth.proofs.reason_for_gap.Statement.{statement}
 use Rattle.growth.proofs.reason_for_gap.Tie as tie
 
