@@ -1,12 +1,15 @@
 -- Lists kept in arrays of 1,024 places.
 -- Assumes nothing.
-use Prim.Native.Nat.{ℕ, suc, _+_, _-_, _≤_, _<_}
+use Prim.Native.Nat.{ℕ, zero, suc, _+_, _-_, _≤_, _<_}
 use native.Mathlib.Omega.{arith}
 use mathlib.Core.Path.{_≡_, refl, sym, _∙_, subst}
+use mathlib.Core.Bool.{Bool, true, false, cond}
 use mathlib.Core.List.{List, [], _∷_, _++_, append-assoc}
+use lib.Dec.{eqb}
 use lib.ListN.{length, getD, set, take, drop, replicate, length-append, length-replicate, getD-replicate, List·getD-append}
 use lib.Seq.{take-append-seam, drop-append-seam, getD-append-add, getD-set-same, getD-set-other, set-append-left, set-at}
-use Rattle.grid.specs.Lists.{arrayOf}
+use borrow.Author.Tests.{eq-eqb, ne-eqb}
+use Rattle.grid.specs.Lists.{arrayOf, howMany}
 use Rattle.grid.proofs.AppendLaws.{by-eq}
 
 -- the entry at j after a store at q
@@ -16,6 +19,23 @@ pub data Entry (L : List ℕ) (q v j : ℕ) : Type 0 where
 
 pub entry-at : (L : List ℕ) (q v j : ℕ) → q < length L → Entry L q v j
 entry-at L q v j h = by-eq j q (λ e. hit e (rw e (getD-set-same L q v 0 h))) (λ ne. miss ne (getD-set-other L q j v 0 ne))
+
+-- a store over an entry i: one fewer is left
+pub fewer-set : {i : ℕ} (L : List ℕ) (q v : ℕ) → getD L q 0 ≡ i → (v ≡ i → ⊥) → 0 < i → howMany i (set L q v) + 1 ≡ howMany i L
+unfolding howMany
+fewer-set [] q v e ne h = absurd (omega (arith, e))
+fewer-set {i} (x ∷ xs) zero v e ne h = rw (ne-eqb v i ne, eq-eqb x i e) (omega arith)
+fewer-set (x ∷ xs) (suc q) v e ne h = omega (arith, fewer-set xs q v e ne h)
+
+one-le : (b : Bool) → cond b 1 0 ≤ 1
+one-le true = omega arith
+one-le false = omega arith
+
+-- no more entries are i than there are
+pub how-many-le : (i : ℕ) (L : List ℕ) → howMany i L ≤ length L
+unfolding howMany
+how-many-le i [] = omega arith
+how-many-le i (x ∷ xs) = omega (arith, how-many-le i xs, one-le (eqb x i))
 
 module _ {A : Type 0} (d : A) where
   -- an array has 1,024 places

@@ -1,6 +1,6 @@
 -- Lists of numbers, and tests on them.
 -- Assumes nothing.
-use Prim.Native.Nat.{ℕ, zero, suc, _-_, _<_}
+use Prim.Native.Nat.{ℕ, zero, suc, _+_, _-_, _<_}
 use mathlib.Core.Bool.{Bool, true, false, cond, _&&_, _||_}
 use mathlib.Core.List.{List, [], _∷_, _++_, List·Memᴰ}
 use lib.Dec.{eqb}
@@ -56,6 +56,11 @@ module _ {A B : Type 0} where
 -- i is in the list
 unfoldable pub member : ℕ → List ℕ → Bool
 member i = any (eqb i)
+
+-- how often i is in the list
+unfoldable pub howMany : ℕ → List ℕ → ℕ
+howMany i [] = 0
+howMany i (x ∷ xs) = cond (eqb x i) 1 0 + howMany i xs
 
 -- each member once, at its last place
 unfoldable pub once : List ℕ → List ℕ

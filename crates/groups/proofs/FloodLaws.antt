@@ -1,6 +1,6 @@
 -- The mathematics of a flood: no code is named here.
 -- Assumes nothing.
-use Prim.Native.Nat.{ℕ, zero, suc, _+_, _-_, _*_, _/_, _%_, _≤_, _<_}
+use Prim.Native.Nat.{ℕ, _+_, _-_, _*_, _/_, _%_, _≤_, _<_}
 use native.Mathlib.Decide.{decLt}
 use native.Mathlib.Nat.{div-add-mod'}
 use native.Mathlib.Omega.{arith}
@@ -8,10 +8,8 @@ use mathlib.Core.Path.{_≡_, refl, sym, ap, _∙_}
 use mathlib.Core.Bool.{Bool, true, false, So, cond, false≢true}
 use mathlib.Core.Logic.{_⊎_, inl, inr}
 use mathlib.Core.List.{List, [], _∷_, List·Memᴰ, List·Memᴰ·head, List·Memᴰ·append-cases, List·Memᴰ·not-nil, List·Memᴰ·eq-of-singleton}
-use lib.Dec.{eqb}
 use lib.ListN.{length, getD, set, length-set, replicate, length-replicate, getD-replicate, List·getD-eq-default}
 use lib.Seq.{getD-set-same, getD-set-other}
-use borrow.Author.Tests.{eq-eqb, ne-eqb}
 use Rattle.grid.specs.Link.{here, step}
 use Rattle.grid.proofs.LinkLaws.{linked-end}
 use Rattle.grid.specs.Grid.{Adjacent, Grid, size, neighbours}
@@ -22,29 +20,12 @@ use Rattle.grid.proofs.SideLaws.{area, in-place, in-grid, beside-at, beside-in,
 use Rattle.grid.proofs.AroundLaws.{gathered, gathered-next, gathered-same, gathered-all}
 use Rattle.grid.proofs.ListLaws.{place-in}
 use Rattle.grid.proofs.AppendLaws.{by-eq}
-use Rattle.grid.proofs.ArrayLaws.{Entry, hit, miss, entry-at}
+use Rattle.grid.proofs.ArrayLaws.{Entry, hit, miss, entry-at, fewer-set, how-many-le}
 use Rattle.groups.specs.Groups.{Joined}
 use Rattle.groups.specs.Arrays.{noGroup}
 use Rattle.groups.specs.Flood.{unlabelled, free, Marked, Only, Offered, skip, take, OfferedSide, beyond, within, Kept, same, new, Shut, Flooding, Right, none, out, some, Sofar, Spread, Ready}
 use Rattle.groups.proofs.GroupLaws.{linked-size}
 use Rattle.groups.proofs.LabelLaws.{Components}
-
--- a label is given: one entry fewer is free
-pub free-set : (L : List ℕ) (q s : ℕ) → getD L q 0 ≡ unlabelled → (s ≡ unlabelled → ⊥) → free (set L q s) + 1 ≡ free L
-unfolding free
-free-set [] q s e ne = absurd (omega (arith, e))
-free-set (x ∷ xs) zero s e ne = rw (ne-eqb s unlabelled ne, eq-eqb x unlabelled e) (omega arith)
-free-set (x ∷ xs) (suc q) s e ne = omega (arith, free-set xs q s e ne)
-
-one-le : (b : Bool) → cond b 1 0 ≤ 1
-one-le true = omega arith
-one-le false = omega arith
-
--- no more entries are free than there are
-pub free-le : (L : List ℕ) → free L ≤ length L
-unfolding free
-free-le [] = omega arith
-free-le (x ∷ xs) = omega (arith, free-le xs, one-le (eqb x unlabelled))
 
 -- a label that is there stays
 set-stays : (L : List ℕ) (q s : ℕ) → s < 1024 → getD L q 0 ≡ unlabelled → (k : ℕ) → (getD L k 0 ≡ unlabelled → ⊥) → getD (set L q s) k 0 ≡ unlabelled → ⊥
@@ -58,11 +39,11 @@ set-stays L q s small u k h = go (entry-at L q s k (place-in L q (omega arith)))
 module _ {q s : ℕ} {L st : List ℕ} {c : ℕ} {L′ st′ : List ℕ} {r : ℕ} (small : s < 1024) where
   offered-room : Offered q s L st c L′ st′ r → c + free L ≤ 1024 → r + free L′ ≤ 1024
   offered-room (skip no-go l t e) h = rw (l, e) h
-  offered-room (take u l t e) h = rw (l, e) (omega (arith, free-set L q s u (λ x. omega (arith, x))))
+  offered-room (take u l t e) h = rw (l, e) (omega (arith, fewer-set L q s u (λ x. omega (arith, x)) (omega arith)))
 
   offered-falls : Offered q s L st c L′ st′ r → 2 * free L′ + r ≤ 2 * free L + c
   offered-falls (skip no-go l t e) = rw (l, e) (omega arith)
-  offered-falls (take u l t e) = rw (l, e) (omega (arith, free-set L q s u (λ x. omega (arith, x))))
+  offered-falls (take u l t e) = rw (l, e) (omega (arith, fewer-set L q s u (λ x. omega (arith, x)) (omega arith)))
 
   offered-stays : Offered q s L st c L′ st′ r → (k : ℕ) → (getD L k 0 ≡ unlabelled → ⊥) → getD L′ k 0 ≡ unlabelled → ⊥
   offered-stays (skip no-go l t e) k h = rw l h
@@ -93,7 +74,7 @@ module _ {q s : ℕ} {L st : List ℕ} {c : ℕ} {L′ st′ : List ℕ} {r : �
       q-in = place-in L q (omega arith)
 
       c-in : c < length st
-      c-in = omega (arith, free-set L q s u apart, F .room, F .stack-long)
+      c-in = omega (arith, fewer-set L q s u apart (omega arith), F .room, F .stack-long)
 
       joined : Joined g p s q
       joined = linked (F .only q u .1)
@@ -125,7 +106,7 @@ module _ {q s : ℕ} {L st : List ℕ} {c : ℕ} {L′ st′ : List ℕ} {r : �
       moved = record {
         labels-long = length-set L q s ∙ F .labels-long;
         stack-long = length-set st c q ∙ F .stack-long;
-        room = omega (arith, free-set L q s u apart, F .room);
+        room = omega (arith, fewer-set L q s u apart (omega arith), F .room);
         only = λ j x. only′ j x (entry-at L q s j q-in);
         kept = λ j. kept′ j (F .kept j) (entry-at L q s j q-in);
         waiting = λ t h. waiting′ t h (entry-at st c q t c-in);
@@ -244,7 +225,7 @@ module _ {g : Grid} {p : ℕ → Bool} {s : ℕ} {L₀ : List ℕ} (fits : size 
   flood-starts st long = record {
     labels-long = S .labels-long;
     stack-long = long;
-    room = omega (arith, free-le L₀, S .labels-long);
+    room = omega (arith, how-many-le unlabelled L₀, S .labels-long);
     only = S .only;
     kept = λ j. same refl;
     waiting = λ t h. absurd (omega (arith, h));

@@ -4,9 +4,9 @@
 use Prim.Native.Nat.{ℕ, _+_, _-_, _*_, _≤_, _<_}
 use mathlib.Core.Path.{_≡_}
 use mathlib.Core.Bool.{Bool, So, cond}
-use mathlib.Core.List.{List, [], _∷_}
-use lib.Dec.{eqb}
+use mathlib.Core.List.{List}
 use lib.ListN.{length, getD, set}
+use Rattle.grid.specs.Lists.{howMany}
 use Rattle.grid.specs.Grid.{Adjacent, Grid, size}
 use Rattle.grid.specs.declared.Side.{Side}
 use Rattle.grid.specs.declared.Side.the-variants.{At, Off}
@@ -18,9 +18,8 @@ abbrev pub unlabelled : ℕ
 unlabelled = 1025
 
 -- how many entries have no label yet
-unfoldable pub free : List ℕ → ℕ
-free [] = 0
-free (x ∷ xs) = cond (eqb x unlabelled) 1 0 + free xs
+abbrev pub free : List ℕ → ℕ
+free = howMany unlabelled
 
 -- the cell q can be offered: the stack has room for it
 pub record Offerable (q s : ℕ) (L : List ℕ) (c : ℕ) : Type 0 where

@@ -14,11 +14,10 @@ use Rattle.grid.specs.Link.{here, step}
 use Rattle.grid.proofs.LinkLaws.{linked-end, linked-start, linked-trans, linked-sym, linked-map}
 use Rattle.grid.proofs.GridLaws.{adj-sym}
 use Rattle.grid.proofs.ListLaws.{split, place-in}
-use Rattle.grid.proofs.ArrayLaws.{Entry, hit, miss, entry-at}
+use Rattle.grid.proofs.ArrayLaws.{Entry, hit, miss, entry-at, fewer-set}
 use Rattle.grid.proofs.AppendLaws.{by-eq}
 use Rattle.groups.specs.Groups.{Joined, labels}
 use Rattle.groups.proofs.GroupLaws.{label-own, label-least}
-use Rattle.groups.proofs.FloodLaws.{free-set}
 use Rattle.kinds.specs.Inside.{unnamed, OnlyUnnamed, Kept, same, named, Grown, Walked, Right, none, some, Sofar}
 
 -- only cells that pass have no name, also after one has got a name
@@ -96,7 +95,7 @@ module _ {g : Grid} {p : ℕ → Bool} {s : ℕ} (small : s < 1024) where
   turn-all {i} {L} {L′} o u Q = record {
     grown = record {
       long = G .long ∙ length-set L i s;
-      fewer = omega (arith, G .fewer, free-set L i s u (λ e. omega (arith, e)));
+      fewer = omega (arith, G .fewer, fewer-set L i s u (λ e. omega (arith, e)) (omega arith));
       kept = λ j. kept′ j (entry-at L i s j (place-in L i (omega arith))) (G .kept j);
       done = λ j v x. by-eq j i (λ q. rw q (λ k e. Q .past k (e .1))) (λ ne. G .done j (getD-set-other L i j s 0 ne ∙ v) x);
     };

@@ -15,38 +15,23 @@ use Rattle.grid.specs.Lists.{any, filter, Distinct}
 use Rattle.grid.specs.Grid.{Grid, size, neighbours}
 use Rattle.grid.proofs.ListLaws.{split, so-false, at-mem}
 use Rattle.grid.proofs.AppendLaws.{filter-more}
+use Rattle.grid.proofs.ArrayLaws.{fewer-set, how-many-le}
 use Rattle.grid.specs.Cells.{square}
 use Rattle.paths.specs.Paths.{Entry}
 use Rattle.paths.specs.Search.{seen, appended, parentMark, unlisted, Listing, wanted, Offered, Room}
 
 -- ---- room
 
--- a cell is listed: one entry fewer is free
-unlisted-set : (l : List ℕ) (j p : ℕ) → getD l j 0 ≡ 1024 → p < 1024 → unlisted (set l j p) + 1 ≡ unlisted l
-unfolding unlisted
-unlisted-set [] j p e h = absurd (omega (arith, e))
-unlisted-set (x ∷ xs) zero p e h = rw (ne-eqb p 1024 (λ z. omega (arith, z)), eq-eqb x 1024 e) (omega arith)
-unlisted-set (x ∷ xs) (suc j) p e h = omega (arith, unlisted-set xs j p e h)
-
-unlisted-le : (l : List ℕ) → unlisted l ≤ length l
-unfolding unlisted
-unlisted-le [] = omega arith
-unlisted-le (x ∷ xs) = go (eqb x 1024) (unlisted-le xs)
-  where
-    go : (b : Bool) → unlisted xs ≤ length xs → cond b 1 0 + unlisted xs ≤ suc (length xs)
-    go true h = omega arith
-    go false h = omega arith
-
 -- where a cell is wanted there is a place for it
 pub room-left : (from : List ℕ) (j : ℕ) → getD from j 0 ≡ 1024 → 0 < unlisted from
-room-left from j e = omega (arith, unlisted-set from j 0 e (omega arith))
+room-left from j e = omega (arith, fewer-set from j 0 e (λ z. omega (arith, z)) (omega arith))
 
 -- the first cell is listed
 pub room-first : (order from : List ℕ) (b : ℕ) → length order ≡ 1024 → length from ≡ 1024 → b < 1024 → getD from b 0 ≡ 1024 → Room (set order 0 b) (set from b b) 1
 room-first order from b h k l e = record {
   order-long = length-set order 0 b ∙ h;
   from-long = length-set from b b ∙ k;
-  room = omega (arith, unlisted-set from b b e l, unlisted-le from);
+  room = omega (arith, fewer-set from b b e (λ z. omega (arith, z)) (omega arith), how-many-le 1024 from);
 }
 
 -- ---- one cell is offered
@@ -82,7 +67,7 @@ module _ {cells from order : List ℕ} {count j p : ℕ} {from′ order′ : Lis
       go (inl t) = rw (o .number, o .parents, o .listed, t) (record {
         order-long = length-set order count j ∙ m .order-long;
         from-long = length-set from j p ∙ m .from-long;
-        room = omega (arith, m .room, unlisted-set from j p (free t) h);
+        room = omega (arith, m .room, fewer-set from j p (free t) (λ z. omega (arith, z)) (omega arith));
       })
         where
           free : wanted cells from j ≡ true → getD from j 0 ≡ 1024

@@ -6,7 +6,7 @@ use mathlib.Core.Bool.{Bool, cond, _&&_, not}
 use mathlib.Core.List.{List, [], _∷_, _++_, map, List·Memᴰ}
 use lib.Dec.{eqb}
 use lib.ListN.{length, getD, take, set}
-use Rattle.grid.specs.Lists.{any, filter}
+use Rattle.grid.specs.Lists.{any, filter, howMany}
 use Rattle.grid.specs.Grid.{Grid, size, neighbours}
 use Rattle.grid.specs.Side.{sized}
 use Rattle.grid.specs.Cells.{square}
@@ -27,9 +27,8 @@ parentMark [] i = 1024
 parentMark (c ∷ cs) i = cond (eqb (c .0) i) (c .1) (parentMark cs i)
 
 -- how many entries are 1024, the mark of a cell that is not listed
-unfoldable pub unlisted : List ℕ → ℕ
-unlisted [] = 0
-unlisted (x ∷ xs) = cond (eqb x 1024) 1 0 + unlisted xs
+abbrev pub unlisted : List ℕ → ℕ
+unlisted = howMany 1024
 
 -- the arrays hold the breadth-first list cs of a grid of n cells: `order` its cells, `from` at each cell its parent
 pub record Listing (n : ℕ) (order from : List ℕ) (count : ℕ) (cs : List Entry) : Type 0 where

@@ -10,9 +10,10 @@ use Rattle.grid.specs.Grid.{Grid, size}
 use Rattle.grid.specs.Link.{here}
 use Rattle.grid.specs.Side.{sized}
 use Rattle.grid.proofs.SideLaws.{area}
+use Rattle.grid.proofs.ArrayLaws.{how-many-le}
 use Rattle.groups.specs.Flood.{unlabelled, free, Flooding}
 use Rattle.groups.proofs.GroupLaws.{linked-size}
-use Rattle.groups.proofs.FloodLaws.{offered-keeps, offered-labelled, flood-starts, flooding-ends, free-le}
+use Rattle.groups.proofs.FloodLaws.{offered-keeps, offered-labelled, flood-starts, flooding-ends}
 use Rattle.groups.proofs.flood.Statement.{statement}
 use Rattle.groups.proofs.flood.Tie as tie
 
@@ -36,7 +37,7 @@ offer-requires c κs =
     let e = c .before .before in
     let i = e .pre .0 in
     let small : e .args .s < 1024 = omega (arith, i .within, area (e .args .h) (e .args .w) (i .tall) (i .wide)) in
-    record { cell = small; seed = small; room = omega (arith, free-le (e .args .labels .now), e .pre .1 .0 .1 .labels-long) }
+    record { cell = small; seed = small; room = omega (arith, how-many-le unlabelled (e .args .labels .now), e .pre .1 .0 .1 .labels-long) }
 
 loop-holds : tie.Need-loop-holds Inv-loop μ-loop
 loop-holds c = record { keeps = λ p L₀ F. F; stays = λ h. h }

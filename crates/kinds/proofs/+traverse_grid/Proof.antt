@@ -9,7 +9,7 @@ use mathlib.Core.Bool.{Bool, true, So}
 use Prim.Native.Nat.{_≤_, _-_, ℕ, _<_}
 use Rattle.grid.specs.Side.{sized}
 use Rattle.groups.specs.Flood.{free}
-use Rattle.groups.proofs.FloodLaws.{free-set}
+use Rattle.grid.proofs.ArrayLaws.{fewer-set}
 use Rattle.kinds.specs.Inside.{OnlyUnnamed}
 use Rattle.kinds.proofs.Traversal.{Turn, only-set, grown-only, walked-not, turn-none, turn-more, turn-all}
 use Rattle.grid.proofs.SideLaws.{in-place, cell-small, some-wide}
@@ -88,7 +88,7 @@ traverse-grid-traverse-grid-requires t c κs =
     let d = c .before .before .before .before in
     let l = d .before .before in
     let s = l .before .before .before in
-    let fall = free-set (s .args .owners .now) (s .args .i) (s .args .name) (l .before .if1 .left) (λ e. omega (arith, e, s .pre .1 .small)) in (
+    let fall = fewer-set (s .args .owners .now) (s .args .i) (s .args .name) (l .before .if1 .left) (λ e. omega (arith, e, s .pre .1 .small)) (omega arith) in (
       omega (arith, fall, s .pre .0, l .loop .inv .1 (λ _. true) refl (λ _ _. refl) .grown .fewer),
       record { cell = side-cell (s .pre .1 .cell) (l .loop .k) (d .toward .result) (d .toward .ensures) _ (c .before .before .side .given .1); small = s .pre .1 .small },
     )
