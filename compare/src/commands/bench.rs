@@ -5,7 +5,7 @@ use super::parts::{self, Known};
 use crate::generate::boards::{usual_board, Decided};
 use crate::generate::puzzles::square;
 use crate::host::{HostCall, HOST_CALL, MISSING};
-use crate::original::{problem, Access, Original, Problem};
+use crate::original::{problem, Access, Problem};
 use crate::processor::{processor_time, Whose};
 use crate::progress::Outcome;
 use crate::quota::boards_of_each_kind;
@@ -25,8 +25,6 @@ const BOARDS: [usize; 6] = [30, 6, 6, 6, 6, 6];
 /// A board in the forms that the measured calls take.
 struct Prepared {
     problem: Problem,
-    /// The original's constraint with all decisions notified.
-    notified: Access,
     decisions: Vec<Literal>,
     record: Vec<u8>,
     decision_bytes: Vec<u8>,
@@ -45,8 +43,7 @@ pub fn run(seed: u64, rounds: usize) -> Outcome {
     );
     println!("original: building the constraint, notify of all decisions, find_inconsistency");
     println!("host: the whole host call; ratio: host / original");
-    println!("find: find_inconsistency alone, of a constraint that was notified before; ratio: host / find");
-    println!("    size  original      host     ratio      find     ratio");
+    println!("    size  original      host     ratio");
     let _above_the_room = room_in_the_heap();
     let mut boards_by_side = Vec::new();
     for side in SIDES {
@@ -80,7 +77,6 @@ fn prepared((board, _): &Known) -> Prepared {
     let Decided { puzzle, decisions } = board;
     Prepared {
         problem: problem(puzzle),
-        notified: Original::after(puzzle, decisions).access,
         record: encode(puzzle),
         decision_bytes: literal_bytes(decisions),
         output: vec![0; 2 * most_literals(puzzle.size)],
@@ -90,28 +86,23 @@ fn prepared((board, _): &Known) -> Prepared {
 
 /// A line of the table. The calls take turns, so that they meet the same load of the machine.
 fn row(side: usize, boards: &mut [Prepared], rounds: usize) -> String {
-    let mut best = [Duration::MAX; 3];
+    let mut best = [Duration::MAX; 2];
     for _ in 0..rounds {
         let times = [
             time_original(boards),
             HOST_CALL.map_or(Duration::MAX, |host_call| time_host(boards, host_call)),
-            time_find(boards),
         ];
         for (best, time) in best.iter_mut().zip(times) {
             *best = (*best).min(time);
         }
     }
     let microseconds = |time: Duration| time.as_secs_f64() * 1e6;
-    let [original, host, find] = best.map(microseconds);
+    let [original, host] = best.map(microseconds);
     let size = format!("{side} x {side}");
     let measured = format!("{size:>8}{original:>10.2}");
     match HOST_CALL {
-        None => format!("{measured}{:>10}{:>10}{find:>10.2}{:>10}", "-", "-", "-"),
-        Some(_) => format!(
-            "{measured}{host:>10.2}{:>10.2}{find:>10.2}{:>10.2}",
-            host / original,
-            host / find
-        ),
+        None => format!("{measured}{:>10}{:>10}", "-", "-"),
+        Some(_) => format!("{measured}{host:>10.2}{:>10.2}", host / original),
     }
 }
 
@@ -131,12 +122,6 @@ fn time_original(boards: &mut [Prepared]) -> Duration {
             access.notify(index, value == 1);
         }
         black_box(access.find_inconsistency());
-    })
-}
-
-fn time_find(boards: &mut [Prepared]) -> Duration {
-    per_call(boards, |board| {
-        black_box(board.notified.find_inconsistency());
     })
 }
 
