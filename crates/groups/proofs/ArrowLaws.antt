@@ -9,9 +9,9 @@ use mathlib.Core.List.{List, [], _∷_, _++_, append-assoc, append-nil, List·Me
 use lib.ListN.{length, getD, take, drop, length-append, length-take, length-drop, List·getD-append}
 use lib.Seq.{getD-append-seam, getD-append-add, split-at, getD-take, getD-drop}
 use Rattle.grid.specs.Lists.{member, init, tail}
-use Rattle.grid.proofs.ListLaws.{so-false, any-mem, mem-any, member-mem, mem-member, mem-at, at-mem, length-init, length-tail, getD-init, getD-tail}
+use Rattle.grid.proofs.ListLaws.{dec-so, so-false, any-mem, mem-any, member-mem, mem-member, mem-at, at-mem, length-init, length-tail, getD-init, getD-tail}
 use Rattle.grid.specs.Cells.{square}
-use Rattle.groups.specs.Arrows.{OnArrow, onArrow, Pair, pairsFrom, pairs, Parted}
+use Rattle.groups.specs.Arrows.{OnArrow, onArrow, Pair, pairsFrom, pairs, Parted, posLast, posCur}
 
 -- the test finds the arrow cells, and no others
 pub arrow-so : (arrows : List (List ℕ)) (i : ℕ) → So (onArrow arrows i) → OnArrow arrows i
@@ -21,6 +21,13 @@ arrow-so arrows i h = let r = any-mem (member i) arrows h in (r .0, r .1, member
 pub so-arrow : (arrows : List (List ℕ)) (i : ℕ) → OnArrow arrows i → So (onArrow arrows i)
 unfolding onArrow
 so-arrow arrows i (a, m, n) = mem-any (member i) arrows m (mem-member i a n)
+
+pub dec-arrow : (arrows : List (List ℕ)) (i : ℕ) → Dec (OnArrow arrows i)
+dec-arrow arrows i = go (dec-so (onArrow arrows i))
+  where
+    go : Dec (So (onArrow arrows i)) → Dec (OnArrow arrows i)
+    go (yes a) = yes (arrow-so arrows i a)
+    go (no n) = no (λ a. n (so-arrow arrows i a))
 
 module _ (cells a : List ℕ) where
   -- no square is in the list
@@ -104,56 +111,48 @@ abbrev pub NextAt : (ℕ → Type 0) → (ℕ → ℕ) → ℕ → ℕ → Type 
 NextAt S at i j = (i < j) × S (at i) × S (at j) × ((k : ℕ) → i < k → k < j → ¬ S (at k))
 
 module _ (cells arrow : List ℕ) (p : Pair) (q : Parted cells arrow p) where
-  -- the position of the first of the pair
-  abbrev pub posLast : ℕ
-  posLast = length (q .before)
-
-  -- the position of the second of the pair
-  abbrev pub posCur : ℕ
-  posCur = suc (length (q .before) + length (p .between))
-
   -- the cell at a position
   abbrev at : ℕ → ℕ
   at k = getD arrow k 0
 
   -- the cells at the two positions, and between them
-  pub at-last : at posLast ≡ p .last
-  at-last = ap (λ z. getD z posLast 0) (q .whole) ∙ getD-append-seam (q .before) (p .last) _ 0
+  pub at-last : at (posLast q) ≡ p .last
+  at-last = ap (λ z. getD z (posLast q) 0) (q .whole) ∙ getD-append-seam (q .before) (p .last) _ 0
 
-  behind : (k : ℕ) → at (suc (posLast + k)) ≡ getD (p .between ++ (p .cur ∷ q .behind)) k 0
+  behind : (k : ℕ) → at (suc (posLast q + k)) ≡ getD (p .between ++ (p .cur ∷ q .behind)) k 0
   behind k =
-      let e : suc (posLast + k) ≡ posLast + suc k = omega arith in
-      ap (λ z. getD z (suc (posLast + k)) 0) (q .whole) ∙ ap (λ z. getD (q .before ++ (p .last ∷ (p .between ++ (p .cur ∷ q .behind)))) z 0) e ∙ getD-append-add (q .before) _ (suc k) 0
+      let e : suc (posLast q + k) ≡ posLast q + suc k = omega arith in
+      ap (λ z. getD z (suc (posLast q + k)) 0) (q .whole) ∙ ap (λ z. getD (q .before ++ (p .last ∷ (p .between ++ (p .cur ∷ q .behind)))) z 0) e ∙ getD-append-add (q .before) _ (suc k) 0
 
-  pub at-cur : at posCur ≡ p .cur
+  pub at-cur : at (posCur q) ≡ p .cur
   at-cur = behind (length (p .between)) ∙ getD-append-seam (p .between) (p .cur) (q .behind) 0
 
-  pub at-between : (k : ℕ) → k < length (p .between) → at (suc (posLast + k)) ≡ getD (p .between) k 0
+  pub at-between : (k : ℕ) → k < length (p .between) → at (suc (posLast q + k)) ≡ getD (p .between) k 0
   at-between k h = behind k ∙ List·getD-append (p .between) _ 0 k h
 
   -- the positions lie on the arrow
-  pub pos-below : posCur < length arrow
+  pub pos-below : posCur q < length arrow
   pos-below = omega (arith, ap length (q .whole), length-append (q .before) (p .last ∷ (p .between ++ (p .cur ∷ q .behind))), length-append (p .between) (p .cur ∷ q .behind))
 
   -- the pair by its positions
-  pub position : NextAt (λ c. So (square cells c)) at posLast posCur
+  pub position : NextAt (λ c. So (square cells c)) at (posLast q) (posCur q)
   position = (omega arith, subst (λ c. So (square cells c)) (sym at-last) (q .first), subst (λ c. So (square cells c)) (sym at-cur) (q .second), none)
     where
-      none : (k : ℕ) → posLast < k → k < posCur → ¬ So (square cells (at k))
+      none : (k : ℕ) → posLast q < k → k < posCur q → ¬ So (square cells (at k))
       none k a b s =
-          let m : ℕ = k - suc posLast in
-          let e : k ≡ suc (posLast + m) = omega arith in
+          let m : ℕ = k - suc (posLast q) in
+          let e : k ≡ suc (posLast q + m) = omega arith in
           let l : m < length (p .between) = omega arith in
           false≢true (sym (q .none (getD (p .between) m 0) (at-mem (p .between) m l)) ∙ subst (λ c. So (square cells c)) (ap at e ∙ at-between m l) s)
 
   -- the gap by positions
-  pub length-gap : length (tail (init (p .between))) ≡ posCur - (posLast + 3)
+  pub length-gap : length (tail (init (p .between))) ≡ posCur q - (posLast q + 3)
   length-gap = omega (arith, length-tail (init (p .between)), length-init (p .between))
 
-  pub at-gap : (k : ℕ) → k < length (tail (init (p .between))) → at (posLast + 2 + k) ≡ getD (tail (init (p .between))) k 0
+  pub at-gap : (k : ℕ) → k < length (tail (init (p .between))) → at (posLast q + 2 + k) ≡ getD (tail (init (p .between))) k 0
   at-gap k h =
       let l : suc k < length (p .between) - 1 = omega (arith, h, length-tail (init (p .between)), length-init (p .between)) in
-      let e : posLast + 2 + k ≡ suc (posLast + suc k) = omega arith in
+      let e : posLast q + 2 + k ≡ suc (posLast q + suc k) = omega arith in
       ap at e ∙ at-between (suc k) (omega arith) ∙ sym (getD-tail (init (p .between)) k ∙ getD-init (p .between) (suc k) l)
 
 -- an arrow, taken apart at a pair of positions

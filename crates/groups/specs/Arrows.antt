@@ -1,9 +1,10 @@
 -- Arrow cells, and the pairs of squares of an arrow with none between them.
 -- Assumes nothing.
-use Prim.Native.Nat.{ℕ}
+use Prim.Native.Nat.{ℕ, suc, _+_}
 use mathlib.Core.Path.{_≡_}
 use mathlib.Core.Bool.{Bool, true, false, cond}
 use mathlib.Core.List.{List, [], _∷_, _++_, List·Memᴰ}
+use lib.ListN.{length}
 use Rattle.grid.specs.Lists.{any, member}
 use Rattle.grid.specs.Cells.{square}
 
@@ -43,3 +44,12 @@ pub record Parted (cells a : List ℕ) (p : Pair) : Type 0 where
   pub first : square cells (p .last) ≡ true
   pub second : square cells (p .cur) ≡ true
   pub none : (k : ℕ) → List·Memᴰ k (p .between) → square cells k ≡ false
+
+module _ {cells a : List ℕ} {p : Pair} (q : Parted cells a p) where
+  -- the position on the arrow of the first of the pair
+  abbrev pub posLast : ℕ
+  posLast = length (q .before)
+
+  -- the position of the second
+  abbrev pub posCur : ℕ
+  posCur = suc (posLast + length (p .between))

@@ -18,7 +18,8 @@ use Rattle.grid.proofs.LinkLaws.{linked-end, linked-start, linked-trans}
 use Rattle.grid.proofs.CellLaws.{un-not-em, sq-not-un, sq-not-em, un-below, sq-below, cell-cases}
 use Rattle.grid.specs.Cells.{empty, square, undecided}
 use Rattle.groups.specs.Groups.{labels, Labels}
-use Rattle.groups.specs.Arrows.{onArrow}
+use Rattle.groups.specs.Arrows.{OnArrow}
+use Rattle.groups.proofs.ArrowLaws.{arrow-so, so-arrow, dec-arrow}
 use Rattle.groups.proofs.GroupLaws.{labelled}
 use Rattle.kinds.specs.Kinds.{Kind, vacant, floating, inBlock, isFloating, isIn, isNeighbour, kindTouching, arrowBlock, blocksTouched, kindAt, kindsOf, has}
 use Rattle.kinds.specs.Meaning.{Setting, partialOf, Block, InArrow, Touch, Neighbour, Floating, Reach}
@@ -135,25 +136,25 @@ module _ (set : Setting) where
 
   -- blocks, touching and the like are decided
   pub decisions : Decide (partialOf set)
-  decisions = all-decided (partialOf set) (size grid) (dec-adjacent grid) (λ c. dec-so (onArrow arrows c)) (λ c. dec-so (square cells c)) (λ c. dec-so (undecided cells c)) sq< un< (adj-sym grid)
+  decisions = all-decided (partialOf set) (size grid) (dec-adjacent grid) (dec-arrow arrows) (λ c. dec-so (square cells c)) (λ c. dec-so (undecided cells c)) sq< un< (adj-sym grid)
       (λ c. cell-cases cells c (valid .three c))
 
   -- the reach is decided
   pub dec-reach : (a c : ℕ) → Dec (Reach (partialOf set) a c)
-  dec-reach = reach-decided (partialOf set) (size grid) (dec-adjacent grid) (λ c. dec-so (onArrow arrows c)) (λ c. dec-so (square cells c)) (λ c. dec-so (undecided cells c)) sq< un<
+  dec-reach = reach-decided (partialOf set) (size grid) (dec-adjacent grid) (dec-arrow arrows) (λ c. dec-so (square cells c)) (λ c. dec-so (undecided cells c)) sq< un<
 
   -- a name is an arrow block's
-  arrowed-so : (f : ℕ) → So (arrowed f) → (d : ℕ) × So (square cells d) × So (onArrow arrows d) × (blockName d ≡ f)
+  arrowed-so : (f : ℕ) → So (arrowed f) → (d : ℕ) × So (square cells d) × OnArrow arrows d × (blockName d ≡ f)
   unfolding arrowBlock
   arrowed-so f h =
       let r = any-mem _ (cellsOf grid) h in
       let q = and-true (square cells (r .0) && eqb (blockName (r .0)) f) _ (r .2) in
       let q′ = and-true (square cells (r .0)) _ (q .0) in
-      (r .0, q′ .0, q .1, eqb-true _ _ (q′ .1))
+      (r .0, q′ .0, arrow-so arrows (r .0) (q .1), eqb-true _ _ (q′ .1))
 
-  so-arrowed : (f d : ℕ) → So (square cells d) → So (onArrow arrows d) → blockName d ≡ f → So (arrowed f)
+  so-arrowed : (f d : ℕ) → So (square cells d) → OnArrow arrows d → blockName d ≡ f → So (arrowed f)
   unfolding arrowBlock cellsOf
-  so-arrowed f d s a e = mem-any _ (cellsOf grid) (mem-upto (size grid) (sq< d s)) (true-and (true-and s (eq-eqb _ _ e)) a)
+  so-arrowed f d s a e = mem-any _ (cellsOf grid) (mem-upto (size grid) (sq< d s)) (true-and (true-and s (eq-eqb _ _ e)) (so-arrow arrows d a))
 
   -- a square's block has an arrow cell
   pub arrowed-in : (c : ℕ) → So (square cells c) → So (arrowed (blockName c)) → InArrow (partialOf set) c
@@ -170,7 +171,7 @@ module _ (set : Setting) where
       (arrowed-in i (q .0) (q .1), q .2)
 
   -- the blocks around an undecided cell
-  pub around-so : (i f : ℕ) → i < size grid → List·Memᴰ f (around i) → (d : ℕ) × So (onArrow arrows d) × Touch (partialOf set) d i × (blockName d ≡ f) × So (square cells d)
+  pub around-so : (i f : ℕ) → i < size grid → List·Memᴰ f (around i) → (d : ℕ) × OnArrow arrows d × Touch (partialOf set) d i × (blockName d ≡ f) × So (square cells d)
   around-so i f l m =
       let r = Memᴰ·of-map blockName _ m in
       let q = filter-mem (λ j. square cells j && arrowed (blockName j)) (neighbours grid i) (r .1) in
@@ -178,7 +179,7 @@ module _ (set : Setting) where
       let w = arrowed-so (blockName (r .0)) (q′ .1) in
       (w .0, w .2, (r .0, (l, q .0), block-labels .same (w .0) (r .0) (w .1) (q′ .0) (w .3)), w .3 ∙ r .2, w .1)
 
-  pub so-around : (i d : ℕ) → So (onArrow arrows d) → Touch (partialOf set) d i → List·Memᴰ (blockName d) (around i)
+  pub so-around : (i d : ℕ) → OnArrow arrows d → Touch (partialOf set) d i → List·Memᴰ (blockName d) (around i)
   so-around i d a (y, e, l) = subst (λ x. List·Memᴰ x (around i)) (sym (block-labels .linked d y l))
       (Memᴰ·map blockName (mem-filter (λ j. square cells j && arrowed (blockName j)) (neighbours grid i) (e .1) (true-and (linked-end l) (in-arrowed y (d, a, l)))))
 
@@ -190,7 +191,7 @@ module _ (set : Setting) where
       let q = in-of (empty cells i) (square cells i) (arrowed (blockName i)) (blockName i) (listed i) (blockName a) (r .1) in
       block-labels .same a i sa (q .0) (sym (q .2))
 
-  pub blk-in : (a i : ℕ) → So (onArrow arrows a) → Block (partialOf set) a i → So (has (isIn (blockName a)) kinds i)
+  pub blk-in : (a i : ℕ) → OnArrow arrows a → Block (partialOf set) a i → So (has (isIn (blockName a)) kinds i)
   unfolding kindAt isIn
   blk-in a i ar l = so-has (isIn (blockName a)) i (sq< i (linked-end l))
       (rw (so-false (empty cells i) (sq-not-em cells i (linked-end l)), linked-end l, in-arrowed i (a, ar, l)) (eq-eqb _ _ (sym (block-labels .linked a i l))))
@@ -233,7 +234,7 @@ module _ (set : Setting) where
       near : (d : ℕ) → Touch (partialOf set) d i → Block (partialOf set) a d → Touch (partialOf set) a i
       near d (y, e, l) k = (y, e, linked-trans k l)
 
-  pub nbr-beside : (a i : ℕ) → So (onArrow arrows a) → Neighbour (partialOf set) a i → So (has (isNeighbour (blockName a)) kinds i)
+  pub nbr-beside : (a i : ℕ) → OnArrow arrows a → Neighbour (partialOf set) a i → So (has (isNeighbour (blockName a)) kinds i)
   unfolding kindAt isNeighbour blocksTouched kindTouching
   nbr-beside a i ar (u, t, nf) = so-has (isNeighbour (blockName a)) i (un< i u)
       (rw (un-em-false i u, un-sq-false i u, once-one (around i) (blockName a) (so-around i a ar t) all-a) (eq-eqb (blockName a) (blockName a) refl))
@@ -241,7 +242,7 @@ module _ (set : Setting) where
       all-a : (x : ℕ) → List·Memᴰ x (around i) → x ≡ blockName a
       all-a x m = let w = around-so i x (un< i u) m in go (w .0) (w .1) (w .2) (w .3) (decisions .blk a (w .0))
         where
-          go : (d : ℕ) → So (onArrow arrows d) → Touch (partialOf set) d i → blockName d ≡ x → Dec (Block (partialOf set) a d) → x ≡ blockName a
+          go : (d : ℕ) → OnArrow arrows d → Touch (partialOf set) d i → blockName d ≡ x → Dec (Block (partialOf set) a d) → x ≡ blockName a
           go d ad t e (yes b) = sym e ∙ sym (block-labels .linked a d b)
           go d ad t e (no b) = absurd (nf (d, ad, b, t))
 

@@ -19,7 +19,7 @@ use Rattle.grid.proofs.Count.{length-filter}
 use Rattle.grid.specs.Cells.{Agrees, empty, square, undecided}
 use Rattle.grid.proofs.CellLaws.{sq-not-em}
 use Rattle.groups.specs.Groups.{labels}
-use Rattle.groups.specs.Arrows.{onArrow}
+use Rattle.groups.specs.Arrows.{OnArrow}
 use Rattle.kinds.proofs.Bridge.{block-labels, float-labels, decisions, sq<, un<, blockName, kinds, kind, in-blk, blk-in, beside-nbr, nbr-beside, floating-so, so-floating, in-arrowed}
 use Rattle.kinds.proofs.BlockArrays.{kind-get}
 use Rattle.kinds.specs.Kinds.{Kind, vacant, inBlock, isFloating, isIn, isNeighbour, kindAt, has, View, view, viewWith, block, floatNear, inReach, reach, disturbing, fenceAt, fence}
@@ -73,7 +73,7 @@ module _ (set : Setting) where
           let nb = beside-nbr set a (r .0) sa (s .0) in
           inr (inr (r .0, t .0, nb, (un< set (r .0) (nb .0), t .1), float (t .0) i (float-labels set .same (t .0) i (u .0) (q .0) (eqb-true _ _ (u .1)))))
 
-  pub so-reach : (a i : ℕ) → So (onArrow arrows a) → Reach B a i → So (inReach v (blockName set a) i)
+  pub so-reach : (a i : ℕ) → OnArrow arrows a → Reach B a i → So (inReach v (blockName set a) i)
   unfolding inReach view viewWith floatNear cellsOf
   so-reach a i ar (inl b) = so-orl _ (so-orl _ (blk-in set a i ar b))
   so-reach a i ar (inr (inl m)) = so-orl _ (so-orr (has (isIn (blockName set a)) ks i) (nbr-beside set a i ar m))
@@ -94,7 +94,7 @@ module _ (set : Setting) where
       go (inr u) = un< set i (u .0)
 
   -- the list of the reach
-  pub in-reach : (a i : ℕ) → So (onArrow arrows a) → Reach B a i → List·Memᴰ i (reach v (blockName set a))
+  pub in-reach : (a i : ℕ) → OnArrow arrows a → Reach B a i → List·Memᴰ i (reach v (blockName set a))
   unfolding reach cellsOf view viewWith
   in-reach a i ar r = mem-filter (inReach v (blockName set a)) (cellsOf grid) (mem-upto (size grid) (reach< a i r)) (so-reach a i ar r)
 
@@ -103,7 +103,7 @@ module _ (set : Setting) where
   reach-in a i sa m = reach-so a i sa (filter-mem (inReach v (blockName set a)) (cellsOf grid) m .1)
 
   -- the list of the block
-  pub in-block : (a i : ℕ) → So (onArrow arrows a) → Block B a i → List·Memᴰ i (block v (blockName set a))
+  pub in-block : (a i : ℕ) → OnArrow arrows a → Block B a i → List·Memᴰ i (block v (blockName set a))
   unfolding block cellsOf view viewWith
   in-block a i ar b = mem-filter (has (isIn (blockName set a)) ks) (cellsOf grid) (mem-upto (size grid) (sq< set i (linked-end b))) (blk-in set a i ar b)
 
@@ -112,11 +112,11 @@ module _ (set : Setting) where
   block-in a i sa m = in-blk set a i sa (filter-mem (has (isIn (blockName set a)) ks) (cellsOf grid) m .1)
 
   -- their lengths are counts
-  pub length-reach : (a : ℕ) → So (onArrow arrows a) → So (square cells a) → (dR : (c : ℕ) → Dec (Reach B a c)) → length (reach v (blockName set a)) ≡ count dR (size grid)
+  pub length-reach : (a : ℕ) → OnArrow arrows a → So (square cells a) → (dR : (c : ℕ) → Dec (Reach B a c)) → length (reach v (blockName set a)) ≡ count dR (size grid)
   unfolding reach cellsOf view viewWith
   length-reach a ar sa dR = length-filter (inReach v (blockName set a)) (size grid) dR (λ i _. reach-so a i sa) (λ i _. so-reach a i ar)
 
-  pub length-block : (a : ℕ) → So (onArrow arrows a) → So (square cells a) → length (block v (blockName set a)) ≡ count (decisions set .blk a) (size grid)
+  pub length-block : (a : ℕ) → OnArrow arrows a → So (square cells a) → length (block v (blockName set a)) ≡ count (decisions set .blk a) (size grid)
   unfolding block cellsOf view viewWith
   length-block a ar sa = length-filter (has (isIn (blockName set a)) ks) (size grid) (decisions set .blk a) (λ i _. in-blk set a i sa) (λ i _. blk-in set a i ar)
 
@@ -130,7 +130,7 @@ module _ (set : Setting) where
   kind-in i w = rw (so-false (empty cells i) (sq-not-em cells i (linked-end (w .2))), linked-end (w .2), in-arrowed set i w)
 
   -- a board that agrees with the fence
-  pub fenced : (full : List ℕ) (a : ℕ) → So (onArrow arrows a) → So (square cells a) → Agrees full (fence v (blockName set a)) → Fenced B (λ c. So (square full c)) a
+  pub fenced : (full : List ℕ) (a : ℕ) → OnArrow arrows a → So (square cells a) → Agrees full (fence v (blockName set a)) → Fenced B (λ c. So (square full c)) a
   unfolding fence fenceAt view viewWith cellsOf disturbing square
   fenced full a ar sa ag = record {
     out = λ r e rr ad z. out r e rr ad z (kind-get puzzle cells (labels grid (square cells)) e (adj-sym grid r e ad .0) ∙ kind-empty e z);
@@ -149,7 +149,7 @@ module _ (set : Setting) where
           (rw (adjacent-touches grid R e r (adj-sym grid r e ad) (in-reach a r ar rr)) (List·Memᴰ·head refl))) in
           λ s. omega (arith, eqb-true)
 
-      far : (r u d x : ℕ) → Reach B a r → Adjacent grid r u → So (undecided cells u) → So (onArrow arrows d) → ¬ Block B a d → Touch B d u → Block B d x → getD ks x vacant ≡ inBlock (blockName set x) → So (square full x)
+      far : (r u d x : ℕ) → Reach B a r → Adjacent grid r u → So (undecided cells u) → OnArrow arrows d → ¬ Block B a d → Touch B d u → Block B d x → getD ks x vacant ≡ inBlock (blockName set x) → So (square full x)
       far r u d x rr ru uu dd nb (y, uy, dy) dx k =
           let dn : blockName set d ≡ blockName set x = block-labels set .linked d x dx in
           let diff : So (not (eqb (blockName set x) (blockName set a))) = so-not _ (λ h. nb (block-labels set .same a d sa (linked-start dx) (sym (eqb-true _ _ h) ∙ sym dn))) in

@@ -18,7 +18,7 @@ use Rattle.grid.proofs.GridLaws.{adj-sym, adjacent-touches, touches-adjacent, i
 use Rattle.grid.proofs.RisingLaws.{Rising, nil, cons, cells-rising}
 use Rattle.grid.specs.Cells.{Literal, square, undecided}
 use Rattle.groups.specs.Groups.{labels}
-use Rattle.groups.specs.Arrows.{onArrow}
+use Rattle.groups.specs.Arrows.{OnArrow}
 use Rattle.kinds.specs.Kinds.{Kind, vacant, barrier, floating, inBlock, neighbour, isIn, has, View, view, viewWith, reach, disturbing, fenceAt, fence}
 use Rattle.kinds.specs.Meaning.{PartialBoard, InArrow, Reach, Shut, Disturbing, Setting, partialOf}
 use Rattle.kinds.proofs.Bridge.{blockName, kinds, kind, kind-vacant, kind-arrow, block-labels, sq<, in-blk, blk-in}
@@ -104,7 +104,7 @@ module _ (set : Setting) where
     abbrev Meant : ℕ → ℕ → Type 0
     Meant i w = ((w ≡ 0) × Shut B a i) ⊎ ((w ≡ 1) × Disturbing B a i)
 
-    module _ (arrow : So (onArrow arrows a)) (sq : So (square cells a)) where
+    module _ (arrow : OnArrow arrows a) (sq : So (square cells a)) where
       -- a cell of the grid that touches the reach
       touching : (i : ℕ) → i < size grid → So (touches grid R i) → (r : ℕ) × Adjacent grid i r × Reach B a r
       touching i l t = let r = touches-adjacent grid R i l t in (r .0, r .1, reach-in set a (r .0) sq (r .2))

@@ -9,7 +9,7 @@ use Rattle.grid.specs.Grid.{Adjacent}
 use Rattle.grid.specs.Cells.{ValidCells, empty, square, undecided}
 use Rattle.record.specs.Record.{Puzzle}
 use Rattle.record.specs.Valid.{ValidArrows}
-use Rattle.groups.specs.Arrows.{onArrow}
+use Rattle.groups.specs.Arrows.{OnArrow}
 
 -- a partial board: which cells share a side, which are on an arrow, and what each cell is
 pub record PartialBoard : Type 1 where
@@ -30,7 +30,7 @@ pub record Setting : Type 0 where
 abbrev pub partialOf : Setting → PartialBoard
 partialOf set = record {
   Adj = Adjacent (set .puzzle .grid);
-  Arrow = λ c. So (onArrow (set .puzzle .arrows) c);
+  Arrow = OnArrow (set .puzzle .arrows);
   Empty = λ c. So (empty (set .cells) c);
   Square = λ c. So (square (set .cells) c);
   Undecided = λ c. So (undecided (set .cells) c);

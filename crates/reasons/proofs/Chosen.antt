@@ -22,7 +22,8 @@ use Rattle.grid.proofs.GridLaws.{adj-sym, adjacent-touches, touches-adjacent, i
 use Rattle.grid.proofs.CellLaws.{sq-below}
 use Rattle.record.specs.Record.{Puzzle}
 use Rattle.groups.specs.Groups.{Joined, labels, group, names}
-use Rattle.groups.specs.Arrows.{onArrow}
+use Rattle.groups.specs.Arrows.{OnArrow, onArrow}
+use Rattle.groups.proofs.ArrowLaws.{arrow-so, so-arrow}
 use Rattle.groups.specs.Rules.{SameBlock}
 use Rattle.groups.proofs.GroupLaws.{group-mem, mem-group, group-rising, names-rising, names-own, own-names, label-linked, linked-label, label-own, label-least, linked-size}
 use Rattle.literals.specs.Literals.{Found, reasonIf, orElse, firstOf, each}
@@ -164,12 +165,12 @@ module _ (p : Puzzle) (cells : List ℕ) (long : length cells ≡ size (p .grid)
         record {
           first = number-first grid (potential cells) f m;
           some = (w .0, joined (w .0) (w .1), w .2);
-          none = λ j r a. not-so {a = any (onArrow (p .arrows)) (pot f)} (q .1) (mem-any (onArrow (p .arrows)) (pot f) (listed j r) a);
+          none = λ j r a. not-so {a = any (onArrow (p .arrows)) (pot f)} (q .1) (mem-any (onArrow (p .arrows)) (pot f) (listed j r) (so-arrow (p .arrows) j a));
         }
 
     stranded-so : Stranded p cells f → So (strandedTest f)
     stranded-so s = true-and (mem-any (square cells) (pot f) (listed (s .some .0) (s .some .1)) (s .some .2))
-        (so-not (any (onArrow (p .arrows)) (pot f)) (λ t. let w = any-mem (onArrow (p .arrows)) (pot f) t in s .none (w .0) (joined (w .0) (w .1)) (w .2)))
+        (so-not (any (onArrow (p .arrows)) (pot f)) (λ t. let w = any-mem (onArrow (p .arrows)) (pot f) t in s .none (w .0) (joined (w .0) (w .1)) (arrow-so (p .arrows) (w .0) (w .2))))
 
     -- the squares of the group, and the empty cells that touch it
     abbrev squares : List ℕ
@@ -275,17 +276,17 @@ module _ (p : Puzzle) (cells : List ℕ) (long : length cells ≡ size (p .grid)
 
   module _ (f : ℕ) (m : List·Memᴰ f blocks) where
     -- they are the arrow cells that are joined to f
-    arrow-cell : (x : ℕ) → List·Memᴰ x (arrowCells f) → SameBlock grid cells f x × So (onArrow (p .arrows) x)
-    arrow-cell x n = let q = filter-mem (onArrow (p .arrows)) _ n in (group-joined grid (square cells) f m x (q .0), q .1)
+    arrow-cell : (x : ℕ) → List·Memᴰ x (arrowCells f) → SameBlock grid cells f x × OnArrow (p .arrows) x
+    arrow-cell x n = let q = filter-mem (onArrow (p .arrows)) _ n in (group-joined grid (square cells) f m x (q .0), arrow-so (p .arrows) x (q .1))
 
-    cell-arrow : (x : ℕ) → SameBlock grid cells f x → So (onArrow (p .arrows) x) → List·Memᴰ x (arrowCells f)
-    cell-arrow x r o = mem-filter (onArrow (p .arrows)) _ (joined-group grid (square cells) f m x r) o
+    cell-arrow : (x : ℕ) → SameBlock grid cells f x → OnArrow (p .arrows) x → List·Memᴰ x (arrowCells f)
+    cell-arrow x r o = mem-filter (onArrow (p .arrows)) _ (joined-group grid (square cells) f m x r) (so-arrow (p .arrows) x o)
 
     -- the first two listed are the first two
     crossed-of : (a b : ℕ) (rest : List ℕ) → arrowCells f ≡ a ∷ b ∷ rest → Crossed p cells f a b
     crossed-of a b rest e = go (subst Rising e (arrow-cells-rising f))
       where
-        listed-at : (j : ℕ) → List·Memᴰ j (a ∷ b ∷ rest) → SameBlock grid cells f j × So (onArrow (p .arrows) j)
+        listed-at : (j : ℕ) → List·Memᴰ j (a ∷ b ∷ rest) → SameBlock grid cells f j × OnArrow (p .arrows) j
         listed-at j n = arrow-cell j (subst (List·Memᴰ j) (sym e) n)
 
         others : Rising (b ∷ rest) → (j : ℕ) → List·Memᴰ j (a ∷ b ∷ rest) → (j ≡ a) ⊎ (b ≤ j)

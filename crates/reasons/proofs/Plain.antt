@@ -15,8 +15,8 @@ use Rattle.grid.proofs.LinkLaws.{linked-start, linked-trans, linked-sym}
 use Rattle.record.specs.Record.{Puzzle}
 use Rattle.grid.specs.Cells.{square}
 use Rattle.grid.proofs.CellLaws.{sq-below}
-use Rattle.groups.specs.Arrows.{onArrow, Pair, Parted}
-use Rattle.groups.proofs.ArrowLaws.{arrow-so, so-arrow, NextAt, at-last, at-cur, pos-below, position, posLast, posCur, mid, tip, whole, mid-clear}
+use Rattle.groups.specs.Arrows.{OnArrow, Pair, Parted, posLast, posCur}
+use Rattle.groups.proofs.ArrowLaws.{NextAt, at-last, at-cur, pos-below, position, mid, tip, whole, mid-clear}
 use Rattle.groups.specs.Rules.{Next, BlockRules, Grown, SameBlock}
 use Rattle.kinds.specs.Kinds.{has}
 use Rattle.reasons.proofs.Refute.{Rules}
@@ -34,12 +34,12 @@ abbrev pub lineAt : (arrows : List (List ℕ)) → Which arrows → ℕ → ℕ
 lineAt arrows t k = getD (t .0) k 0
 
 -- its cells are arrow cells
-pub on-line : (arrows : List (List ℕ)) (t : Which arrows) (k : ℕ) → k < lineLen arrows t → So (onArrow arrows (lineAt arrows t k))
-on-line arrows t k l = so-arrow arrows (lineAt arrows t k) (t .0, t .1, at-mem (t .0) k l)
+pub on-line : (arrows : List (List ℕ)) (t : Which arrows) (k : ℕ) → k < lineLen arrows t → OnArrow arrows (lineAt arrows t k)
+on-line arrows t k l = (t .0, t .1, at-mem (t .0) k l)
 
 -- the block rules of a full board, by positions
 abbrev pub RulesAt : Puzzle → List ℕ → Type 0
-RulesAt p full = Rules (Adjacent (p .grid)) (λ c. So (onArrow (p .arrows) c)) (p .grid) (Which (p .arrows)) (lineLen (p .arrows)) (lineAt (p .arrows)) (λ c. So (square full c))
+RulesAt p full = Rules (Adjacent (p .grid)) (OnArrow (p .arrows)) (p .grid) (Which (p .arrows)) (lineLen (p .arrows)) (lineAt (p .arrows)) (λ c. So (square full c))
 
 module _ (p : Puzzle) (full : List ℕ) (long : length full ≡ size (p .grid)) where
   abbrev g : Grid
@@ -58,9 +58,9 @@ module _ (p : Puzzle) (full : List ℕ) (long : length full ≡ size (p .grid)) 
   -- from the rules as stated to positions
   pub plain-rules : BlockRules p full → RulesAt p full
   plain-rules r = record {
-    has = λ c s. let o = r .one c (low c s) s in (o .cell, so-arrow arrows (o .cell) (o .arrow), o .within);
+    has = λ c s. let o = r .one c (low c s) s in (o .cell, o .arrow, o .within);
     one = λ d e ad ae l. let o = r .one d (low d (linked-start l)) (linked-start l) in
-        o .unique d (linked-trans l (linked-sym (adj-sym g) l)) (arrow-so arrows d ad) ∙ sym (o .unique e l (arrow-so arrows e ae));
+        o .unique d (linked-trans l (linked-sym (adj-sym g) l)) ad ∙ sym (o .unique e l ae);
     grow = λ t i j jl pr. r .grown (lineAt arrows t i) (lineAt arrows t j) (next t i j jl pr);
   }
     where
@@ -81,8 +81,8 @@ module _ (p : Puzzle) (full : List ℕ) (long : length full ≡ size (p .grid)) 
     one = λ i l s. let w = r .has i s in record {
       cell = w .0;
       within = w .2;
-      arrow = arrow-so arrows (w .0) (w .1);
-      unique = λ j k aj. r .one j (w .0) (so-arrow arrows j aj) (w .1) (linked-trans (linked-sym (adj-sym g) k) (w .2));
+      arrow = w .1;
+      unique = λ j k aj. r .one j (w .0) aj (w .1) (linked-trans (linked-sym (adj-sym g) k) (w .2));
     };
     grown = grown;
   }
@@ -93,5 +93,5 @@ module _ (p : Puzzle) (full : List ℕ) (long : length full ≡ size (p .grid)) 
           let arrow : List ℕ = n .before ++ (i ∷ (n .between ++ (j ∷ n .behind))) in
           let q : Parted full arrow e = record { before = n .before; behind = n .behind; whole = refl; first = n .first; second = n .second; none = n .none } in
           subst (λ z. Grown g (SameBlock g full z) (SameBlock g full j)) (at-last full arrow e q)
-          (subst (λ z. Grown g (SameBlock g full (getD arrow (posLast full arrow e q) 0)) (SameBlock g full z)) (at-cur full arrow e q)
-          (r .grow (arrow, n .arrow) (posLast full arrow e q) (posCur full arrow e q) (pos-below full arrow e q) (position full arrow e q)))
+          (subst (λ z. Grown g (SameBlock g full (getD arrow (posLast q) 0)) (SameBlock g full z)) (at-cur full arrow e q)
+          (r .grow (arrow, n .arrow) (posLast q) (posCur q) (pos-below full arrow e q) (position full arrow e q)))

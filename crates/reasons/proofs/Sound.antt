@@ -10,7 +10,7 @@ use native.Mathlib.Omega.{arith}
 use lib.ListN.{length, getD}
 use borrow.Author.Tests.{lt-ltb}
 use Rattle.grid.specs.Lists.{filter, any, flatMap, last, init, tail}
-use Rattle.grid.proofs.ListLaws.{mem-filter, dec-so, true-and, so-not, any-mem, mem-any, mem-flatMap}
+use Rattle.grid.proofs.ListLaws.{mem-filter, true-and, so-not, any-mem, mem-any, mem-flatMap}
 use Rattle.grid.specs.Grid.{Grid, size, Adjacent}
 use Rattle.grid.specs.Link.{Linked, here}
 use Rattle.grid.proofs.LinkLaws.{linked-end, linked-map, linked-start}
@@ -19,9 +19,9 @@ use Rattle.grid.specs.Cells.{Literal, empty, square, undecided, potential, Agre
 use Rattle.grid.proofs.CellLaws.{sq-not-em}
 use Rattle.groups.proofs.GroupLaws.{mem-group, own-names, group-linked, linked-group}
 use Rattle.groups.specs.Groups.{labels, group, names}
-use Rattle.groups.specs.Arrows.{onArrow, pairs, Pair}
+use Rattle.groups.specs.Arrows.{OnArrow, onArrow, pairs, Pair}
 use Rattle.groups.specs.Rules.{Shift, BlockRules, Contains}
-use Rattle.groups.proofs.ArrowLaws.{NextAt, position-pair}
+use Rattle.groups.proofs.ArrowLaws.{arrow-so, so-arrow, dec-arrow, NextAt, position-pair}
 use Rattle.kinds.proofs.Bridge.{decisions, dec-reach, sq<, blockName}
 use Rattle.kinds.specs.Kinds.{View, view, viewWith, block, reach}
 use Rattle.kinds.specs.Meaning.{PartialBoard, Block, Reach, Setting, partialOf}
@@ -70,7 +70,7 @@ module _ (set : Setting) where
 
   -- where no reason is given none applies
   module _ (full : (c : ℕ) → ¬ So (undecided cells c)) where
-    quiet-1 : reason1 puzzle cells ≡ none → (s : ℕ) → So (square cells s) → ¬ ((c : ℕ) → Linked (Adjacent grid) (λ k. ¬ So (empty cells k)) s c → ¬ So (onArrow arrows c))
+    quiet-1 : reason1 puzzle cells ≡ none → (s : ℕ) → So (square cells s) → ¬ ((c : ℕ) → Linked (Adjacent grid) (λ k. ¬ So (empty cells k)) s c → ¬ OnArrow arrows c)
     unfolding reason1 reason1At
     quiet-1 e s sq none-there =
         let fs : So (potential cells s) = filled-so set s (sq-not-em cells s sq) in
@@ -81,7 +81,7 @@ module _ (set : Setting) where
         (true-and (mem-any (square cells) c (mem-group grid (potential cells) l (getD l s 0) s s< fs refl) sq)
         (so-not (any (onArrow arrows) c) (λ a.
         let w = any-mem (onArrow arrows) c a in
-        none-there (w .0) (linked-map (λ x q. so-filled set x (linked-end q)) (group-linked grid (potential cells) s (w .0) s< fs (w .1))) (w .2))))
+        none-there (w .0) (linked-map (λ x q. so-filled set x (linked-end q)) (group-linked grid (potential cells) s (w .0) s< fs (w .1))) (arrow-so arrows (w .0) (w .2)))))
       where
         l : List ℕ
         l = labels grid (potential cells)
@@ -92,15 +92,15 @@ module _ (set : Setting) where
     two-none a b (x ∷ []) ma mb ne e = ne (List·Memᴰ·eq-of-singleton ma ∙ sym (List·Memᴰ·eq-of-singleton mb))
     two-none a b (x ∷ y ∷ l) ma mb ne e = let z : _≡_ {A = ℕ} 0 1 = cc in omega arith
 
-    quiet-2 : reason2 puzzle cells ≡ none → (a b : ℕ) → So (onArrow arrows a) → So (onArrow arrows b) → a ≢ b → ¬ Block B a b
+    quiet-2 : reason2 puzzle cells ≡ none → (a b : ℕ) → OnArrow arrows a → OnArrow arrows b → a ≢ b → ¬ Block B a b
     unfolding reason2
     quiet-2 e a b aa ab ne l =
         let a< = sq< set a (linked-start l) in
         let c : List ℕ = blockOf set (blockName set a) in
         let k = first-none (λ f. reason2At grid cells (filter (onArrow arrows) (blockOf set f))) (names grid (square cells) (labels grid (square cells))) e (own-names grid (square cells) a a< (linked-start l)) in
         two-none a b (filter (onArrow arrows) c)
-        (mem-filter (onArrow arrows) c (linked-group grid (square cells) a a a< (here (linked-start l))) aa)
-        (mem-filter (onArrow arrows) c (linked-group grid (square cells) a b a< l) ab) ne k
+        (mem-filter (onArrow arrows) c (linked-group grid (square cells) a a a< (here (linked-start l))) (so-arrow arrows a aa))
+        (mem-filter (onArrow arrows) c (linked-group grid (square cells) a b a< l) (so-arrow arrows b ab)) ne k
 
     -- a pair of positions, and what the two tests say of it
     module _ (e : reason34 v ≡ none) (t : Which arrows) (i j : ℕ) (jl : j < lineLen arrows t) (pr : NextAt (λ c. So (square cells c)) (lineAt arrows t) i j) where
@@ -164,7 +164,7 @@ module _ (set : Setting) where
       where
         by-quiet : Q → RulesAt puzzle cells
         by-quiet = quiet-rules B grid (A set) (decisions set) (dec-reach set)
-            (λ c. dec-so (onArrow arrows c)) (sq< set) full
+            (dec-arrow arrows) (sq< set) full
 
         given-up : RulesAt puzzle cells → (o : Found) → findReason puzzle cells ≡ o → findReason puzzle cells ≡ none
         given-up r none e = e

@@ -20,6 +20,7 @@ use Rattle.grid.proofs.CellLaws.{sq-not-em, cell-cases}
 use Rattle.groups.proofs.GroupLaws.{mem-group, group-mem, labelled}
 use Rattle.groups.specs.Groups.{labels, group, names, Labels}
 use Rattle.groups.specs.Arrows.{onArrow}
+use Rattle.groups.proofs.ArrowLaws.{so-arrow}
 use Rattle.kinds.proofs.Bridge.{sq<, un<}
 use Rattle.kinds.specs.Kinds.{has}
 use Rattle.kinds.specs.Meaning.{PartialBoard, Setting, partialOf}
@@ -88,7 +89,7 @@ module _ (set : Setting) where
             → Agrees full (each 0 (bounds (pot f)) ++ each 1 (last 0 (filter (square cells) (pot f)) ∷ [])) → ⊥
         go f (h, k) ag′ =
             lonely B (λ c. So (square full c)) s fs (sq-em s (sm .1))
-            (λ x l ax. not-so {a = any (onArrow arrows) (pot f)} k (mem-any (onArrow arrows) (pot f) (pot-linked f s x (sm .0) l) ax))
+            (λ x l ax. not-so {a = any (onArrow arrows) (pot f)} k (mem-any (onArrow arrows) (pot f) (pot-linked f s x (sm .0) l) (so-arrow arrows x ax)))
             (λ x y l ad z sy. omega (
               arith,
               eqb-true,

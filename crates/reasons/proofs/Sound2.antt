@@ -15,7 +15,8 @@ use Rattle.grid.proofs.LinkLaws.{linked-start}
 use Rattle.grid.specs.Cells.{Literal, square, Agrees}
 use Rattle.groups.proofs.GroupLaws.{group-mem, group-distinct}
 use Rattle.groups.specs.Groups.{labels, group, names}
-use Rattle.groups.specs.Arrows.{onArrow}
+use Rattle.groups.specs.Arrows.{OnArrow, onArrow}
+use Rattle.groups.proofs.ArrowLaws.{arrow-so}
 use Rattle.kinds.proofs.Bridge.{sq<, block-labels}
 use Rattle.kinds.specs.Meaning.{PartialBoard, Block, Setting, partialOf}
 use Rattle.reasons.proofs.First.{agrees-each, first-some}
@@ -49,8 +50,8 @@ module _ (set : Setting) where
   pub record Two (r : List Literal) : Type 0 where
     pub a : ℕ
     pub b : ℕ
-    pub arrow-a : So (onArrow arrows a)
-    pub arrow-b : So (onArrow arrows b)
+    pub arrow-a : OnArrow arrows a
+    pub arrow-b : OnArrow arrows b
     pub differ : a ≢ b
     pub joined : Block B b a
     pub is : r ≡ each 1 (way a b)
@@ -85,8 +86,8 @@ module _ (set : Setting) where
           record {
             a = a;
             b = b;
-            arrow-a = ma .1;
-            arrow-b = mb .1;
+            arrow-a = arrow-so arrows a (ma .1);
+            arrow-b = arrow-so arrows b (mb .1);
             differ = λ z. d .0 (List·Memᴰ·head z);
             joined = block-labels set .same b a (bb .1) (ba .1) (bb .2 ∙ sym (ba .2));
             is = two-two a b rest k;

@@ -19,9 +19,9 @@ use Rattle.grid.proofs.CellLaws.{sq-below}
 use Rattle.groups.proofs.GroupLaws.{label-own}
 use Rattle.groups.proofs.RulesLaws.{dec-block}
 use Rattle.groups.proofs.Shift.{contains-map, fits-contains, contains-fits}
-use Rattle.groups.specs.Arrows.{onArrow, pairs, Pair}
+use Rattle.groups.specs.Arrows.{OnArrow, pairs, Pair, posLast, posCur}
 use Rattle.groups.specs.Rules.{fits, Shift, taking, Contains}
-use Rattle.groups.proofs.ArrowLaws.{NextAt, pairs-parted, at-last, at-cur, pos-below, position, length-gap, at-gap, posLast, posCur}
+use Rattle.groups.proofs.ArrowLaws.{NextAt, pairs-parted, at-last, at-cur, pos-below, position, length-gap, at-gap}
 use Rattle.kinds.proofs.Bridge.{decisions, dec-reach, sq<, blockName}
 use Rattle.kinds.specs.Kinds.{View, view, viewWith, block, reach, fence}
 use Rattle.kinds.specs.Meaning.{PartialBoard, Block, Reach, Setting, partialOf}
@@ -68,14 +68,14 @@ module _ (set : Setting) where
   home a s = label-own grid (square cells) a (sq< set a s) s
 
   -- the test of reason 3 looks for a shift of a's block in c's reach
-  fits-so : (a c t : ℕ) → So (onArrow arrows a) → So (square cells c) → So (fits grid (block v (blockName set a)) (reach v (blockName set c)) (blockName set a) t) → (s : Shift) × Contains grid s (Block B a) (Reach B c)
+  fits-so : (a c t : ℕ) → OnArrow arrows a → So (square cells c) → So (fits grid (block v (blockName set a)) (reach v (blockName set c)) (blockName set a) t) → (s : Shift) × Contains grid s (Block B a) (Reach B c)
   fits-so a c t aa sc h = (
     taking grid (blockName set a) t,
     contains-map grid (taking grid (blockName set a) t) (λ x. List·Memᴰ x (block v (blockName set a))) (λ x. List·Memᴰ x (reach v (blockName set c))) (Block B a) (Reach B c)
         (λ x. in-block set a x aa) (λ x. reach-in set c x sc) (fits-contains grid (block v (blockName set a)) (reach v (blockName set c)) (blockName set a) t h),
   )
 
-  so-fits : (a c : ℕ) → So (square cells a) → So (onArrow arrows a) → So (onArrow arrows c) → (s : Shift) → Contains grid s (Block B a) (Reach B c) → So (any (fits grid (block v (blockName set a)) (reach v (blockName set c)) (blockName set a)) (reach v (blockName set c)))
+  so-fits : (a c : ℕ) → So (square cells a) → OnArrow arrows a → OnArrow arrows c → (s : Shift) → Contains grid s (Block B a) (Reach B c) → So (any (fits grid (block v (blockName set a)) (reach v (blockName set c)) (blockName set a)) (reach v (blockName set c)))
   so-fits a c sa aa ac s f = contains-fits grid (block v (blockName set a)) (reach v (blockName set c)) (blockName set a) (in-block set a (blockName set a) aa (home a sa)) s
       (contains-map grid s (Block B a) (Reach B c) (λ x. List·Memᴰ x (block v (blockName set a))) (λ x. List·Memᴰ x (reach v (blockName set c)))
       (λ x. block-in set a x sa) (λ x. in-reach set c x ac) f)
@@ -104,10 +104,10 @@ module _ (set : Setting) where
     abbrev pub pair : Pair
     pair = record { last = lastCell; between = between; cur = curCell }
 
-    pub aa : So (onArrow arrows lastCell)
+    pub aa : OnArrow arrows lastCell
     aa = on-line arrows t i (omega (arith, pr .0))
 
-    pub ac : So (onArrow arrows curCell)
+    pub ac : OnArrow arrows curCell
     ac = on-line arrows t j jl
 
     -- the test of reason 3: some shift fits
@@ -261,8 +261,8 @@ module _ (set : Setting) where
       record {
         spot = record {
           t = (w .0, w .1);
-          i = posLast cells (w .0) p q;
-          j = posCur cells (w .0) p q;
+          i = posLast q;
+          j = posCur q;
           jl = pos-below cells (w .0) p q;
           pr = position cells (w .0) p q;
           between = p .between;

@@ -10,7 +10,7 @@ use Rattle.grid.specs.Grid.{Grid, Adjacent}
 use Rattle.grid.specs.Cells.{Literal, empty, square, potential}
 use Rattle.record.specs.Record.{Puzzle}
 use Rattle.groups.specs.Groups.{Joined}
-use Rattle.groups.specs.Arrows.{onArrow}
+use Rattle.groups.specs.Arrows.{OnArrow}
 use Rattle.literals.specs.Literals.{each}
 
 -- j is in the potential group of i: the largest side-connected set of cells that aren't empty that i is in
@@ -22,7 +22,7 @@ module _ (p : Puzzle) (cells : List ℕ) where
   pub record Stranded (f : ℕ) : Type 0 where
     pub first : (j : ℕ) → SamePotential (p .grid) cells f j → f ≤ j
     pub some : (j : ℕ) × SamePotential (p .grid) cells f j × So (square cells j)
-    pub none : (j : ℕ) → SamePotential (p .grid) cells f j → ¬ So (onArrow (p .arrows) j)
+    pub none : (j : ℕ) → SamePotential (p .grid) cells f j → ¬ OnArrow (p .arrows) j
 
   -- the empty cells that touch the potential group as 0, rising, each once; then its last square in row order
   pub record Boundary (f : ℕ) (r : List Literal) : Type 0 where
