@@ -41,7 +41,7 @@ unfoldable pub there : List ℕ → Outcome ℕ
 there [] = refused 3
 there (j ∷ js) = ok j
 
--- the cell one step from i: 0 up, 1 down, 2 left, 3 right; 3 is refused off the grid
+-- the cell one step from i: 0 up, 1 down, 2 left, 3 right; off the grid the refusal is 3
 unfoldable pub stepFrom : Grid → ℕ → ℕ → Outcome ℕ
 stepFrom g i zero = there (up g i)
 stepFrom g i (suc zero) = there (down g i)

@@ -47,7 +47,7 @@ tallyOf l bytes =
 unfoldable pub counted : Tally → Run → ℕ → Bool → Tally
 counted t r place sound = record { entries = sumOf (t .entries) 1; parts = sumOf (t .parts) (r .parts); differ = sumOf (t .differ) (r .differ); at = place; whole = sound }
 
--- with the entry at its place in a list of this size: damaged where it ends before its start, or behind the list
+-- with the entry at its place in a list of this size: damaged where it ends at its start or before it, or behind the list
 unfoldable pub withOf : Tally → Run → ℕ → Tally
 withOf t r size =
     cond (leb (r .end) (t .at)) (counted t r size false)

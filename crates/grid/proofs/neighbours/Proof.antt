@@ -1,4 +1,5 @@
 -- `grid::neighbours` meets its contract: a cell is its row and its column.
+-- Assumes nothing.
 use mathlib.Core.Path.{ap, _∙_}
 use native.Mathlib.Nat.{div-add-mod'}
 use native.Mathlib.Omega.{arith}

@@ -1,4 +1,5 @@
 -- `grid::neighbours_at` meets its contract. At the loop's head the places hold the neighbours in the directions before k.
+-- Assumes nothing.
 use Prim.Native.Nat.{_+_, _*_, _-_, _<_, _≤_}
 use mathlib.Core.Path.{_≡_, sym, _∙_}
 use mathlib.Core.Logic.{⊎-elim}

@@ -1,4 +1,5 @@
 -- `grid::offset` meets its contract: the difference of two small numbers, read from its bits.
+-- Assumes nothing.
 use Rattle.grid.proofs.Signed.{difference-fits, difference-is}
 use borrow.Author.Needs.{needs}
 use Rattle.grid.proofs.offset.Statement.{statement}

@@ -1,4 +1,5 @@
 -- `grid::put` meets its contract: each place by itself.
+-- Assumes nothing.
 use Prim.Native.Nat.{ℕ, _<_}
 use mathlib.Core.Path.{_≡_, refl}
 use native.Mathlib.Omega.{arith}

@@ -1,4 +1,5 @@
 -- `grid::shifted` meets its contract: the two moves, and the index of the cell that they lead to.
+-- Assumes nothing.
 use mathlib.Core.Path.{_≡_, sym, ap, _∙_}
 use Prim.Native.Nat.{_*_, _+_, _<_}
 use native.Mathlib.Omega.{arith}

@@ -1,4 +1,5 @@
 -- `grid::toward` meets its contract: a shift by a direction's offset leads to the neighbour there.
+-- Assumes nothing.
 use mathlib.Core.Path.{_∙_}
 use borrow.Author.Needs.{needs}
 use Rattle.grid.proofs.SideLaws.{offsets-small, leads}

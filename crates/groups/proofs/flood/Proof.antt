@@ -1,5 +1,6 @@
 -- `groups::flood` meets its contract. The loop's invariant: what held of a flood before the first turn holds of it now, and s keeps
 -- its label. The measure falls with every cell labelled and every cell taken from the stack. Assumes nothing.
+-- Assumes nothing.
 use Prim.Native.Nat.{ℕ, _+_, _-_, _*_, _<_}
 use native.Mathlib.Omega.{arith}
 use mathlib.Core.Path.{_≡_}

@@ -1,4 +1,5 @@
 -- `groups::is_check_cell` meets its contract. Assumes nothing.
+-- Assumes nothing.
 use Rattle.grid.specs.Cells.{square, empty, potential}
 use Rattle.groups.specs.Arrays.{counts}
 use borrow.Author.Needs.{needs}

@@ -1,4 +1,5 @@
 -- `groups::mark_arrow_cells` meets its contract. The loop's invariant: the cells passed are marked. Assumes nothing.
+-- Assumes nothing.
 use Prim.Native.Nat.{_≤_, _-_}
 use native.Mathlib.Omega.{arith}
 use mathlib.Core.Path.{_≡_}

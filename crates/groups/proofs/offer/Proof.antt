@@ -1,4 +1,5 @@
 -- `groups::offer` meets its contract. Assumes nothing.
+-- Assumes nothing.
 use Prim.Native.Nat.{ℕ, _+_}
 use mathlib.Core.Path.{_≡_, refl}
 use mathlib.Core.Bool.{Bool, true, false, cond}

@@ -1,4 +1,5 @@
 -- `groups::offer_toward` meets its contract. Assumes nothing.
+-- Assumes nothing.
 use mathlib.Core.Path.{refl, sym, _∙_}
 use Rattle.groups.specs.Flood.{beyond, within}
 use Rattle.groups.proofs.FloodLaws.{beside-small}
