@@ -1,4 +1,4 @@
--- The index stands at its place or nowhere.
+-- `fence::contains` meets its contract: the index stands at its place or nowhere.
 -- Assumes nothing.
 use mathlib.Core.Path.{sym}
 use native.Mathlib.Omega.{arith}

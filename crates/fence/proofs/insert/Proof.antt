@@ -1,4 +1,4 @@
--- The two ways out of an insertion.
+-- `fence::insert` meets its contract: the two ways out of an insertion.
 -- Assumes nothing.
 use mathlib.Core.Path.{refl}
 use mathlib.Core.Logic.{⊎-elim}

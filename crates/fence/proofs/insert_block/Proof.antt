@@ -1,4 +1,4 @@
--- The loop's invariant: the block's cells among those passed are inserted.
+-- `fence::insert_block` meets its contract: the block's cells among those passed are inserted.
 -- Assumes nothing.
 use Prim.Native.Nat.{ℕ, _≤_, _-_}
 use mathlib.Core.Path.{sym, _∙_}

@@ -1,4 +1,4 @@
--- A cell of the arrow block is inserted, another is not.
+-- `fence::insert_cell` meets its contract: a cell of the arrow block is inserted, another is not.
 -- Assumes nothing.
 use borrow.Author.Tests.{ne-eqb}
 use Rattle.fence.proofs.Fences.{none-added, cell-off, cell-added}

@@ -1,4 +1,4 @@
--- The arrow block of a neighbour: none, the same, there already, or new.
+-- `fence::insert_disturbing_block` meets its contract: the arrow block of a neighbour is none, the same, there already, or new.
 -- Assumes nothing.
 use mathlib.Core.Path.{sym, _∙_}
 use Rattle.fence.proofs.Ordering.{ordered-room}

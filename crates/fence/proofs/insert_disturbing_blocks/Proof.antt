@@ -1,4 +1,4 @@
--- The loop's invariant: the other arrow blocks of the neighbours in the directions passed are inserted.
+-- `fence::insert_disturbing_blocks` meets its contract: the other arrow blocks of the neighbours in the directions passed are inserted.
 -- Assumes nothing.
 use Prim.Native.Nat.{ℕ, _≤_, _-_, _*_}
 use mathlib.Core.Path.{sym, _∙_}

@@ -1,4 +1,4 @@
--- What a cell brings into the fence, by its kind and value.
+-- `fence::insert_fence_of` meets its contract: what a cell brings into the fence, by its kind and value.
 -- Assumes nothing.
 use mathlib.Core.Path.{sym, _∙_}
 use Rattle.fence.proofs.Ordering.{ordered-room}

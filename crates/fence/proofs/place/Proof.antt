@@ -1,4 +1,4 @@
--- The place by halving: before low stand smaller indexes, and from high on none is smaller.
+-- `fence::place` meets its contract: by halving; before low stand smaller indexes, and from high on none is smaller.
 -- Assumes nothing.
 use Prim.Native.Nat.{_≤_, _<_, _+_, _-_, _/_}
 use mathlib.Core.Path.{_≡_}

@@ -1,4 +1,4 @@
--- The loop's invariant: what the cells passed bring into the fence is inserted.
+-- `fence::reason_for_adjacent_floating_boundary` meets its contract: what the cells passed bring into the fence is inserted.
 -- Assumes nothing.
 use Prim.Native.Nat.{_≤_, _-_, _*_}
 use mathlib.Core.Path.{_≡_}

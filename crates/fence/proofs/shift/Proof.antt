@@ -1,4 +1,4 @@
--- From the back, each literal goes one place on.
+-- `fence::shift` meets its contract: from the back, each literal goes one place on.
 -- Assumes nothing.
 use Prim.Native.Nat.{ℕ, _≤_, _-_}
 use mathlib.Core.Path.{subst}

@@ -1,4 +1,4 @@
--- The loop's invariant: no neighbour in the directions passed is marked.
+-- `fence::touches_marked` meets its contract: no neighbour in the directions passed is marked.
 -- Assumes nothing.
 use Prim.Native.Nat.{ℕ, _≤_, _-_}
 use mathlib.Core.Path.{_≡_}

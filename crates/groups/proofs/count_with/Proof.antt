@@ -1,4 +1,4 @@
--- One more, or not.
+-- `groups::count_with` meets its contract: one is added, or nothing.
 -- Assumes nothing.
 use borrow.Author.Needs.{needs}
 use Rattle.groups.proofs.count_with.Statement.{statement}

@@ -1,4 +1,4 @@
--- By whether the cell is to be in a group.
+-- `groups::first_label` meets its contract: by whether the cell is to be in a group.
 -- Assumes nothing.
 use borrow.Author.Needs.{needs}
 use Rattle.groups.proofs.first_label.Statement.{statement}

@@ -1,4 +1,4 @@
--- `groups::is_check_cell` meets its contract. Assumes nothing.
+-- `groups::is_check_cell` meets its contract.
 -- Assumes nothing.
 use Rattle.grid.specs.Cells.{square, empty, potential}
 use Rattle.groups.specs.Arrays.{counts}

@@ -1,4 +1,4 @@
--- `groups::mark_arrow_cells` meets its contract. The loop's invariant: the cells passed are marked. Assumes nothing.
+-- `groups::mark_arrow_cells` meets its contract: the cells passed are marked.
 -- Assumes nothing.
 use Prim.Native.Nat.{_≤_, _-_}
 use native.Mathlib.Omega.{arith}

@@ -1,4 +1,4 @@
--- The loop's invariant: the cells passed are told.
+-- `groups::mark_check_cells` meets its contract: the cells passed are told.
 -- Assumes nothing.
 use Prim.Native.Nat.{_≤_, _-_}
 use mathlib.Core.Path.{_≡_}

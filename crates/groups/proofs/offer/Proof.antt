@@ -1,4 +1,4 @@
--- `groups::offer` meets its contract. Assumes nothing.
+-- `groups::offer` meets its contract.
 -- Assumes nothing.
 use Prim.Native.Nat.{ℕ, _+_}
 use mathlib.Core.Path.{_≡_, refl}

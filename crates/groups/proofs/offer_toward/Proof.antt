@@ -1,4 +1,4 @@
--- `groups::offer_toward` meets its contract. Assumes nothing.
+-- `groups::offer_toward` meets its contract.
 -- Assumes nothing.
 use mathlib.Core.Path.{refl, sym, _∙_}
 use Rattle.groups.specs.Flood.{beyond, within}

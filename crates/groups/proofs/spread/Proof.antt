@@ -1,4 +1,4 @@
--- `groups::spread` meets its contract. At the loop's head the neighbours in the directions before k have been offered. Assumes nothing.
+-- `groups::spread` meets its contract: the neighbours in the directions before k have been offered.
 -- Assumes nothing.
 use Prim.Native.Nat.{ℕ, _+_, _-_, _*_, _/_, _%_, _≤_}
 use mathlib.Core.Path.{_≡_}

@@ -1,4 +1,4 @@
--- The walk: the measure is the number of cells with no group; the loop's invariant, that the walks from the neighbours in the directions passed are done.
+-- `kinds::traverse_grid` meets its contract: the cells with no group become fewer with each call, and the walks from the neighbours in the directions passed are done.
 -- Assumes nothing.
 use native.Mathlib.Omega.{arith}
 use mathlib.Core.Logic.{⊎-elim}

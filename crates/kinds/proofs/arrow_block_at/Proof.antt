@@ -1,4 +1,4 @@
--- The name of a cell's arrow block, by its block's name and mark.
+-- `kinds::arrow_block_at` meets its contract: the name of a cell's arrow block, by its block's name and mark.
 -- Assumes nothing.
 use borrow.Author.Tests.{le-ltb, lt-ltb, eq-eqb, ne-eqb}
 use Rattle.kinds.specs.Inside.{arrowAt}

@@ -1,4 +1,4 @@
--- The two passes one after the other.
+-- `kinds::compute_board_info_detailed` meets its contract: the two passes one after the other.
 -- Assumes nothing.
 use Rattle.grid.proofs.SideLaws.{area}
 use Rattle.kinds.proofs.Views.{none-named, detailed}

@@ -1,4 +1,4 @@
--- The loop's invariant: the kinds of the cells passed are written.
+-- `kinds::compute_cell_kinds` meets its contract: the kinds of the cells passed are written.
 -- Assumes nothing.
 use Prim.Native.Nat.{_≤_, _<_, _-_, _*_}
 use mathlib.Core.Path.{_≡_, ap, _∙_}

@@ -1,4 +1,4 @@
--- The kind of a cell, by its value and its neighbours.
+-- `kinds::kind_at` meets its contract: the kind of a cell, by its value and its neighbours.
 -- Assumes nothing.
 use Rattle.grid.proofs.SideLaws.{cell-small}
 use Rattle.kinds.specs.Inside.{kindFrom}

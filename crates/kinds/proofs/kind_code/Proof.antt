@@ -1,4 +1,4 @@
--- The number of a kind, by cases.
+-- `kinds::kind_code` meets its contract: the number of a kind, by cases.
 -- Assumes nothing.
 use Rattle.kinds.specs.Arrays.{kindCode}
 use Rattle.kinds.specs.Inside.{kindFrom}

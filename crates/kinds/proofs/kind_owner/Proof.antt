@@ -1,4 +1,4 @@
--- The arrow block of a kind, by cases.
+-- `kinds::kind_owner` meets its contract: the arrow block of a kind, by cases.
 -- Assumes nothing.
 use Rattle.kinds.specs.Arrays.{ownerBy}
 use Rattle.kinds.specs.Inside.{kindFrom}

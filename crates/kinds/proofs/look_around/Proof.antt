@@ -1,4 +1,4 @@
--- The loop's invariant: the arrow blocks of the neighbours in the directions passed are met.
+-- `kinds::look_around` meets its contract: the arrow blocks of the neighbours in the directions passed are met.
 -- Assumes nothing.
 use Prim.Native.Nat.{ℕ, _≤_, _-_}
 use mathlib.Core.Logic.{⊎-elim}

@@ -1,4 +1,4 @@
--- The loop's invariant: the names of the groups of the arrow cells passed are marked.
+-- `kinds::mark_arrow_blocks` meets its contract: the names of the groups of the arrow cells passed are marked.
 -- Assumes nothing.
 use Prim.Native.Nat.{_≤_, _-_}
 use mathlib.Core.Path.{_≡_}

@@ -1,4 +1,4 @@
--- A cell in a group marks the group's name.
+-- `kinds::mark_group` meets its contract: a cell in a group marks the group's name.
 -- Assumes nothing.
 use native.Mathlib.Omega.{arith}
 use lib.ListN.{getD}

@@ -1,4 +1,4 @@
--- A place with the tag marks its name, if it has one.
+-- `kinds::mark_name` meets its contract: a place with the tag marks its name, if it has one.
 -- Assumes nothing.
 use lib.ListN.{getD}
 use Rattle.kinds.proofs.Filled.{name-off, name-none, name-set}

@@ -1,4 +1,4 @@
--- One more arrow block, by cases.
+-- `kinds::meet` meets its contract: one more arrow block, by cases.
 -- Assumes nothing.
 use borrow.Author.Tests.{eq-eqb, ne-eqb}
 use Rattle.kinds.specs.Inside.{meetOf}

@@ -1,4 +1,4 @@
--- One more neighbour, in an arrow block or in none.
+-- `kinds::meet_at` meets its contract: one more neighbour, in an arrow block or in none.
 -- Assumes nothing.
 use Rattle.kinds.proofs.Owners.{owned-hit, owned-miss}
 use borrow.Author.Needs.{needs}

@@ -1,4 +1,4 @@
--- The loop's invariant: the floating groups of the cells passed are named.
+-- `kinds::name_floating_groups` meets its contract: the floating groups of the cells passed are named.
 -- Assumes nothing.
 use Prim.Native.Nat.{ℕ, _≤_, _<_, _-_, _*_}
 use mathlib.Core.Bool.{Bool}

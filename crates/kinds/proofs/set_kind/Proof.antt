@@ -1,4 +1,4 @@
--- The kind of a cell is written in two places.
+-- `kinds::set_kind` meets its contract: the kind of a cell is written in two places.
 -- Assumes nothing.
 use mathlib.Core.Path.{ap, _∙_}
 use native.Mathlib.Omega.{arith}

@@ -1,4 +1,4 @@
--- A cell with an owner is counted for it.
+-- `near::count_cell` meets its contract: a cell with an owner is counted for it.
 -- Assumes nothing.
 use Prim.Native.Nat.{_%_}
 use native.Mathlib.Omega.{arith}

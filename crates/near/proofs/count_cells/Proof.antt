@@ -1,4 +1,4 @@
--- The loop's invariant: the cells passed are counted.
+-- `near::count_cells` meets its contract: the cells passed are counted.
 -- Assumes nothing.
 use Prim.Native.Nat.{_≤_, _-_}
 use mathlib.Core.Path.{_≡_}

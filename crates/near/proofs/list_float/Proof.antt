@@ -1,4 +1,4 @@
--- A floating cell's group is marked and listed, unless it is already.
+-- `near::list_float` meets its contract: a floating cell's group is marked and listed, unless it is already.
 -- Assumes nothing.
 use Rattle.reach.proofs.NearLaws.{float-off, float-unnamed, float-old, float-new, listing-room}
 use borrow.Author.Needs.{needs}

@@ -1,4 +1,4 @@
--- The neighbour in one direction, if there is one.
+-- `near::list_float_toward` meets its contract: the neighbour in one direction, if there is one.
 -- Assumes nothing.
 use mathlib.Core.Path.{sym, _∙_}
 use Rattle.grid.specs.Side.{sized}

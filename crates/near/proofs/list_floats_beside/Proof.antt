@@ -1,4 +1,4 @@
--- The loop's invariant: the floating groups in the directions before k are listed.
+-- `near::list_floats_beside` meets its contract: the floating groups in the directions before k are listed.
 -- Assumes nothing.
 use Prim.Native.Nat.{ℕ, _+_, _-_, _*_, _≤_}
 use native.Mathlib.Nat.{div-add-mod'}

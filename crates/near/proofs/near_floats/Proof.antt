@@ -1,4 +1,4 @@
--- The loop's invariant: the floating groups that touch the cells of f passed are listed.
+-- `near::near_floats` meets its contract: the floating groups that touch the cells of f passed are listed.
 -- Assumes nothing.
 use Prim.Native.Nat.{_-_, _*_}
 use Rattle.grid.specs.Side.{sized}

@@ -1,4 +1,4 @@
--- The loop's invariant: the sizes of f and of the groups passed are added.
+-- `near::reach_size` meets its contract: the sizes of f and of the groups passed are added.
 -- Assumes nothing.
 use Prim.Native.Nat.{_+_, _-_, _*_, _≤_, _<_}
 use mathlib.Core.Path.{_≡_, _∙_}

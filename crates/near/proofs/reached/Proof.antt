@@ -1,4 +1,4 @@
--- The test of the reach, with the cell's kind and owner.
+-- `near::reached` meets its contract: the test of the reach, with the cell's kind and owner.
 -- Assumes nothing.
 use Rattle.reach.specs.Inside.{reachesAt}
 use borrow.Author.Needs.{needs}

@@ -1,4 +1,4 @@
--- A cell with an owner comes in front of its owner's chain.
+-- `reach::chain_cell` meets its contract: a cell with an owner comes in front of its owner's chain.
 -- Assumes nothing.
 use native.Mathlib.Omega.{arith}
 use Rattle.reach.proofs.ChainLaws.{chains-either}

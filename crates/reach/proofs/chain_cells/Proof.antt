@@ -1,4 +1,4 @@
--- The loop's invariant: the cells from i on are linked.
+-- `reach::chain_cells` meets its contract: the cells from i on are linked.
 -- Assumes nothing.
 use Prim.Native.Nat.{_≤_, _+_, _-_}
 use mathlib.Core.Path.{_≡_}

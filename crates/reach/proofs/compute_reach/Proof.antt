@@ -1,4 +1,4 @@
--- The two passes one after the other.
+-- `reach::compute_reach` meets its contract: the two passes one after the other.
 -- Assumes nothing.
 use native.Mathlib.Omega.{arith}
 use Rattle.grid.proofs.SideLaws.{area}

@@ -1,4 +1,4 @@
--- The test of the reach, by the cell's kind.
+-- `reach::in_reach` meets its contract: the test of the reach, by the cell's kind.
 -- Assumes nothing.
 use borrow.Author.Tests.{le-ltb, lt-ltb, ne-eqb}
 use Rattle.reach.specs.Inside.{reaches}

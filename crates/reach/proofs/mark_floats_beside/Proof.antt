@@ -1,4 +1,4 @@
--- The loop's invariant: the floating groups of the neighbours in the directions passed are marked.
+-- `reach::mark_floats_beside` meets its contract: the floating groups of the neighbours in the directions passed are marked.
 -- Assumes nothing.
 use Prim.Native.Nat.{ℕ, _≤_, _-_}
 use mathlib.Core.Logic.{⊎-elim}

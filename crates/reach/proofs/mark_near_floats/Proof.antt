@@ -1,4 +1,4 @@
--- The loop's invariant: the floating groups that touch a neighbour of f among the cells passed are marked.
+-- `reach::mark_near_floats` meets its contract: the floating groups that touch a neighbour of f among the cells passed are marked.
 -- Assumes nothing.
 use Prim.Native.Nat.{_≤_, _-_, _*_}
 use mathlib.Core.Path.{_≡_}

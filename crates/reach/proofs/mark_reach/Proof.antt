@@ -1,4 +1,4 @@
--- The loop's invariant: the cells passed are marked and counted.
+-- `reach::mark_reach` meets its contract: the cells passed are marked and counted.
 -- Assumes nothing.
 use Prim.Native.Nat.{_≤_, _-_}
 use mathlib.Core.Path.{_≡_}

@@ -1,4 +1,4 @@
--- A cell of the reach is marked and counted.
+-- `reach::mark_reached` meets its contract: a cell of the reach is marked and counted.
 -- Assumes nothing.
 use mathlib.Core.Path.{refl, sym, _∙_}
 use Rattle.reach.specs.Inside.{miss, hit}

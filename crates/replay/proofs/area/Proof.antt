@@ -1,4 +1,4 @@
--- `replay::area` is H × W where both are at most 32.
+-- `replay::area` meets its contract: it is H × W where both are at most 32.
 -- Assumes nothing.
 use native.Mathlib.Omega.{arith}
 use native.Mathlib.Nat.{mul-le-mul}

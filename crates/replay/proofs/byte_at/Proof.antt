@@ -1,4 +1,4 @@
--- `replay::byte_at` is the byte at its place, and 0 behind the end.
+-- `replay::byte_at` meets its contract: it is the byte at its place, and 0 behind the end.
 -- Assumes nothing.
 use borrow.Author.Needs.{needs}
 use native.Mathlib.Omega.{arith}

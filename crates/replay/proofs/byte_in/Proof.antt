@@ -1,4 +1,4 @@
--- `replay::byte_in` is what stands at a place.
+-- `replay::byte_in` meets its contract: it is what stands at a place.
 -- Assumes nothing.
 use borrow.Author.Tests.{lt-ltb, le-ltb, le-leb, lt-leb}
 use Rattle.replay.specs.Lists.{byteIn}

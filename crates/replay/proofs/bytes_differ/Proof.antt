@@ -1,4 +1,4 @@
--- `replay::bytes_differ` compares each byte with what is said for its place.
+-- `replay::bytes_differ` meets its contract: it compares each byte with what is said for its place.
 -- Assumes nothing.
 use borrow.Author.Needs.{needs}
 use Prim.Native.Nat.{_-_}

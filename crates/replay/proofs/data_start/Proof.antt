@@ -1,4 +1,4 @@
--- `replay::data_start` is the place behind the empty line that ends the head.
+-- `replay::data_start` meets its contract: it is the place behind the empty line that ends the head.
 -- Assumes nothing.
 use borrow.Author.Needs.{needs}
 use Prim.Native.Nat.{_+_, _-_, _≤_, _<_}

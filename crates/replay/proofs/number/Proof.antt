@@ -1,4 +1,4 @@
--- `replay::number` is the number of the answer.
+-- `replay::number` meets its contract: it is the number of the answer.
 -- Assumes nothing.
 use borrow.Author.Needs.{needs}
 use Rattle.record.specs.Problem.{numberOf}

@@ -1,4 +1,4 @@
--- `replay::number_at` is the u16 at its place, with 0 for each byte behind the end.
+-- `replay::number_at` meets its contract: it is the u16 at its place, with 0 for each byte behind the end.
 -- Assumes nothing.
 use native.Mathlib.Omega.{arith}
 use Rattle.replay.specs.Lists.{numberAt}

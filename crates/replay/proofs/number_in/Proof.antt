@@ -1,4 +1,4 @@
--- `replay::number_in` is what stands at a place.
+-- `replay::number_in` meets its contract: it is what stands at a place.
 -- Assumes nothing.
 use borrow.Author.Tests.{le-leb, lt-leb}
 use Rattle.replay.specs.Lists.{numberIn}

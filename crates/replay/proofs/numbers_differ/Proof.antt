@@ -1,4 +1,4 @@
--- `replay::numbers_differ` compares each number with what is said for its place.
+-- `replay::numbers_differ` meets its contract: it compares each number with what is said for its place.
 -- Assumes nothing.
 use borrow.Author.Needs.{needs}
 use Prim.Native.Nat.{_-_}

@@ -1,4 +1,4 @@
--- `replay::sum` is the sum, or the largest number.
+-- `replay::sum` meets its contract: it is the sum, or the largest number.
 -- Assumes nothing.
 use borrow.Author.Tests.{lt-ltb, le-ltb}
 use Rattle.replay.specs.Tallies.{sumOf}

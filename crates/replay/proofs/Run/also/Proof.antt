@@ -1,4 +1,4 @@
--- `replay::Run::also` counts one difference more.
+-- `replay::Run::also` meets its contract: it counts one difference more.
 -- Assumes nothing.
 use borrow.Author.Needs.{needs}
 use Rattle.replay.specs.Tallies.{alsoOf}

@@ -1,4 +1,4 @@
--- `replay::Run::broken` is the entry that can't be gone through.
+-- `replay::Run::broken` meets its contract: it is the entry that can't be gone through.
 -- Assumes nothing.
 use mathlib.Core.Path.{refl}
 use Rattle.replay.specs.Tallies.{brokenRun}

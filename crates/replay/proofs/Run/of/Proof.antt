@@ -1,4 +1,4 @@
--- `replay::Run::of` has the difference and the end.
+-- `replay::Run::of` meets its contract: it has the difference and the end.
 -- Assumes nothing.
 use borrow.Author.Needs.{needs}
 use Rattle.replay.specs.Tallies.{runOf}

@@ -1,4 +1,4 @@
--- `replay::Run::then` counts a part of an entry.
+-- `replay::Run::then` meets its contract: it counts a part of an entry.
 -- Assumes nothing.
 use Rattle.replay.specs.Tallies.{thenOf}
 use borrow.Author.Needs.{needs}

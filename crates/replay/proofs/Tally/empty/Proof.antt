@@ -1,4 +1,4 @@
--- `replay::Tally::empty` has nothing counted.
+-- `replay::Tally::empty` meets its contract: it has nothing counted.
 -- Assumes nothing.
 use mathlib.Core.Path.{refl}
 use Rattle.replay.specs.Tallies.{emptyTally}

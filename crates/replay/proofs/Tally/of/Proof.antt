@@ -1,4 +1,4 @@
--- `replay::Tally::of` tells a list without a head, or that ends before its entries.
+-- `replay::Tally::of` meets its contract: it tells a list without a head, or that ends before its entries.
 -- Assumes nothing.
 use mathlib.Core.Path.{sym, _∙_}
 use Rattle.replay.proofs.TallyLaws.{headless, short, ready}

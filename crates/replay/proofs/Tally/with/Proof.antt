@@ -1,4 +1,4 @@
--- `replay::Tally::with` counts an entry, and tells one that ends before its start or behind the list.
+-- `replay::Tally::with` meets its contract: it counts an entry, and tells one that ends at its start, before it or behind the list.
 -- Assumes nothing.
 use native.Mathlib.Omega.{arith}
 use borrow.Author.Tests.{le-leb, lt-leb, lt-ltb, le-ltb}
