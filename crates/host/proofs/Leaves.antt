@@ -16,7 +16,7 @@ use Rattle.groups.specs.Rules.{fits}
 use Rattle.kinds.specs.Kinds.{isFloating, isIn, isNeighbour, kindTouching, arrowBlock, blocksTouched, kindAt, kindsOf, has, viewWith, view, block, floatNear, inReach, reach, disturbing, fenceAt, fence}
 use Rattle.literals.specs.Literals.{orElse, reasonIf, firstOf, each, Found}
 use Rattle.units.specs.Units.{reason1At, reason1}
-use Rattle.paths.specs.Paths.{breadthFirst, parent, path, reason2At, reason2}
+use Rattle.paths.specs.Paths.{appended, breadthFirst, parent, path, reason2At, reason2}
 use Rattle.growth.specs.Growth.{mostApart, blockName, reasonGrow, reason3At, gap, reasonShrink, reason4At, reason4aAt, reason4bAt, reason34}
 use Rattle.reasons.specs.Reasons.{findReason, findOn}
 use Rattle.host.specs.Host.{acceptOr, decideBytes, hostFinds}
@@ -76,7 +76,7 @@ pub starred :
     ∷ refused 3
     ∷ refused 2
     ∷ [])
-unfolding range upto filter any all last init tail flatMap member once size cellsOf row col only up down left right neighbours touches rename join joinAll edges labels group names _>>=_ unless bit number field cellCodes there stepFrom stepCells arrowAt filler arrowsAt readRecord valueAt cellsAfter empty square undecided potential decided after afterAll isFloating isIn isNeighbour kindTouching onArrow arrowBlock blocksTouched kindAt kindsOf has viewWith view block floatNear inReach reach disturbing fenceAt fence orElse reasonIf firstOf each reason1At reason1 breadthFirst parent path reason2At reason2 pairsFrom pairs fits mostApart blockName reasonGrow reason3At gap reasonShrink reason4At reason4aAt reason4bAt reason34 findReason
+unfolding range upto filter any all last init tail flatMap member once size cellsOf row col only up down left right neighbours touches rename join joinAll edges labels group names _>>=_ unless bit number field cellCodes there stepFrom stepCells arrowAt filler arrowsAt readRecord valueAt cellsAfter empty square undecided potential decided after afterAll isFloating isIn isNeighbour kindTouching onArrow arrowBlock blocksTouched kindAt kindsOf has viewWith view block floatNear inReach reach disturbing fenceAt fence orElse reasonIf firstOf each reason1At reason1 appended breadthFirst parent path reason2At reason2 pairsFrom pairs fits mostApart blockName reasonGrow reason3At gap reasonShrink reason4At reason4aAt reason4bAt reason34 findReason
 starred = refl
 
 -- S: index 3 gives 7, cell 0 twice 9; find with 9 literals gives 11, with 10 not

@@ -16,8 +16,8 @@ use Rattle.grid.specs.Lists.{any}
 use Rattle.grid.specs.Grid.{Grid, size}
 use Rattle.grid.proofs.ListLaws.{split}
 use Rattle.grid.specs.Cells.{square}
-use Rattle.paths.specs.Paths.{Entry, breadthFirst, parent, path}
-use Rattle.paths.specs.Search.{seen, appended, parentMark, Listing, Room}
+use Rattle.paths.specs.Paths.{Entry, seen, appended, breadthFirst, listFrom, parent, path}
+use Rattle.paths.specs.Search.{parentMark, Listing, Room}
 use Rattle.paths.specs.BreadthFirst.{Listed}
 use Rattle.paths.proofs.Walk.{so-seen, Tree, root, tree-square, tree-length, tree-step}
 use Rattle.paths.proofs.Listings.{room-first}
@@ -118,7 +118,7 @@ pub record Run (g : Grid) (cells : List ℕ) (b : ℕ) (order from : List ℕ) (
   pub start : So (square (take (size g) cells) b)
   pub tree : Tree g (take (size g) cells) (square-below g cells) b start cs
   pub on : t ≤ count
-  pub rest : breadthFirst g (take (size g) cells) (size g - t) (take t cs) (drop t cs) ≡ breadthFirst g (take (size g) cells) (size g) [] ((b, b) ∷ [])
+  pub rest : breadthFirst g (take (size g) cells) (size g - t) (take t cs) (drop t cs) ≡ listFrom g (take (size g) cells) b
 
 module _ (g : Grid) (cells : List ℕ) (b : ℕ) where
   pub run-first : (order from : List ℕ) → length order ≡ 1024 → length from ≡ 1024 → getD cells b 0 ≡ 1 → b < size g → size g ≤ 1024 → ((i : ℕ) → i < size g → getD from i 0 ≡ 1024)
@@ -163,7 +163,7 @@ module _ (g : Grid) (cells : List ℕ) (b : ℕ) where
         }
 
   -- all were taken
-  pub run-done : {order from : List ℕ} {count t : ℕ} → Run g cells b order from count t → count ≤ t → Listing (size g) order from count (breadthFirst g (take (size g) cells) (size g) [] ((b, b) ∷ []))
+  pub run-done : {order from : List ℕ} {count t : ℕ} → Run g cells b order from count t → count ≤ t → Listing (size g) order from count (listFrom g (take (size g) cells) b)
   run-done {order} {from} {count} {t} R h =
       subst (Listing (size g) order from count) (sym (rw (take-all t (R .cs) (omega (arith, h, R .listing .many)), drop-of-length-le (R .cs) {i = t} (omega (arith, h, R .listing .many))) (breadth-done g (take (size g) cells) (size g - t) (R .cs))) ∙ R .rest) (R .listing)
 

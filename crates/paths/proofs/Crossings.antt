@@ -24,7 +24,7 @@ use Rattle.groups.proofs.LabelLaws.{label-test, label-group}
 use Rattle.literals.specs.Literals.{Found, orElse, firstOf}
 use Rattle.paths.specs.Paths.{reason2, reason2At}
 use Rattle.units.specs.Arrays.{firstName}
-use Rattle.paths.specs.Ends.{BlockArrays, Kept, arrowsOf, Firsts, foundWay, SameBlock, Crossing}
+use Rattle.paths.specs.Ends.{BlockArrays, Kept, arrowsOf, Firsts, foundWay, EndsJoined, Crossing}
 use Rattle.units.specs.declared.Name.{Name}
 use Rattle.units.specs.declared.Name.the-variants.{At, Nobody}
 use Rattle.paths.specs.declared.Ends.{Ends}
@@ -170,10 +170,10 @@ module _ (g : Grid) (cells first second : List ℕ) (L : ℕ → List ℕ) (q : 
 
   -- a block with fewer than two, or two
   one-block : (x : ℕ) (l : List ℕ) → l ≡ L x → Two x → (xs : List ℕ)
-      → firstOf (λ f. reason2At g cells (L f)) (filter q xs) ≡ foundWay g cells (endsAt first second (firstName test xs)) → SameBlock g cells (endsAt first second (firstName test xs))
+      → firstOf (λ f. reason2At g cells (L f)) (filter q xs) ≡ foundWay g cells (endsAt first second (firstName test xs)) → EndsJoined g cells (endsAt first second (firstName test xs))
       → (firstOf (λ f. reason2At g cells (L f)) (cond (q x) (x ∷ filter q xs) (filter q xs)) ≡ foundWay g cells (endsAt first second (cond (test x) (At x) (firstName test xs))))
-      × SameBlock g cells (endsAt first second (cond (test x) (At x) (firstName test xs)))
-  unfolding test firstOf reason2At orElse foundWay SameBlock
+      × EndsJoined g cells (endsAt first second (cond (test x) (At x) (firstName test xs)))
+  unfolding test firstOf reason2At orElse foundWay EndsJoined
   one-block x l e T xs ih jh = go (q x) l e
     where
       F : ℕ → Found
@@ -181,7 +181,7 @@ module _ (g : Grid) (cells first second : List ℕ) (L : ℕ → List ℕ) (q : 
 
       go : (b : Bool) (l : List ℕ) → l ≡ L x
           → (firstOf F (cond b (x ∷ filter q xs) (filter q xs)) ≡ foundWay g cells (endsAt first second (cond (b && not (eqb (getD second x 0) 1024)) (At x) (firstName test xs))))
-          × SameBlock g cells (endsAt first second (cond (b && not (eqb (getD second x 0) 1024)) (At x) (firstName test xs)))
+          × EndsJoined g cells (endsAt first second (cond (b && not (eqb (getD second x 0) 1024)) (At x) (firstName test xs)))
       go false l e = (ih, jh)
       go true [] e = rw (T .second-is, ← e) (ih, jh)
       go true (a ∷ []) e = rw (T .second-is, ← e) (ih, jh)
@@ -190,8 +190,8 @@ module _ (g : Grid) (cells first second : List ℕ) (L : ℕ → List ℕ) (q : 
           rw (T .second-is, ← e, ne-eqb b 1024 (λ z. omega (arith, z)), T .first-is, T .second-is, ← e) (refl, T .joined a b (rw (← e) (List·Memᴰ·head refl)) (rw (← e) (List·Memᴰ·tail (List·Memᴰ·head refl))))
 
   all-blocks : (xs : List ℕ) → ((f : ℕ) → List·Memᴰ f xs → Two f)
-      → (firstOf (λ f. reason2At g cells (L f)) (filter q xs) ≡ foundWay g cells (endsAt first second (firstName test xs))) × SameBlock g cells (endsAt first second (firstName test xs))
-  unfolding firstName filter firstOf foundWay SameBlock
+      → (firstOf (λ f. reason2At g cells (L f)) (filter q xs) ≡ foundWay g cells (endsAt first second (firstName test xs))) × EndsJoined g cells (endsAt first second (firstName test xs))
+  unfolding firstName filter firstOf foundWay EndsJoined
   all-blocks [] h = (refl, tt)
   all-blocks (x ∷ xs) h = let r = all-blocks xs (λ f m. h f (List·Memᴰ·tail m)) in one-block x (L x) refl (h x (List·Memᴰ·head refl)) xs (r .0) (r .1)
 

@@ -3,27 +3,26 @@
 use Prim.Native.Nat.{ℕ, _≤_}
 use mathlib.Core.Path.{_≡_, subst}
 use mathlib.Core.List.{List}
-use Rattle.grid.specs.Grid.{size}
 use Rattle.grid.specs.Side.{sized}
 use Rattle.kinds.specs.Inside.{puzzleWith}
 use Rattle.literals.specs.Literals.{each}
 use Rattle.literals.specs.Buffer.{Wrote, FoundAs}
 use Rattle.literals.specs.declared.Finding.the-variants.{Nothing, Reason}
 use Rattle.literals.proofs.Findings.{found-none, wrote-found}
-use Rattle.paths.specs.Paths.{path, reason2}
-use Rattle.paths.specs.Search.{PathEnds, listFrom}
-use Rattle.paths.specs.Ends.{foundWay, SameBlock, Crossing}
+use Rattle.paths.specs.Paths.{way, reason2}
+use Rattle.paths.specs.Search.{PathEnds}
+use Rattle.paths.specs.Ends.{foundWay, EndsJoined, Crossing}
 use Rattle.paths.specs.declared.Ends.{Ends}
 use Rattle.paths.specs.declared.Ends.the-variants.{Between, Nowhere}
 
 module _ (h w : ℕ) (arrows : List (List ℕ)) (cells : List ℕ) {ends : Ends} (c : Crossing (puzzleWith (sized h w) arrows) cells ends) where
   -- the ends of a path are squares of one block
   pub crossing-ends : {a b : ℕ} → ends ≡ Between a b → h ≤ 32 → w ≤ 32 → PathEnds h w cells a b
-  unfolding SameBlock
-  crossing-ends e tall wide = record { tall = tall; wide = wide; joined = subst (SameBlock (sized h w) cells) e (c .joined) }
+  unfolding EndsJoined
+  crossing-ends e tall wide = record { tall = tall; wide = wide; joined = subst (EndsJoined (sized h w) cells) e (c .joined) }
 
   -- the path is the reason
-  pub crossing-found : {a b k : ℕ} {before after : List ℕ} → ends ≡ Between a b → Wrote (each 1 (path (size (sized h w)) (listFrom h w cells b) a b)) before after k
+  pub crossing-found : {a b k : ℕ} {before after : List ℕ} → ends ≡ Between a b → Wrote (each 1 (way (sized h w) cells a b)) before after k
       → FoundAs (reason2 (puzzleWith (sized h w) arrows) cells) before after (Reason k)
   unfolding foundWay
   crossing-found e x = rw (c .reason, e) (wrote-found x)

@@ -17,8 +17,8 @@ use Rattle.grid.proofs.ListLaws.{split, so-false, at-mem}
 use Rattle.grid.proofs.AppendLaws.{filter-more}
 use Rattle.grid.proofs.ArrayLaws.{fewer-set, how-many-le}
 use Rattle.grid.specs.Cells.{square}
-use Rattle.paths.specs.Paths.{Entry}
-use Rattle.paths.specs.Search.{seen, appended, parentMark, unlisted, Listing, wanted, Offered, Room}
+use Rattle.paths.specs.Paths.{Entry, seen, appended}
+use Rattle.paths.specs.Search.{parentMark, unlisted, Listing, wanted, Offered, Room}
 
 -- ---- room
 

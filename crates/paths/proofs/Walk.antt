@@ -20,8 +20,7 @@ use Rattle.grid.specs.Count.{count}
 use Rattle.grid.proofs.Count.{count-except, count-inj-suc, count-le}
 use Rattle.grid.proofs.GridLaws.{adj-sym, apart}
 use Rattle.grid.specs.Cells.{square}
-use Rattle.paths.specs.Paths.{Entry, breadthFirst, parent, path}
-use Rattle.paths.specs.Search.{seen, appended}
+use Rattle.paths.specs.Paths.{Entry, seen, appended, breadthFirst, listFrom, parent, path, way}
 use Rattle.paths.specs.BreadthFirst.{Listed}
 
 pub listed-left : (cs es : List Entry) (x : ℕ) → Listed cs x → Listed (cs ++ es) x
@@ -168,12 +167,12 @@ module _ (g : Grid) (cells : List ℕ)
       (parent-at cs es j p (λ l. n (l .0, List·Memᴰ·tail (l .1))))
 
   -- the whole breadth-first list
-  pub whole-tree : Tree (breadthFirst g cells (size g) [] ((b, b) ∷ []))
+  pub whole-tree : Tree (listFrom g cells b)
   unfolding bfs
   whole-tree = bfs-tree (size g) [] ((b, b) ∷ []) (omega arith) root (λ x k. absurd (List·Memᴰ·not-nil (k .1))) .0
 
   -- a cell of b's block is in it
-  pub whole-listed : (a : ℕ) → Linked (Adjacent g) (λ c. So (square cells c)) b a → Listed (breadthFirst g cells (size g) [] ((b, b) ∷ [])) a
+  pub whole-listed : (a : ℕ) → Linked (Adjacent g) (λ c. So (square cells c)) b a → Listed (listFrom g cells b) a
   unfolding bfs
   whole-listed a l =
       let w = bfs-tree (size g) [] ((b, b) ∷ []) (omega arith) root (λ x k. absurd (List·Memᴰ·not-nil (k .1))) in
@@ -208,15 +207,15 @@ module _ (g : Grid) (cells : List ℕ)
 
   module _ (F : ℕ → Type 0) where
     -- the way by parents, where each of its cells is a square of the filling
-    way : {cs : List Entry} → Tree cs → (es : List Entry) (k x : ℕ) → length cs ≤ k → Listed cs x
+    way-linked : {cs : List Entry} → Tree cs → (es : List Entry) (k x : ℕ) → length cs ≤ k → Listed cs x
         → ((y : ℕ) → List·Memᴰ y (path k (cs ++ es) x b) → F y) → Linked (Adjacent g) F x b
     unfolding path
-    way root es zero x l lx f = absurd (omega arith)
-    way root es (suc k) x l lx f =
+    way-linked root es zero x l lx f = absurd (omega arith)
+    way-linked root es (suc k) x l lx f =
         let e : x ≡ b = listed-one (b, b) x lx in
         subst (λ z. Linked (Adjacent g) F z b) (sym e) (here (f b (rw (eq-eqb x b e) (List·Memᴰ·head (sym e)))))
-    way (grow {cs} j p t lp ad s n) es k x l lx f = go k l f (listed-cases cs ((j, p) ∷ []) x lx)
-        (λ k x l lx f. way t ((j, p) ∷ es) k x l lx f)
+    way-linked (grow {cs} j p t lp ad s n) es k x l lx f = go k l f (listed-cases cs ((j, p) ∷ []) x lx)
+        (λ k x l lx f. way-linked t ((j, p) ∷ es) k x l lx f)
       where
         IH : Type 0
         IH = (k x : ℕ) → length cs ≤ k → Listed cs x → ((y : ℕ) → List·Memᴰ y (path k (cs ++ ((j, p) ∷ es)) x b) → F y) → Linked (Adjacent g) F x b
@@ -246,11 +245,11 @@ module _ (g : Grid) (cells : List ℕ)
 
     -- where all cells of the path satisfy F, a and b are linked by F
     pub path-linked : (a : ℕ) → Linked (Adjacent g) (λ c. So (square cells c)) b a
-        → ((y : ℕ) → List·Memᴰ y (path (size g) (breadthFirst g cells (size g) [] ((b, b) ∷ [])) a b) → F y) → Linked (Adjacent g) F a b
+        → ((y : ℕ) → List·Memᴰ y (way g cells a b) → F y) → Linked (Adjacent g) F a b
     unfolding bfs
     path-linked a l f =
         let R = bfs (size g) [] ((b, b) ∷ []) in
-        way whole-tree [] (size g) a (tree-length whole-tree) (whole-listed a l) (subst (λ z. (y : ℕ) → List·Memᴰ y (path (size g) z a b) → F y) (sym (append-nil R)) f)
+        way-linked whole-tree [] (size g) a (tree-length whole-tree) (whole-listed a l) (subst (λ z. (y : ℕ) → List·Memᴰ y (path (size g) z a b) → F y) (sym (append-nil R)) f)
 
   -- each cell of the way is listed
   way-in : {cs : List Entry} → Tree cs → (es : List Entry) (k x : ℕ) → Listed cs x → (y : ℕ) → List·Memᴰ y (path k (cs ++ es) x b) → Listed cs y
@@ -295,7 +294,7 @@ module _ (g : Grid) (cells : List ℕ)
 
   -- all cells of the path are squares
   pub path-square : (a : ℕ) → Linked (Adjacent g) (λ c. So (square cells c)) b a
-      → (y : ℕ) → List·Memᴰ y (path (size g) (breadthFirst g cells (size g) [] ((b, b) ∷ [])) a b) → So (square cells y)
+      → (y : ℕ) → List·Memᴰ y (way g cells a b) → So (square cells y)
   unfolding bfs
   path-square a l y m =
       let R = bfs (size g) [] ((b, b) ∷ []) in

@@ -10,7 +10,7 @@ use Rattle.grid.specs.Grid.{Grid, size}
 use Rattle.grid.specs.Cells.{square, word}
 use Rattle.groups.specs.Groups.{Joined}
 use Rattle.grid.proofs.LinkLaws.{linked-start}
-use Rattle.paths.specs.Paths.{Entry, breadthFirst, parent, path}
+use Rattle.paths.specs.Paths.{Entry, listFrom, parent, path}
 use Rattle.literals.specs.Literals.{each}
 use Rattle.literals.specs.Buffer.{Wrote}
 use Rattle.paths.specs.Search.{Listing}
@@ -22,7 +22,7 @@ use Rattle.paths.proofs.Breadth.{square-below, mark-parent, path-end, p
 module _ (g : Grid) (cells : List ℕ) (b : ℕ) where
   -- the breadth-first list from b
   abbrev pub whole : List Entry
-  whole = breadthFirst g (take (size g) cells) (size g) [] ((b, b) ∷ [])
+  whole = listFrom g (take (size g) cells) b
 
   -- the path from a is written up to the cell x, which is still to come
   pub record Way (a : ℕ) (before after : List ℕ) (x k : ℕ) : Type 0 where

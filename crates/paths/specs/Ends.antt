@@ -3,12 +3,12 @@
 use Prim.Native.Nat.{ℕ, _*_, _<_}
 use mathlib.Core.Path.{_≡_}
 use mathlib.Core.Bool.{cond, _&&_, not}
-use mathlib.Core.List.{List, [], _∷_}
+use mathlib.Core.List.{List}
 use mathlib.Core.Option.{none, some}
 use lib.Dec.{eqb}
 use lib.ListN.{length, getD, set, take}
 use Rattle.grid.specs.Lists.{filter, upto}
-use Rattle.grid.specs.Grid.{Grid, size}
+use Rattle.grid.specs.Grid.{Grid}
 use Rattle.grid.specs.Side.{sized}
 use Rattle.record.specs.Record.{Puzzle}
 use Rattle.grid.specs.Cells.{square}
@@ -16,7 +16,7 @@ use Rattle.groups.specs.Groups.{Joined}
 use Rattle.groups.specs.Arrays.{labelArray, maskOf}
 use Rattle.groups.specs.Arrows.{onArrow}
 use Rattle.literals.specs.Literals.{Found, each}
-use Rattle.paths.specs.Paths.{breadthFirst, path, reason2}
+use Rattle.paths.specs.Paths.{way, reason2}
 use Rattle.paths.specs.declared.Ends.{Ends}
 use Rattle.kinds.specs.Inside.{puzzleWith}
 use Rattle.paths.specs.declared.Ends.the-variants.{Between, Nowhere}
@@ -46,17 +46,17 @@ pub record Firsts (blocks onarrow : List ℕ) (n i : ℕ) (first second : List �
 -- the reason with the path from a to b
 unfoldable pub foundWay : Grid → List ℕ → Ends → Found
 foundWay g cells Nowhere = none
-foundWay g cells (Between a b) = some (each 1 (path (size g) (breadthFirst g cells (size g) [] ((b, b) ∷ [])) a b))
+foundWay g cells (Between a b) = some (each 1 (way g cells a b))
 
 -- a and b, if there are any, are squares of one block
-unfoldable pub SameBlock : Grid → List ℕ → Ends → Type 0
-SameBlock g cells Nowhere = Unit {0}
-SameBlock g cells (Between a b) = Joined g (square cells) b a
+unfoldable pub EndsJoined : Grid → List ℕ → Ends → Type 0
+EndsJoined g cells Nowhere = Unit {0}
+EndsJoined g cells (Between a b) = Joined g (square cells) b a
 
 -- the ends of the path of reason 2
 pub record Crossing (p : Puzzle) (cells : List ℕ) (ends : Ends) : Type 0 where
   pub reason : reason2 p cells ≡ foundWay (p .grid) cells ends
-  pub joined : SameBlock (p .grid) cells ends
+  pub joined : EndsJoined (p .grid) cells ends
 
 -- the blocks are those of some arrows
 pub record Blocked (h w : ℕ) (cells blocks onarrow : List ℕ) : Type 0 where

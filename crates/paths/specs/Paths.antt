@@ -1,7 +1,7 @@
 -- Reason 2: a block with two or more arrow cells, and the path between the first two.
 -- Assumes nothing.
 use Prim.Native.Nat.{ℕ, zero, suc}
-use mathlib.Core.Bool.{cond, _&&_, not}
+use mathlib.Core.Bool.{Bool, cond, _&&_, not}
 use mathlib.Core.List.{List, [], _∷_, _++_, map}
 use mathlib.Core.Option.{none, some}
 use lib.Dec.{eqb}
@@ -17,15 +17,23 @@ use Rattle.literals.specs.Literals.{Found, firstOf, each}
 abbrev pub Entry : Type 0
 Entry = ℕ × ℕ
 
--- the breadth-first list, each cell with its parent, after k turns: done had theirs, todo are listed and wait. As many turns as the grid has
--- cells are enough (reasons/proofs/BreadthFirstLaws.antt)
+-- cell j is listed
+abbrev pub seen : List Entry → ℕ → Bool
+seen cs j = any (λ (d : Entry). eqb (d .0) j) cs
+
+-- what the cell c of the list cs appends: its square neighbours not yet listed, with c as their parent
+unfoldable pub appended : Grid → List ℕ → List Entry → ℕ → List Entry
+appended g cells cs c = map (λ j. (j, c)) (filter (λ j. square cells j && not (seen cs j)) (neighbours g c))
+
+-- the breadth-first list, each cell with its parent, after k turns: done had theirs, todo are listed and wait
 unfoldable pub breadthFirst : Grid → List ℕ → ℕ → List Entry → List Entry → List Entry
 breadthFirst g cells zero done todo = done ++ todo
 breadthFirst g cells (suc k) done [] = done
-breadthFirst g cells (suc k) done (c ∷ todo) =
-    breadthFirst g cells k (done ++ (c ∷ []))
-    (todo ++ map (λ j. (j, c .0))
-    (filter (λ j. square cells j && not (any (λ (d : Entry). eqb (d .0) j) (done ++ (c ∷ todo)))) (neighbours g (c .0))))
+breadthFirst g cells (suc k) done (c ∷ todo) = breadthFirst g cells k (done ++ (c ∷ [])) (todo ++ appended g cells (done ++ (c ∷ todo)) (c .0))
+
+-- the list that starts at b. As many turns as the grid has cells are enough (reasons/proofs/BreadthFirstLaws.antt)
+abbrev pub listFrom : Grid → List ℕ → ℕ → List Entry
+listFrom g cells b = breadthFirst g cells (size g) [] ((b, b) ∷ [])
 
 -- the parent of cell i
 unfoldable pub parent : List Entry → ℕ → ℕ
@@ -37,11 +45,15 @@ unfoldable pub path : ℕ → List Entry → ℕ → ℕ → List ℕ
 path zero cs a b = a ∷ []
 path (suc k) cs a b = cond (eqb a b) (a ∷ []) (a ∷ path k cs (parent cs a) b)
 
+-- the path from a to b
+abbrev pub way : Grid → List ℕ → ℕ → ℕ → List ℕ
+way g cells a b = path (size g) (listFrom g cells b) a b
+
 -- a block's arrow cells, the first two being a and b
 unfoldable pub reason2At : Grid → List ℕ → List ℕ → Found
 reason2At g cells [] = none
 reason2At g cells (a ∷ []) = none
-reason2At g cells (a ∷ b ∷ rest) = some (each 1 (path (size g) (breadthFirst g cells (size g) [] ((b, b) ∷ [])) a b))
+reason2At g cells (a ∷ b ∷ rest) = some (each 1 (way g cells a b))
 
 module _ (p : Puzzle) (cells : List ℕ) where
   -- the lowest numbered block that gives a reason

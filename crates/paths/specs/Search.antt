@@ -2,24 +2,15 @@
 -- Assumes nothing.
 use Prim.Native.Nat.{ℕ, _+_, _*_, _≤_, _<_}
 use mathlib.Core.Path.{_≡_}
-use mathlib.Core.Bool.{Bool, cond, _&&_, not}
+use mathlib.Core.Bool.{Bool, cond, _&&_}
 use mathlib.Core.List.{List, [], _∷_, _++_, map, List·Memᴰ}
 use lib.Dec.{eqb}
 use lib.ListN.{length, getD, take, set}
-use Rattle.grid.specs.Lists.{any, filter, howMany}
-use Rattle.grid.specs.Grid.{Grid, size, neighbours}
+use Rattle.grid.specs.Lists.{howMany}
 use Rattle.grid.specs.Side.{sized}
 use Rattle.grid.specs.Cells.{square}
 use Rattle.groups.specs.Groups.{Joined}
-use Rattle.paths.specs.Paths.{Entry, breadthFirst}
-
--- cell j is in the breadth-first list
-abbrev pub seen : List Entry → ℕ → Bool
-seen cs j = any (λ (d : Entry). eqb (d .0) j) cs
-
--- what the cell c of the breadth-first list cs appends: its square neighbours not yet listed, with c as their parent
-unfoldable pub appended : Grid → List ℕ → List Entry → ℕ → List Entry
-appended g cells cs c = map (λ j. (j, c)) (filter (λ j. square cells j && not (seen cs j)) (neighbours g c))
+use Rattle.paths.specs.Paths.{Entry, appended}
 
 -- the parent of cell i, or 1024 if it is not listed
 unfoldable pub parentMark : List Entry → ℕ → ℕ
@@ -60,10 +51,6 @@ pub record ListedBeside (h w : ℕ) (cells : List ℕ) (t : ℕ) (order from : L
   pub list : (cs : List Entry) → Listing (h * w) order from count cs → Listing (h * w) order′ from′ r (cs ++ appended (sized h w) cells cs (getD order t 0))
   pub room : Room order′ from′ r
   pub more : count ≤ r
-
--- the breadth-first list from b
-abbrev pub listFrom : ℕ → ℕ → List ℕ → ℕ → List Entry
-listFrom h w cells b = breadthFirst (sized h w) cells (size (sized h w)) [] ((b, b) ∷ [])
 
 -- a and b are squares of one block
 pub record PathEnds (h w : ℕ) (cells : List ℕ) (a b : ℕ) : Type 0 where

@@ -12,12 +12,12 @@ ghost use Rattle.grid.specs.Grid.{size};
 ghost use Rattle.grid.specs.Side.{InGrid, sized};
 ghost use Rattle.record.specs.Record.{Puzzle};
 ghost use Rattle.literals.specs.Literals.{each};
-ghost use Rattle.paths.specs.Paths.{reason2, path};
+ghost use Rattle.paths.specs.Paths.{listFrom, way, reason2};
 ghost use Rattle.literals.specs.Buffer.{Wrote, Fit, FoundAs};
 ghost use Rattle.units.specs.Arrays.{Listed, firstName};
 ghost use Rattle.paths.specs.Ends.{BlockArrays, Kept, Firsts, Crossing, Blocked};
 ghost use Rattle.kinds.specs.Inside.{puzzleWith, Given};
-ghost use Rattle.paths.specs.Search.{Offered, Room, ListedBeside, Listing, listFrom, PathEnds};
+ghost use Rattle.paths.specs.Search.{Offered, Room, ListedBeside, Listing, PathEnds};
 
 // The first two arrow cells of a block that has two or more.
 pub enum Ends {
@@ -96,7 +96,7 @@ fn breadth_first(
     order: &mut [u16; 1024],
 ) -> usize
     requires { ⌜ InGrid h w b × (getD (now cells) b 0 ≡ 1) × (length (now order) ≡ 1024) × (length (now from) ≡ 1024) ⌝ }
-    ensures { λ r. ⌜ Listing (h * w) (now (order .exit)) (now (from .exit)) r (listFrom h w (take (h * w) (now (cells .entry))) b) ⌝ }
+    ensures { λ r. ⌜ Listing (h * w) (now (order .exit)) (now (from .exit)) r (listFrom (sized h w) (take (h * w) (now (cells .entry))) b) ⌝ }
 {
     reset(from, h * w);
     from[b] = b as u16;
@@ -122,7 +122,7 @@ fn reason_for_path(
     buffer: &mut [u16],
 ) -> usize
     requires { ⌜ PathEnds h w (take (h * w) (now cells)) a b × (length (now order) ≡ 1024) × (length (now from) ≡ 1024) × (h * w ≤ length (now buffer)) ⌝ }
-    ensures { λ r. ⌜ Wrote (each 1 (path (size (sized h w)) (listFrom h w (take (h * w) (now (cells .entry))) b) a b)) (now (buffer .entry)) (now (buffer .exit)) r ⌝ }
+    ensures { λ r. ⌜ Wrote (each 1 (way (sized h w) (take (h * w) (now (cells .entry))) a b)) (now (buffer .entry)) (now (buffer .exit)) r ⌝ }
     ensures { λ _. ⌜ (length (now (order .exit)) ≡ 1024) × (length (now (from .exit)) ≡ 1024) ⌝ }
 {
     breadth_first(cells, h, w, b, from, order);

@@ -16,9 +16,8 @@ use Rattle.grid.specs.Link.{Linked}
 use Rattle.grid.proofs.ListLaws.{dec-so, so-false, and-true, true-and, not-so, so-not}
 use Rattle.grid.proofs.GridLaws.{apart}
 use Rattle.grid.specs.Cells.{Literal, square}
-use Rattle.paths.specs.Paths.{Entry, breadthFirst, parent, path}
+use Rattle.paths.specs.Paths.{Entry, seen, appended, breadthFirst, listFrom, parent, path}
 use Rattle.literals.specs.Literals.{each}
-use Rattle.paths.specs.Search.{seen, appended}
 use Rattle.paths.specs.BreadthFirst.{Listed, Appends, through, append, pass, Builds, built, turn, BreadthFirst, Runs, arrived, onward, ByParents}
 use Rattle.paths.proofs.Walk.{seen-so, so-seen, listed-left, listed-cases, listed-one, Tree, root, grow, tree-square, tree-length, tree-step, whole-tree, whole-listed, Early, parent-early}
 
@@ -84,7 +83,7 @@ module _ (g : Grid) (cells : List ℕ)
     (sq< : (c : ℕ) → So (square cells c) → c < size g) (b : ℕ) (sb : So (square cells b)) where
   -- the breadth-first list from b, as it is computed
   abbrev whole : List Entry
-  whole = breadthFirst g cells (size g) [] ((b, b) ∷ [])
+  whole = listFrom g cells b
 
   builds : (k : ℕ) (done todo : List Entry) → k + length done ≡ size g → Tree g cells sq< b sb (done ++ todo) → Builds g cells done todo (breadthFirst g cells k done todo)
   unfolding breadthFirst appended

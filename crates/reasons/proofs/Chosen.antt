@@ -28,7 +28,7 @@ use Rattle.groups.specs.Rules.{SameBlock}
 use Rattle.groups.proofs.GroupLaws.{group-mem, mem-group, group-rising, names-rising, names-own, own-names, label-linked, linked-label, label-own, label-least, linked-size}
 use Rattle.literals.specs.Literals.{Found, reasonIf, orElse, firstOf, each}
 use Rattle.units.specs.Units.{boundary, reason1At, reason1}
-use Rattle.paths.specs.Paths.{breadthFirst, path, reason2At, reason2}
+use Rattle.paths.specs.Paths.{way, reason2At, reason2}
 use Rattle.paths.specs.BreadthFirst.{ByParents}
 use Rattle.units.specs.Chosen.{SamePotential, Stranded, Boundary, Reason1}
 use Rattle.paths.specs.Chosen.{Crossed, Reason2}
@@ -259,10 +259,6 @@ module _ (p : Puzzle) (cells : List ℕ) (long : length cells ≡ size (p .grid)
   square< : (c : ℕ) → So (square cells c) → c < size grid
   square< c s = omega (arith, sq-below cells c s, long)
 
-  -- the computed way from a by parents to b
-  abbrev wayTo : ℕ → ℕ → List ℕ
-  wayTo a b = path (size grid) (breadthFirst grid cells (size grid) [] ((b, b) ∷ [])) a b
-
   -- the blocks' numbers
   abbrev blocks : List ℕ
   blocks = names grid (square cells) (labels grid (square cells))
@@ -343,10 +339,10 @@ module _ (p : Puzzle) (cells : List ℕ) (long : length cells ≡ size (p .grid)
       go (a ∷ []) q e = absurd (let z : _≡_ {A = ℕ} 0 1 = cc in omega arith)
       go (a ∷ b ∷ rest) q e =
           let c = crossed-of f m a b rest q in
-          let way : each 1 (wayTo a b) ≡ r = cc in
-          ((a, b, c), (a, b, c, subst (ByParents grid cells a b) way (path-by-parents grid cells square< b (linked-start (across c)) a (across c))))
+          let e : each 1 (way grid cells a b) ≡ r = cc in
+          ((a, b, c), (a, b, c, subst (ByParents grid cells a b) e (path-by-parents grid cells square< b (linked-start (across c)) a (across c))))
 
-  crossed-gives : (f a b : ℕ) → Crossed p cells f a b → List·Memᴰ f blocks × (reason2At grid cells (arrowCells f) ≡ some (each 1 (wayTo a b)))
+  crossed-gives : (f a b : ℕ) → Crossed p cells f a b → List·Memᴰ f blocks × (reason2At grid cells (arrowCells f) ≡ some (each 1 (way grid cells a b)))
   unfolding reason2At
   crossed-gives f a b c =
       let h = linked-start (c .one .0) in
@@ -354,7 +350,7 @@ module _ (p : Puzzle) (cells : List ℕ) (long : length cells ≡ size (p .grid)
       (m, ap (reason2At grid cells) (of-crossed f m a b c .1))
 
   reason2-given : (f : ℕ) → HasTwo f → List·Memᴰ f blocks × ((r : List Literal) × (reason2At grid cells (arrowCells f) ≡ some r))
-  reason2-given f (a, b, c) = let v = crossed-gives f a b c in (v .0, (each 1 (wayTo a b), v .1))
+  reason2-given f (a, b, c) = let v = crossed-gives f a b c in (v .0, (each 1 (way grid cells a b), v .1))
 
   reason2-only : (f : ℕ) (r : List Literal) → HasTwo f → WayBetween f r → reason2At grid cells (arrowCells f) ≡ some r
   reason2-only f r _ (a, b, c, w) = crossed-gives f a b c .1 ∙ ap some (sym (by-parents-only grid cells square< b (linked-start (across c)) a (across c) r w))

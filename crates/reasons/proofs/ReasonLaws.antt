@@ -22,7 +22,7 @@ use Rattle.groups.specs.Arrows.{onArrow, Pair, pairs}
 use Rattle.kinds.specs.Kinds.{View, view, viewWith}
 use Rattle.literals.proofs.Pass.{each-length}
 use Rattle.units.specs.Units.{reason1At, reason1}
-use Rattle.paths.specs.Paths.{Entry, reason2At, reason2, path, parent, breadthFirst}
+use Rattle.paths.specs.Paths.{Entry, reason2At, reason2, path, parent, listFrom, way}
 use Rattle.literals.specs.Literals.{Found, orElse, reasonIf, firstOf, each}
 use Rattle.growth.specs.Growth.{blockName, reasonGrow, reason3At, gap, reasonShrink, reason4At, reason4aAt, reason4bAt, reason34}
 use Rattle.reasons.specs.Reasons.{findReason}
@@ -93,8 +93,7 @@ module _ (p : Puzzle) (cells : List ℕ) where
       at [] = none-short (bound g)
       at (a ∷ []) = none-short (bound g)
       at (a ∷ b ∷ c) =
-          let way : List ℕ = path (size g) (breadthFirst g cells (size g) [] ((b, b) ∷ [])) a b in
-          some-short (bound g) (each 1 way) (rw each-length (omega (arith, path-length (size g) (breadthFirst g cells (size g) [] ((b, b) ∷ [])) a b)))
+          some-short (bound g) (each 1 (way g cells a b)) (rw each-length (omega (arith, path-length (size g) (listFrom g cells b) a b)))
 
 -- a pair whose gap is no longer than the grid is large
 module _ (v : View) (e : Pair) (h : length (e .between) ≤ size (v .grid)) where

@@ -10,7 +10,7 @@ use borrow.Author.Tests.{eq-eqb}
 use mathlib.Core.Logic.{_≢_}
 use Rattle.grid.specs.Lists.{Distinct, filter}
 use Rattle.grid.proofs.ListLaws.{filter-mem, distinct-filter}
-use Rattle.grid.specs.Grid.{Grid, size}
+use Rattle.grid.specs.Grid.{Grid}
 use Rattle.grid.proofs.LinkLaws.{linked-start}
 use Rattle.grid.specs.Cells.{Literal, square, Agrees}
 use Rattle.groups.proofs.GroupLaws.{group-mem, group-distinct}
@@ -22,7 +22,7 @@ use Rattle.kinds.specs.Meaning.{PartialBoard, Block, Setting, partialOf}
 use Rattle.reasons.proofs.First.{agrees-each, first-some}
 use Rattle.reasons.proofs.Plain.{RulesAt}
 use Rattle.literals.specs.Literals.{each}
-use Rattle.paths.specs.Paths.{reason2At, reason2, path, breadthFirst}
+use Rattle.paths.specs.Paths.{reason2At, reason2, way}
 use Rattle.paths.proofs.Walk.{path-linked}
 
 module _ (set : Setting) where
@@ -42,10 +42,6 @@ module _ (set : Setting) where
   abbrev pub blockOf : ℕ → List ℕ
   blockOf f = group grid (square cells) (labels grid (square cells)) f
 
-  -- the path of reason 2
-  abbrev pub way : ℕ → ℕ → List ℕ
-  way a b = path (size grid) (breadthFirst grid cells (size grid) [] ((b, b) ∷ [])) a b
-
   -- what reason 2 gives
   pub record Two (r : List Literal) : Type 0 where
     pub a : ℕ
@@ -54,7 +50,7 @@ module _ (set : Setting) where
     pub arrow-b : OnArrow arrows b
     pub differ : a ≢ b
     pub joined : Block B b a
-    pub is : r ≡ each 1 (way a b)
+    pub is : r ≡ each 1 (way grid cells a b)
 
   none-two : {r : List Literal} → reason2At grid cells [] ≡ some r → ⊥
   unfolding reason2At
@@ -64,7 +60,7 @@ module _ (set : Setting) where
   unfolding reason2At
   one-two a k = let z : _≡_ {A = ℕ} 0 1 = cc in omega arith
 
-  two-two : {r : List Literal} (a b : ℕ) (rest : List ℕ) → reason2At grid cells (a ∷ b ∷ rest) ≡ some r → r ≡ each 1 (way a b)
+  two-two : {r : List Literal} (a b : ℕ) (rest : List ℕ) → reason2At grid cells (a ∷ b ∷ rest) ≡ some r → r ≡ each 1 (way grid cells a b)
   unfolding reason2At
   two-two a b rest k = cc
 
@@ -98,7 +94,7 @@ module _ (set : Setting) where
   unfolding square
   reason2-sound r e full ag rules =
       let w = two-of r e in
-      let ag′ : Agrees full (each 1 (way (w .a) (w .b))) = subst (Agrees full) (w .is) ag in
+      let ag′ : Agrees full (each 1 (way grid cells (w .a) (w .b))) = subst (Agrees full) (w .is) ag in
       w .differ (rules .one (w .a) (w .b) (w .arrow-a) (w .arrow-b)
       (path-linked grid cells (sq< set) (w .b) (linked-start (w .joined)) (λ c. So (square full c)) (w .a) (w .joined)
-      (λ y m. eq-eqb _ _ (agrees-each full 1 (way (w .a) (w .b)) ag′ y m))))
+      (λ y m. eq-eqb _ _ (agrees-each full 1 (way grid cells (w .a) (w .b)) ag′ y m))))

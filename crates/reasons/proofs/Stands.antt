@@ -24,10 +24,10 @@ use Rattle.kinds.specs.Kinds.{View, view, viewWith, block, reach, fence, fenceA
 use Rattle.kinds.proofs.Fence.{block-in}
 use Rattle.reasons.proofs.Sound34.{curCell, lastCell, shrinkLiterals, Placed, Spot, Told34, no-shift, too-few, too-many, told-34, pair}
 use Rattle.reasons.proofs.First.{reason-if-some, or-else-some, first-some}
-use Rattle.reasons.proofs.Sound2.{way, two-of}
+use Rattle.reasons.proofs.Sound2.{two-of}
 use Rattle.literals.specs.Literals.{each}
 use Rattle.units.specs.Units.{reason1At, reason1}
-use Rattle.paths.specs.Paths.{reason2}
+use Rattle.paths.specs.Paths.{way, reason2}
 use Rattle.growth.specs.Growth.{blockName as viewName, reasonGrow, reason34}
 use Rattle.reasons.specs.Reasons.{findReason}
 use Rattle.paths.proofs.Walk.{path-square}
@@ -140,7 +140,7 @@ module _ (set : Setting) where
   stand-2 : (r : List Literal) → reason2 puzzle cells ≡ some r → Stands r
   stand-2 r e =
       let w = two-of set r e in
-      subst Stands (sym (w .is)) (stand-each 1 (way set (w .a) (w .b)) (λ y m. sq-one y
+      subst Stands (sym (w .is)) (stand-each 1 (way (set .puzzle .grid) (set .cells) (w .a) (w .b)) (λ y m. sq-one y
       (path-square grid cells (sq< set) (w .b) (linked-start (w .joined)) (w .a) (w .joined) y m)))
 
   stand-1 : (r : List Literal) → reason1 puzzle cells ≡ some r → Stands r

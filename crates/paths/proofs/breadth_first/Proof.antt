@@ -2,7 +2,7 @@
 -- Assumes nothing.
 use Rattle.grid.proofs.SideLaws.{area}
 use mathlib.Core.Path.{_∙_}
-use Prim.Native.Nat.{_*_, _-_, _<_}
+use Prim.Native.Nat.{_*_, _-_}
 use native.Mathlib.Omega.{arith}
 use borrow.Author.Needs.{needs}
 use Rattle.grid.specs.Grid.{size}

@@ -1,7 +1,7 @@
 -- `paths::keep_arrow_cells` meets its contract: the first two arrow cells of each block among the cells passed are kept.
 -- Assumes nothing.
 use mathlib.Core.Path.{_≡_, subst, _∙_}
-use Prim.Native.Nat.{ℕ, _-_, _≤_, _<_}
+use Prim.Native.Nat.{ℕ, _-_, _≤_}
 use native.Mathlib.Omega.{arith}
 use Rattle.paths.specs.Ends.{Firsts}
 use Rattle.paths.proofs.Breadth.{fill-length, fill-at}
