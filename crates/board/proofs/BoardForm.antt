@@ -13,6 +13,7 @@ use borrow.Author.Tests.{eqb-true, eq-eqb, leb-true, le-leb, ne-eqb}
 use Rattle.grid.specs.Lists.{all, any, member, upto, arrayOf, Distinct}
 use Rattle.grid.specs.Grid.{Grid, size}
 use Rattle.grid.proofs.ListLaws.{and-true, true-and, dec-so, so-false, mem-member, member-mem, all-mem, mem-all, mem-upto, upto-mem, at-mem}
+use Rattle.grid.proofs.AppendLaws.{eqb-sym}
 use Rattle.grid.proofs.ArrayLaws.{array-length, array-take, array-in}
 use Rattle.grid.proofs.GridLaws.{size-most}
 use Rattle.record.specs.Record.{Puzzle}
@@ -49,13 +50,6 @@ valued-at f (j ∷ l) i = go (dec-so (eqb j i)) (valued-at f l i)
     go : Dec (So (eqb j i)) → valueAt (valued f l) i ≡ cond (any (eqb i) l) (f i) 2 → cond (eqb j i) (f j) (valueAt (valued f l) i) ≡ cond (eqb i j || any (eqb i) l) (f i) 2
     go (yes e) ih = rw (e, eq-eqb i j (sym (eqb-true j i e))) (ap f (eqb-true j i e))
     go (no h) ih = rw (so-false (eqb j i) h, ne-eqb i j (λ e. h (eq-eqb j i (sym e)))) ih
-
-eqb-sym : (a b : ℕ) → eqb a b ≡ eqb b a
-eqb-sym a b = go (dec-so (eqb b a))
-  where
-    go : Dec (So (eqb b a)) → eqb a b ≡ eqb b a
-    go (yes e) = rw (e, eq-eqb a b (sym (eqb-true b a e))) refl
-    go (no h) = rw (so-false (eqb b a) h, ne-eqb a b (λ e. h (eq-eqb b a (sym e)))) refl
 
 -- a cell is decided when it is listed
 pub decided-listed : (ds : List Literal) (i : ℕ) → decided ds i ≡ member i (map index ds)

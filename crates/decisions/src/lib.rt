@@ -5,9 +5,9 @@ ghost use mathlib.Core.List.{List};
 ghost use Prim.Native.Nat.{ℕ, _≤_};
 ghost use lib.Dec.{eqb, leb};
 ghost use lib.ListN.{length, take};
-ghost use Rattle.grid.specs.Lists.{all, upto};
+ghost use Rattle.grid.specs.Lists.{all, upto, member};
+ghost use Rattle.grid.specs.Marks.{Marks};
 ghost use Rattle.form.specs.Form.{shown, stated, ordered};
-ghost use Rattle.form.specs.Inside.{Marks};
 
 // Whether the state v is right for a cell with this mark: empty or square where it is marked, else undecided.
 fn right(mark: u8, v: u8) -> bool
@@ -22,7 +22,7 @@ fn right(mark: u8, v: u8) -> bool
 // Whether just the marked cells of the first n are decided.
 fn all_right<'a>(cells: &'a [u8; 1024], marks: &'a [u8; 1024], n: usize) -> bool
     requires { ⌜ n ≤ 1024 ⌝ }
-    ensures { λ r. ⌜ ((listed : List ℕ) → Marks listed (now (marks .entry)) → r ≡ all (shown listed (now (cells .entry))) (upto n)) ⌝ }
+    ensures { λ r. ⌜ ((listed : List ℕ) → Marks (now (marks .entry)) (λ i. member i listed) → r ≡ all (shown listed (now (cells .entry))) (upto n)) ⌝ }
 {
     let mut good = true;
     let mut i = 0;

@@ -21,12 +21,12 @@ use Rattle.grid.proofs.AppendLaws.{same-test, any-agree, filter-agree, member-f
 use Rattle.record.specs.Record.{Puzzle}
 use Rattle.grid.specs.Cells.{Literal, empty, square, undecided, word}
 use Rattle.groups.specs.Groups.{labels}
+use Rattle.groups.proofs.MarkLaws.{mask-test}
 use Rattle.kinds.specs.Kinds.{Kind, vacant, barrier, floating, inBlock, neighbour, kindTouching, blocksTouched, kindAt, isIn, has, View, view, viewWith, inReach, reach, disturbing, fenceAt, fence}
 use Rattle.kinds.specs.Arrays.{kindCode, ownerBy, reachMask}
 use Rattle.kinds.specs.Inside.{puzzleWith, Held}
 use Rattle.fence.specs.Inside.{litAt, Ordered, ofBlock, inDisturbing, touched, adds, Fenced}
 use Rattle.fence.proofs.Fences.{addsAmong}
-use Rattle.kinds.proofs.Filled.{mask-test}
 use Rattle.kinds.proofs.BlockArrays.{in-by, kind-get}
 use Rattle.reach.proofs.Reaches.{code-get, owner-get}
 

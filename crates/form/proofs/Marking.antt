@@ -11,34 +11,24 @@ use mathlib.Core.List.{List, [], _∷_}
 use lib.Dec.{eqb, ltb}
 use lib.ListN.{length, getD, set, take, drop, length-set, drop-of-length-le}
 use lib.Seq.{drop-cons, take-suc, take-all, getD-set-same, getD-set-other}
-use borrow.Author.Tests.{eq-eqb, ne-eqb, lt-ltb, le-ltb}
+use borrow.Author.Tests.{ne-eqb, lt-ltb, le-ltb}
 use Rattle.grid.specs.Lists.{any, member}
+use Rattle.grid.specs.Marks.{Marks}
 use Rattle.grid.proofs.AppendLaws.{member-more}
+use Rattle.grid.proofs.MarkLaws.{marks-next, mark-zero, mark-other}
 use Rattle.form.specs.Form.{fresh}
-use Rattle.form.specs.Inside.{Blank, Marks, RowStarts}
-
--- one more mark
-marks-more : {listed l : List ℕ} → Marks listed l → (i : ℕ) → i < 1024 → Marks (i ∷ listed) (set l i 1)
-unfolding member any
-marks-more {listed} {l} m i h = record { long = length-set l i 1 ∙ m .long; each = each }
-  where
-    each : (j : ℕ) → j < 1024 → getD (set l i 1) j 0 ≡ cond (eqb j i || any (eqb j) listed) 1 0
-    each j k = go (ℕ-discrete j i)
-      where
-        go : Dec (j ≡ i) → getD (set l i 1) j 0 ≡ cond (eqb j i || any (eqb j) listed) 1 0
-        go (yes e) = rw (e, eq-eqb i i refl) (getD-set-same l i 1 0 (omega (arith, m .long)))
-        go (no n) = rw (getD-set-other l i j 1 0 n, ne-eqb j i n) (m .each j k)
+use Rattle.form.specs.Inside.{Blank, RowStarts}
 
 -- amid marking the members of l, the first k of them marked
 pub record Marking (n : ℕ) (l : List ℕ) (k : ℕ) (marks : List ℕ) : Type 0 where
   pub used : List ℕ
-  pub marked : Marks used marks
+  pub marked : Marks marks (λ i. member i (take k l))
   pub left : fresh n [] l ≡ fresh n used (drop k l)
   pub same : (i : ℕ) → member i used ≡ member i (take k l)
 
 pub marking-none : (n : ℕ) (l : List ℕ) {marks : List ℕ} → Blank marks → Marking n l 0 marks
 unfolding member any
-marking-none n l b = record { used = []; marked = record { long = b .long; each = λ i h. b .each i }; left = refl; same = λ i. refl }
+marking-none n l b = record { used = []; marked = record { long = b .long; at = λ i h. b .each i }; left = refl; same = λ i. refl }
 
 module _ {n k : ℕ} {l marks : List ℕ} (m : Marking n l k marks) (h : k < length l) where
   next : fresh n [] l ≡ ((ltb (getD l k 0) n && not (member (getD l k 0) (m .used))) && fresh n (getD l k 0 ∷ m .used) (drop (suc k) l))
@@ -50,39 +40,28 @@ module _ {n k : ℕ} {l marks : List ℕ} (m : Marking n l k marks) (h : k < len
   marking-off t = sym (next ∙ rw (le-ltb (getD l k 0) n t) refl)
 
   module _ (t : getD l k 0 < n) (low : n ≤ 1024) where
-    shown : getD marks (getD l k 0) 0 ≡ cond (member (getD l k 0) (m .used)) 1 0
-    shown = m .marked .each (getD l k 0) (omega arith)
-
     -- it is marked already
     pub marking-twice : (getD marks (getD l k 0) 0 ≡ 0 → ⊥) → false ≡ fresh n [] l
-    marking-twice q = sym (next ∙ rw (go (member (getD l k 0) (m .used)) shown, and-false (ltb (getD l k 0) n)) refl)
-      where
-        go : (b : Bool) → getD marks (getD l k 0) 0 ≡ cond b 1 0 → not b ≡ false
-        go true e = refl
-        go false e = absurd (q e)
+    marking-twice q = sym (next ∙ rw (m .same (getD l k 0), mark-other (m .marked) (getD l k 0) (omega arith) q, and-false (ltb (getD l k 0) n)) refl)
 
     -- it is marked now
     pub marking-more : getD marks (getD l k 0) 0 ≡ 0 → Marking n l (k + 1) (set marks (getD l k 0) 1)
     marking-more q = record {
       used = getD l k 0 ∷ m .used;
-      marked = marks-more (m .marked) (getD l k 0) (omega arith);
-      left = next ∙ rw (lt-ltb (getD l k 0) n t, go (member (getD l k 0) (m .used)) shown, add-one k) refl;
+      marked = marks-next l k h (omega arith) (m .marked);
+      left = next ∙ rw (lt-ltb (getD l k 0) n t, m .same (getD l k 0), mark-zero (m .marked) (getD l k 0) (omega arith) q, add-one k) refl;
       same = λ i. rw (add-one k, take-suc l k 0 h, member-more i (take k l) (getD l k 0)) (both i);
     }
       where
-        go : (b : Bool) → getD marks (getD l k 0) 0 ≡ cond b 1 0 → not b ≡ true
-        go true e = absurd (omega (arith, e, q))
-        go false e = refl
-
         both : (i : ℕ) → member i (getD l k 0 ∷ m .used) ≡ (member i (take k l) || eqb i (getD l k 0))
         both i = unfold member any in ap (λ (b : Bool). eqb i (getD l k 0) || b) (m .same i) ∙ or-comm (eqb i (getD l k 0)) (member i (take k l))
 
 -- all are marked
-pub marking-end : {n k : ℕ} {l marks : List ℕ} → Marking n l k marks → length l ≤ k → (true ≡ fresh n [] l) × Marks l marks
+pub marking-end : {n k : ℕ} {l marks : List ℕ} → Marking n l k marks → length l ≤ k → (true ≡ fresh n [] l) × Marks marks (λ i. member i l)
 unfolding fresh
 marking-end {n} {k} {l} {marks} m h = (
   sym (m .left ∙ rw (drop-of-length-le l {i = k} h) refl),
-  record { long = m .marked .long; each = λ i t. m .marked .each i t ∙ rw (m .same i, take-all k l h) refl },
+  rw (take-all k l h) at (m .marked),
 )
 
 -- ---- the first cells of rows

@@ -10,8 +10,8 @@ use lib.ListN.{length, getD, drop, drop-of-length-le}
 use lib.Seq.{drop-cons}
 use borrow.Author.Tests.{lt-ltb, le-ltb}
 use Rattle.grid.specs.Lists.{all, last, member}
+use Rattle.grid.specs.Marks.{Marks}
 use Rattle.form.specs.Form.{rises, shown}
-use Rattle.form.specs.Inside.{Marks}
 
 module _ (p : ℕ → Bool) (l : List ℕ) {total : Bool} (good : Bool) where
   -- the next member passes
@@ -55,10 +55,10 @@ module _ (l : List ℕ) (at k : ℕ) where
   last-end h = rw (drop-of-length-le l {i = k} h) refl
 
 -- what is right for a cell by its mark is right by the list that is marked
-pub right-shown : {listed marks : List ℕ} (cells : List ℕ) → Marks listed marks → (i : ℕ) → i < 1024
+pub right-shown : {marks : List ℕ} (listed cells : List ℕ) → Marks marks (λ i. member i listed) → (i : ℕ) → i < 1024
     → cond (eqb (getD marks i 0) 0) (eqb (getD cells i 0) 2) (leb (getD cells i 0) 1) ≡ shown listed cells i
 unfolding shown
-right-shown {listed} {marks} cells m i h = rw (m .each i h) (go (member i listed))
+right-shown listed cells m i h = rw (m .at i h) (go (member i listed))
   where
     go : (t : Bool) → cond (eqb (cond t 1 0) 0) (eqb (getD cells i 0) 2) (leb (getD cells i 0) 1) ≡ cond t (leb (getD cells i 0) 1) (eqb (getD cells i 0) 2)
     go true = refl

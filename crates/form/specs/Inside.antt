@@ -6,7 +6,7 @@ use mathlib.Core.Path.{_≡_}
 use mathlib.Core.List.{List}
 use lib.Dec.{eqb}
 use lib.ListN.{length, getD}
-use Rattle.grid.specs.Lists.{member, last}
+use Rattle.grid.specs.Lists.{last}
 use Rattle.grid.specs.Grid.{Grid, size}
 use Rattle.form.specs.Form.{rises}
 
@@ -14,11 +14,6 @@ use Rattle.form.specs.Form.{rises}
 pub record Blank (l : List ℕ) : Type 0 where
   pub long : length l ≡ 1024
   pub each : (i : ℕ) → getD l i 0 ≡ 0
-
--- 1 at the places that are listed, 0 at every other
-pub record Marks (listed l : List ℕ) : Type 0 where
-  pub long : length l ≡ 1024
-  pub each : (i : ℕ) → i < 1024 → getD l i 0 ≡ cond (member i listed) 1 0
 
 -- of the first n cells, 1 at those that begin a row of w, 0 at every other
 pub record RowStarts (n w : ℕ) (l : List ℕ) : Type 0 where

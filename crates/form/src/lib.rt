@@ -6,10 +6,11 @@ ghost use Prim.Native.Nat.{ℕ, _-_, _≤_, _<_};
 ghost use lib.Dec.{ltb};
 ghost use lib.ListN.{length, take, drop};
 ghost use Rattle.grid.specs.Lists.{all, last, member};
+ghost use Rattle.grid.specs.Marks.{Marks};
 ghost use Rattle.grid.specs.Grid.{Grid, size, neighbours};
 ghost use Rattle.record.specs.Problem.{arrowsFrom};
 ghost use Rattle.form.specs.Form.{behind, rises, fresh, path, goodSize, drawn, problemFormed};
-ghost use Rattle.form.specs.Inside.{Blank, Marks, RowStarts, Suits, Below, Cut};
+ghost use Rattle.form.specs.Inside.{Blank, RowStarts, Suits, Below, Cut};
 
 // Whether v stands at every place from `from` on. Like the passes below it goes on to the end, since a pass without a way out is
 // done many places at a time.
@@ -88,7 +89,7 @@ fn rising(ends: &[u16; 1024], count: usize) -> Ends
 // Marks the first `count` cells of the list; false where one is n or more, or is marked already.
 pub fn mark(marks: &mut [u8; 1024], list: &[u16; 1024], count: usize, n: usize) -> bool
     requires { ⌜ Blank (now marks) × (length (now list) ≡ 1024) × (count ≤ 1024) × (n ≤ 1024) ⌝ }
-    ensures { λ r. ⌜ (r ≡ fresh n [] (take count (now (list .entry)))) × (r ≡ true → Marks (take count (now (list .entry))) (now (marks .exit))) ⌝ }
+    ensures { λ r. ⌜ (r ≡ fresh n [] (take count (now (list .entry)))) × (r ≡ true → Marks (now (marks .exit)) (λ i. member i (take count (now (list .entry))))) ⌝ }
 {
     let mut k = 0;
     while k < count {

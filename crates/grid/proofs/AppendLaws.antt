@@ -10,6 +10,7 @@ use mathlib.Core.Bool.{Bool, true, false, So, cond, _&&_, _||_, or-false, false�
 use mathlib.Core.List.{List, [], _∷_, _++_, List·Memᴰ, List·Memᴰ·head, List·Memᴰ·tail}
 use lib.Dec.{eqb}
 use lib.ListN.{length, getD, length-append}
+use borrow.Author.Tests.{eqb-true, eq-eqb}
 use Rattle.grid.specs.Lists.{range, upto, filter, any, all, init, last, member}
 use Rattle.grid.proofs.ListLaws.{so-false, length-range, getD-range, upto-mem, filter-mem, mem-filter, mem-upto, member-mem, mem-member}
 
@@ -17,6 +18,10 @@ use Rattle.grid.proofs.ListLaws.{so-false, length-range, getD-range, up
 pub same-test : (a b : Bool) → (So a → So b) → (So b → So a) → a ≡ b
 same-test true b f h = sym (f refl)
 same-test false b f h = sym (so-false b (λ k. false≢true (h k)))
+
+-- the test of equality goes both ways
+pub eqb-sym : (a b : ℕ) → eqb a b ≡ eqb b a
+eqb-sym a b = same-test (eqb a b) (eqb b a) (λ e. eq-eqb b a (sym (eqb-true a b e))) (λ e. eq-eqb a b (sym (eqb-true b a e)))
 
 -- by cases on whether j is q
 pub by-eq : {P : Type 0} (j q : ℕ) → (j ≡ q → P) → ((j ≡ q → ⊥) → P) → P

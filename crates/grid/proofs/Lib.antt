@@ -8,6 +8,7 @@ pub mod GridLaws
 pub mod RisingLaws
 pub mod ArrayLaws
 pub mod FilledLaws
+pub mod MarkLaws
 pub mod Signed
 pub mod SideLaws
 pub mod ShiftLaws

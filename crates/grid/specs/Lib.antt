@@ -4,3 +4,4 @@ pub mod Link
 pub mod Grid
 pub mod Side
 pub mod Cells
+pub mod Marks

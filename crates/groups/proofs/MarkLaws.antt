@@ -1,60 +1,23 @@
--- Marks of listed cells, and masks: what each entry says.
+-- Masks: what each entry says, and the marks that are a mask.
 -- Assumes nothing.
-use Prim.Native.Nat.{ℕ, _+_, _≤_, _<_}
-use native.Mathlib.Decide.{ℕ-discrete, decLt}
-use native.Mathlib.Numerals.{add-one}
+use Prim.Native.Nat.{ℕ, _≤_, _<_}
+use native.Mathlib.Decide.{decLt}
 use native.Mathlib.Omega.{arith}
 use mathlib.Core.Path.{_≡_, refl, sym, ap, _∙_}
-use mathlib.Core.Bool.{Bool, cond, _||_, or-false, or-true}
+use mathlib.Core.Bool.{Bool, false, cond, _||_}
 use mathlib.Core.List.{List, [], _∷_, List·Memᴰ}
 use lib.Dec.{eqb}
-use lib.ListN.{length, getD, set, take, replicate, length-set, length-replicate, getD-replicate}
-use lib.Seq.{ext-getD, getD-set-same, getD-set-other, take-suc}
-use borrow.Author.Tests.{eq-eqb, ne-eqb}
+use lib.ListN.{getD}
 use Rattle.grid.specs.Lists.{any, member, flatMap}
+use Rattle.grid.specs.Marks.{Marks}
 use Rattle.grid.specs.Grid.{Grid, size, cellsOf}
-use Rattle.grid.proofs.ListLaws.{so-false, member-mem, length-map-upto, map-upto-at}
-use Rattle.grid.proofs.FilledLaws.{filled-at, filled-past, filled-length}
-use Rattle.grid.proofs.AppendLaws.{any-append, member-more}
+use Rattle.grid.proofs.ListLaws.{so-false, member-mem}
+use Rattle.grid.proofs.FilledLaws.{filled-at, filled-past, filled-length, filled-is}
+use Rattle.grid.proofs.AppendLaws.{any-append}
+use Rattle.grid.proofs.MarkLaws.{marks-same, mark-test}
 use Rattle.record.specs.Problem.{arrowCells}
-use Rattle.groups.specs.Arrays.{maskOf, marksOf}
+use Rattle.groups.specs.Arrays.{maskOf}
 use Rattle.groups.specs.Arrows.{onArrow}
-
--- ---- marks
-
-pub marks-length : (l : List ℕ) → length (marksOf l) ≡ 1024
-unfolding marksOf
-marks-length l = length-map-upto (λ i. cond (member i l) 1 0) 1024
-
-pub marks-at : (l : List ℕ) (i : ℕ) → i < 1024 → getD (marksOf l) i 0 ≡ cond (member i l) 1 0
-unfolding marksOf
-marks-at l i h = map-upto-at (λ j. cond (member j l) 1 0) 1024 i 0 h
-
--- no cell is marked
-pub marks-none : replicate 1024 0 ≡ marksOf []
-unfolding member any
-marks-none = ext-getD 0 (replicate 1024 0) (marksOf []) (length-replicate {A = ℕ} 1024 0 ∙ sym (marks-length []))
-    (λ i h. let k : i < 1024 = omega (arith, h, length-replicate {A = ℕ} 1024 0) in getD-replicate {A = ℕ} 1024 i 0 0 k ∙ sym (marks-at [] i k))
-
--- one more cell is marked
-pub marks-more : (l : List ℕ) (k : ℕ) → k < length l → getD l k 0 < 1024 → set (marksOf (take k l)) (getD l k 0) 1 ≡ marksOf (take (k + 1) l)
-marks-more l k h c = ext-getD 0 (set M x 1) (marksOf (take (k + 1) l)) (length-set M x 1 ∙ marks-length (take k l) ∙ sym (marks-length (take (k + 1) l)))
-    (λ i b. let s : i < 1024 = omega (arith, b, length-set M x 1, marks-length (take k l)) in at i s (ℕ-discrete i x) ∙ sym (marks-at (take (k + 1) l) i s ∙ ap (λ (t : Bool). cond t 1 0) (more i)))
-  where
-    x : ℕ
-    x = getD l k 0
-
-    M : List ℕ
-    M = marksOf (take k l)
-
-    more : (i : ℕ) → member i (take (k + 1) l) ≡ (member i (take k l) || eqb i x)
-    more i = rw (add-one, take-suc l k 0) (member-more i (take k l) x)
-
-    at : (i : ℕ) → i < 1024 → Dec (i ≡ x) → getD (set M x 1) i 0 ≡ cond (member i (take k l) || eqb i x) 1 0
-    at i s (yes e) = rw (e, eq-eqb x x refl, or-true) (getD-set-same M x 1 0 (omega (arith, marks-length (take k l))))
-    at i s (no ne) = getD-set-other M x i 1 0 ne ∙ marks-at (take k l) i s ∙ rw (ne-eqb i x ne, or-false)
-
--- ---- masks
 
 module _ (g : Grid) (p : ℕ → Bool) where
   -- the entry of a cell
@@ -70,18 +33,23 @@ module _ (g : Grid) (p : ℕ → Bool) where
   unfolding maskOf cellsOf
   mask-behind i h k = filled-past 0 entry (size g) i h k
 
-  pub mask-length : size g ≤ 1024 → length (maskOf g p) ≡ 1024
-  unfolding maskOf cellsOf
-  mask-length fits = filled-length 0 entry (size g) fits
+  -- an entry of the grid is 1 exactly where the test passes
+  pub mask-test : (i : ℕ) → i < size g → eqb (getD (maskOf g p) i 0) 1 ≡ p i
+  mask-test i h = ap (λ (x : ℕ). eqb x 1) (mask-at i h) ∙ mark-test (p i)
 
--- the marks of cells of the grid are their mask
-pub marks-mask : (g : Grid) (p : ℕ → Bool) (l : List ℕ) → size g ≤ 1024 → ((i : ℕ) → member i l ≡ p i) → ((i : ℕ) → List·Memᴰ i l → i < size g) → marksOf l ≡ maskOf g p
-marks-mask g p l fits same on = ext-getD 0 (marksOf l) (maskOf g p) (marks-length l ∙ sym (mask-length g p fits))
-    (λ i h. let k : i < 1024 = omega (arith, h, marks-length l) in marks-at l i k ∙ at i k (decLt i (size g)))
-  where
-    at : (i : ℕ) → i < 1024 → Dec (i < size g) → cond (member i l) 1 0 ≡ getD (maskOf g p) i 0
-    at i k (yes h) = ap (λ (t : Bool). cond t 1 0) (same i) ∙ sym (mask-at g p i h)
-    at i k (no h) = rw (so-false (member i l) (λ m. h (on i (member-mem i l m)))) (sym (mask-behind g p i (omega (arith, h)) k))
+  -- no cell behind the grid passes: the mask is the marks
+  module _ (small : size g ≤ 1024) (out : (i : ℕ) → size g ≤ i → p i ≡ false) where
+    pub marks-mask : {M : List ℕ} → Marks M p → M ≡ maskOf g p
+    unfolding maskOf cellsOf
+    marks-mask {M} k = filled-is 0 entry (size g) M small (k .long) (λ i l. k .at i (omega arith)) (λ i l m. k .at i m ∙ rw (out i l))
+
+    pub mask-marks : Marks (maskOf g p) p
+    unfolding maskOf cellsOf
+    mask-marks = record { long = filled-length 0 entry (size g) small; at = λ i h. by i h (decLt i (size g)) }
+      where
+        by : (i : ℕ) → i < 1024 → Dec (i < size g) → getD (maskOf g p) i 0 ≡ entry i
+        by i h (yes l) = mask-at i l
+        by i h (no l) = mask-behind i (omega arith) h ∙ rw (out i (omega arith)) refl
 
 -- a cell of some arrow is one of the arrows' cells
 pub on-arrow : (arrows : List (List ℕ)) (i : ℕ) → member i (arrowCells arrows) ≡ onArrow arrows i
@@ -90,6 +58,12 @@ on-arrow [] i = refl
 on-arrow (a ∷ rest) i = any-append (eqb i) a (arrowCells rest) ∙ ap (λ (t : Bool). any (eqb i) a || t) (on-arrow rest i)
 
 -- what `mark_arrow_cells` leaves, where the line holds the arrows' cells
-pub arrow-marks : (g : Grid) (arrows : List (List ℕ)) (l : List ℕ) → size g ≤ 1024 → l ≡ arrowCells arrows → ((i : ℕ) → List·Memᴰ i l → i < size g)
-    → marksOf l ≡ maskOf g (onArrow arrows)
-arrow-marks g arrows l fits e on = marks-mask g (onArrow arrows) l fits (λ i. ap (member i) e ∙ on-arrow arrows i) on
+pub arrow-marks : (g : Grid) (arrows : List (List ℕ)) {M : List ℕ} (l : List ℕ) → size g ≤ 1024 → l ≡ arrowCells arrows → ((i : ℕ) → List·Memᴰ i l → i < size g)
+    → Marks M (λ i. member i l) → M ≡ maskOf g (onArrow arrows)
+arrow-marks g arrows l small e on k = marks-mask g (onArrow arrows) small out (marks-same (λ i. member i l) (onArrow arrows) (λ i _. same i) k)
+  where
+    same : (i : ℕ) → member i l ≡ onArrow arrows i
+    same i = ap (member i) e ∙ on-arrow arrows i
+
+    out : (i : ℕ) → size g ≤ i → onArrow arrows i ≡ false
+    out i h = sym (same i) ∙ so-false (member i l) (λ m. omega (arith, on i (member-mem i l m)))

@@ -6,7 +6,7 @@ use mathlib.Core.Bool.{Bool, cond}
 use mathlib.Core.List.{List, map}
 use lib.ListN.{length, getD, take}
 use Rattle.grid.specs.Grid.{Grid, cellsOf}
-use Rattle.grid.specs.Lists.{upto, member, arrayOf}
+use Rattle.grid.specs.Lists.{arrayOf}
 use Rattle.grid.specs.Cells.{square, potential}
 use Rattle.record.specs.Problem.{arrowsFrom}
 use Rattle.groups.specs.Groups.{labels}
@@ -30,10 +30,6 @@ counts isPotential cells i = cond isPotential (potential cells i) (square cells 
 -- 1 for each cell that passes the test and 0 for each other, in an array
 unfoldable pub maskOf : Grid → (ℕ → Bool) → List ℕ
 maskOf g p = arrayOf 0 (map (λ i. cond (p i) 1 0) (cellsOf g))
-
--- 1 for each cell of the list and 0 for each other, in an array
-unfoldable pub marksOf : List ℕ → List ℕ
-marksOf l = map (λ i. cond (member i l) 1 0) (upto 1024)
 
 -- the cells of all arrows stand in the first places of an array
 pub record Line (line : List ℕ) (total : ℕ) : Type 0 where

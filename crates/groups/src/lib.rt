@@ -5,8 +5,10 @@ ghost use mathlib.Core.Path.{_≡_};
 ghost use Prim.Native.Nat.{ℕ, _+_, _*_, _≤_, _<_};
 ghost use mathlib.Core.Bool.{Bool, cond};
 ghost use lib.ListN.{length, take, replicate};
+ghost use Rattle.grid.specs.Lists.{member};
+ghost use Rattle.grid.specs.Marks.{Marks};
 ghost use Rattle.grid.specs.Side.{InGrid, InPlace, sized, besideOf};
-ghost use Rattle.groups.specs.Arrays.{Line, labelArray, noGroup, counts, marksOf};
+ghost use Rattle.groups.specs.Arrays.{Line, labelArray, noGroup, counts};
 ghost use Rattle.groups.specs.Flood.{unlabelled, free, Marked, Offerable, Offered, OfferedSide, Ready, Spread, Sofar};
 use grid::Side;
 
@@ -158,7 +160,7 @@ pub fn compute_connected_components(
 // Marks the cells of all arrows, which stand one after another in the first `total` places.
 pub fn mark_arrow_cells(arrows: &[u16; 1024], total: usize, marks: &mut [u8; 1024])
     requires { ⌜ Line (now arrows) total ⌝ }
-    ensures { λ _. ⌜ now (marks .exit) ≡ marksOf (take total (now (arrows .entry))) ⌝ }
+    ensures { λ _. ⌜ Marks (now (marks .exit)) (λ i. member i (take total (now (arrows .entry)))) ⌝ }
 {
     *marks = [0u8; 1024];
     for k in 0..total {

@@ -7,7 +7,8 @@ use mathlib.Core.Path.{_≡_, refl, subst, _∙_}
 use mathlib.Core.List.{List, List·Memᴰ}
 use lib.ListN.{length, getD, take}
 use lib.Seq.{take-suc}
-use Rattle.grid.specs.Lists.{last}
+use Rattle.grid.specs.Lists.{last, member}
+use Rattle.grid.specs.Marks.{Marks}
 use Rattle.grid.specs.Grid.{size}
 use Rattle.grid.specs.Side.{sized}
 use Rattle.grid.proofs.SideLaws.{area}
@@ -16,7 +17,7 @@ use Rattle.grid.proofs.AppendLaws.{last-more}
 use Rattle.record.specs.Record.{Puzzle}
 use Rattle.record.specs.Problem.{arrowCells}
 use Rattle.groups.specs.Arrows.{onArrow}
-use Rattle.groups.specs.Arrays.{Line, linesOf, marksOf, maskOf, labelArray, counts}
+use Rattle.groups.specs.Arrays.{Line, linesOf, maskOf, labelArray, counts}
 use Rattle.groups.proofs.MarkLaws.{arrow-marks}
 use Rattle.groups.proofs.LabelLaws.{labels-potential, labels-blocks}
 use Rattle.kinds.specs.Inside.{puzzleWith, Held}
@@ -47,7 +48,7 @@ last-none l = refl
 
 module _ (h w : ℕ) (tall : h ≤ 32) (wide : w ≤ 32) {arrows ends : List ℕ} {number total : ℕ} (d : ArrowArrays (h * w) arrows ends number total) where
   -- the marks of the cells in the array are those of the arrow cells
-  pub marks-are : marksOf (take total arrows) ≡ maskOf (sized h w) (onArrow (linesOf arrows ends number))
+  marks-are : {onarrow : List ℕ} → Marks onarrow (λ i. member i (take total arrows)) → onarrow ≡ maskOf (sized h w) (onArrow (linesOf arrows ends number))
   unfolding arrowCells
   marks-are = arrow-marks (sized h w) (linesOf arrows ends number) (take total arrows) (rw (← sized-size h w) (area h w tall wide)) (d .cells-are) inside
     where
@@ -60,22 +61,22 @@ module _ (h w : ℕ) (tall : h ≤ 32) (wide : w ≤ 32) {arrows ends : List ℕ
   pub line-is : Line arrows total
   line-is = record { long = d .places .long; within = d .within; cells = λ k h. d .places .cells k }
 
-  pub listed-is : {onarrow : List ℕ} → onarrow ≡ marksOf (take total arrows) → Listed arrows total onarrow
+  pub listed-is : {onarrow : List ℕ} → Marks onarrow (λ i. member i (take total arrows)) → Listed arrows total onarrow
   listed-is m = record { line = line-is; marks = m }
 
   -- the potential groups and the blocks that were labelled
-  pub potentials-held : (cells : List ℕ) {labels onarrow : List ℕ} → labels ≡ labelArray (sized h w) (counts true (take (h * w) cells)) → onarrow ≡ marksOf (take total arrows)
+  pub potentials-held : (cells : List ℕ) {labels onarrow : List ℕ} → labels ≡ labelArray (sized h w) (counts true (take (h * w) cells)) → Marks onarrow (λ i. member i (take total arrows))
       → PotentialArrays (puzzleWith (sized h w) (linesOf arrows ends number)) (take (h * w) cells) labels onarrow
   potentials-held cells l m = record {
     groups-are = l ∙ labels-potential (sized h w) (take (h * w) cells) (rw (← sized-size h w) (area h w tall wide));
-    arrows-are = m ∙ marks-are;
+    arrows-are = marks-are m;
   }
 
-  pub blocks-held : (cells : List ℕ) {labels onarrow : List ℕ} → labels ≡ labelArray (sized h w) (counts false (take (h * w) cells)) → onarrow ≡ marksOf (take total arrows)
+  pub blocks-held : (cells : List ℕ) {labels onarrow : List ℕ} → labels ≡ labelArray (sized h w) (counts false (take (h * w) cells)) → Marks onarrow (λ i. member i (take total arrows))
       → BlockArrays (puzzleWith (sized h w) (linesOf arrows ends number)) (take (h * w) cells) labels onarrow
   blocks-held cells l m = record {
     blocks-are = l ∙ labels-blocks (sized h w) (take (h * w) cells) (rw (← sized-size h w) (area h w tall wide));
-    arrows-are = m ∙ marks-are;
+    arrows-are = marks-are m;
   }
 
 -- a board that is ready, with its kinds

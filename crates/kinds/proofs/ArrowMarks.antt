@@ -4,36 +4,32 @@ use Prim.Native.Nat.{ℕ, _≤_, _<_}
 use native.Mathlib.Omega.{arith}
 use native.Mathlib.Decide.{decLt}
 use mathlib.Core.Path.{_≡_, refl, sym, ap, _∙_}
-use mathlib.Core.Bool.{Bool, true, false, So, cond, _&&_}
+use mathlib.Core.Bool.{Bool, false, So, _&&_}
 use mathlib.Core.List.{List, List·Memᴰ}
 use lib.Dec.{eqb}
 use lib.ListN.{length, getD, take}
 use lib.Seq.{getD-take, length-take-le}
 use borrow.Author.Tests.{eqb-true, eq-eqb, lt-ltb}
 use Rattle.grid.specs.Lists.{upto, member}
+use Rattle.grid.specs.Marks.{Marks}
 use Rattle.grid.specs.Grid.{Grid, size, cellsOf}
 use Rattle.grid.proofs.ListLaws.{so-false, and-true, true-and, any-mem, mem-any, upto-mem, mem-upto, member-mem, mem-member, mem-at, at-mem}
 use Rattle.record.specs.Record.{Puzzle}
 use Rattle.grid.specs.Cells.{square}
 use Rattle.groups.specs.Groups.{labels}
 use Rattle.groups.specs.Arrows.{onArrow}
-use Rattle.groups.specs.Arrays.{Line, labelArray, maskOf, marksOf}
-use Rattle.groups.proofs.MarkLaws.{marks-at, mask-behind, mask-at}
+use Rattle.groups.specs.Arrays.{Line, labelArray, maskOf}
+use Rattle.groups.proofs.MarkLaws.{mask-at, mask-behind, mask-test, marks-mask}
 use Rattle.groups.proofs.LabelLaws.{label-test}
 use Rattle.groups.proofs.GroupLaws.{label-least}
 use Rattle.grid.specs.Link.{here}
 use Rattle.grid.proofs.AppendLaws.{same-test}
+use Rattle.grid.proofs.MarkLaws.{marks-same, mark-on}
 use Rattle.kinds.specs.Kinds.{arrowBlock}
-use Rattle.kinds.specs.Inside.{Marks, nameAt, nameAmong, nameTwice}
-use Rattle.kinds.proofs.Filled.{marks-same, marks-mask}
-
--- a mark that is 1
-pub mark-on : (b : Bool) → _≡_ {A = ℕ} (cond b 1 0) 1 → b ≡ true
-mark-on true e = refl
-mark-on false e = absurd (omega (arith, e))
+use Rattle.kinds.specs.Inside.{nameAt, nameAmong, nameTwice}
 
 -- ---- the arrow cells of a grid in the first places of a line
-module _ (g : Grid) (arrows : List (List ℕ)) {line : List ℕ} {total : ℕ} {marks : List ℕ} (fits : Line line total) (listed : marks ≡ marksOf (take total line)) (marked : marks ≡ maskOf g (onArrow arrows)) where
+module _ (g : Grid) (arrows : List (List ℕ)) {line : List ℕ} {total : ℕ} {marks : List ℕ} (fits : Line line total) (listed : Marks marks (λ i. member i (take total line))) (marked : marks ≡ maskOf g (onArrow arrows)) where
   long : length (take total line) ≡ total
   long = length-take-le total line (omega (arith, fits .long, fits .within))
 
@@ -48,20 +44,20 @@ module _ (g : Grid) (arrows : List (List ℕ)) {line : List ℕ} {total : ℕ} {
       here-is = rw (getD-take total line k 0 h) at (at-mem (take total line) k (omega (arith, long)))
 
       one : getD marks (getD line k 0) 0 ≡ 1
-      one = ap (λ (m : List ℕ). getD m (getD line k 0) 0) listed ∙ marks-at (take total line) (getD line k 0) (fits .cells k h) ∙ rw (mem-member (getD line k 0) (take total line) here-is) refl
+      one = listed .at (getD line k 0) (fits .cells k h) ∙ rw (mem-member (getD line k 0) (take total line) here-is) refl
 
       on : getD (maskOf g (onArrow arrows)) (getD line k 0) 0 ≡ 1
       on = ap (λ (m : List ℕ). getD m (getD line k 0) 0) (sym marked) ∙ one
 
       go : Dec (i < size g) → (getD line k 0 < size g) × So (onArrow arrows (getD line k 0))
-      go (yes l) = (l, mark-on (onArrow arrows (getD line k 0)) (sym (mask-at g (onArrow arrows) (getD line k 0) l) ∙ on))
+      go (yes l) = (l, sym (mask-test g (onArrow arrows) (getD line k 0) l) ∙ eq-eqb _ 1 on)
       go (no n) = absurd (omega (arith, on, mask-behind g (onArrow arrows) (getD line k 0) (omega (arith, n)) (fits .cells k h)))
 
   -- an arrow cell of the grid is in the line
   pub on-listed : (i : ℕ) → i < size g → i < 1024 → So (onArrow arrows i) → (k : ℕ) × (k < total) × (getD line k 0 ≡ i)
   on-listed i l s o =
-      let one : getD (marksOf (take total line)) i 0 ≡ 1 = ap (λ (m : List ℕ). getD m i 0) (sym listed ∙ marked) ∙ mask-at g (onArrow arrows) i l ∙ rw o refl in
-      let m = member-mem i (take total line) (mark-on (member i (take total line)) (sym (marks-at (take total line) i s) ∙ one)) in
+      let one : getD marks i 0 ≡ 1 = ap (λ (m : List ℕ). getD m i 0) marked ∙ mask-at g (onArrow arrows) i l ∙ rw o refl in
+      let m = member-mem i (take total line) (mark-on listed i s one) in
       let r = mem-at (take total line) m in
       let h : r .0 < total = omega (arith, r .1, long) in
       (r .0, h, sym (getD-take total line (r .0) 0 h) ∙ r .2)
@@ -80,7 +76,7 @@ module _ (p : Puzzle) (small : size (p .grid) ≤ 1024) (cells : List ℕ) where
   abbrev arrowed : ℕ → Bool
   arrowed = arrowBlock p cells (labels g (square cells))
 
-  module _ {blocks line : List ℕ} {total : ℕ} {onarrow : List ℕ} (named : blocks ≡ labelArray g (square cells)) (fits : Line line total) (listed : onarrow ≡ marksOf (take total line)) (marked : onarrow ≡ maskOf g (onArrow (p .arrows))) where
+  module _ {blocks line : List ℕ} {total : ℕ} {onarrow : List ℕ} (named : blocks ≡ labelArray g (square cells)) (fits : Line line total) (listed : Marks onarrow (λ i. member i (take total line))) (marked : onarrow ≡ maskOf g (onArrow (p .arrows))) where
     -- a cell is in the block named f
     block-test : (i f : ℕ) → i < size g → f < 1024 → eqb (getD blocks i 0) f ≡ (square cells i && eqb (blockName i) f)
     block-test i f l h = ap (λ (b : List ℕ). eqb (getD b i 0) f) named ∙ label-test g (square cells) i f l h

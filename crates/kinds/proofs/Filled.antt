@@ -1,52 +1,23 @@
--- Arrays of marks that are set in any order, and arrays of kinds and owners that are filled cell by cell.
+-- Marks at the names of groups, and arrays of kinds and owners that are filled cell by cell.
 -- Assumes nothing.
 use Prim.Native.Nat.{ℕ, _+_, _-_, _%_, _≤_, _<_}
-use native.Mathlib.Decide.{ℕ-discrete, decLt}
+use native.Mathlib.Decide.{decLt}
 use native.Mathlib.Omega.{arith}
-use mathlib.Core.Bool.{Bool, true, false, cond, _&&_, _||_, or-true, or-false, and-false}
-use mathlib.Core.Path.{_≡_, refl, sym, ap, _∙_}
+use mathlib.Core.Bool.{Bool, false, cond, _&&_, _||_, or-false, and-false}
+use mathlib.Core.Path.{_≡_, refl, sym, _∙_}
 use mathlib.Core.List.{List}
 use lib.Dec.{eqb, ltb}
-use lib.ListN.{length, getD, set, replicate, length-set, length-replicate, getD-replicate}
-use lib.Seq.{getD-set-same, getD-set-other, set-getD}
+use lib.ListN.{length, getD, set, replicate}
+use lib.Seq.{set-getD}
 use borrow.Author.Tests.{eq-eqb, ne-eqb, lt-ltb, le-ltb}
 use Rattle.grid.specs.Lists.{range, upto, any}
-use Rattle.grid.specs.Grid.{Grid, size, cellsOf}
+use Rattle.grid.specs.Marks.{Marks}
+use Rattle.grid.specs.Grid.{Grid}
 use Rattle.grid.proofs.AppendLaws.{any-more}
-use Rattle.grid.proofs.FilledLaws.{filled-none, filled-more, filled-length, filled-is}
-use Rattle.groups.specs.Arrays.{maskOf}
-use Rattle.groups.proofs.MarkLaws.{mask-at}
+use Rattle.grid.proofs.FilledLaws.{filled-none, filled-more, filled-length}
+use Rattle.grid.proofs.MarkLaws.{marks-same, marks-set, mark-is}
 use Rattle.kinds.specs.Arrays.{kindCode, ownerBy}
-use Rattle.kinds.specs.Inside.{Marks, nameAt, nameAmong, nameTwice, Met, kindIn, codesIn, unnamed, ownersIn}
-
--- ---- marks
-
-pub marks-none : Marks (replicate 1024 0) (λ m. false)
-marks-none = record { long = length-replicate {A = ℕ} 1024 0; at = λ m h. getD-replicate {A = ℕ} 1024 m 0 0 h }
-
-pub marks-same : {M : List ℕ} (t u : ℕ → Bool) → ((m : ℕ) → m < 1024 → t m ≡ u m) → Marks M t → Marks M u
-marks-same t u e k = record { long = k .long; at = λ m h. k .at m h ∙ ap (λ (b : Bool). cond b 1 0) (e m h) }
-
--- a mark is set
-pub marks-set : {M : List ℕ} (t : ℕ → Bool) (q : ℕ) → q < 1024 → Marks M t → Marks (set M q 1) (λ m. t m || eqb q m)
-marks-set {M} t q h k = record { long = length-set M q 1 ∙ k .long; at = λ m l. by m l (ℕ-discrete m q) }
-  where
-    by : (m : ℕ) → m < 1024 → Dec (m ≡ q) → getD (set M q 1) m 0 ≡ cond (t m || eqb q m) 1 0
-    by m l (yes e) = rw (eq-eqb q m (sym e)) (ap (λ (i : ℕ). getD (set M q 1) i 0) e ∙ getD-set-same M q 1 0 (omega (arith, k .long)) ∙ rw (or-true (t m)))
-    by m l (no ne) = rw (ne-eqb q m (λ e. ne (sym e)), or-false (t m)) (getD-set-other M q m 1 0 ne ∙ k .at m l)
-
--- the marks of a grid's cells
-pub marks-mask : (g : Grid) {M : List ℕ} (t : ℕ → Bool) → size g ≤ 1024 → ((m : ℕ) → size g ≤ m → t m ≡ false) → Marks M t → M ≡ maskOf g t
-unfolding maskOf cellsOf
-marks-mask g {M} t h out k = filled-is 0 (λ i. cond (t i) 1 0) (size g) M h (k .long) (λ i l. k .at i (omega arith)) (λ i l m. k .at i m ∙ rw (out i l))
-
--- a mark is 1 exactly where the test passes
-pub mark-test : (b : Bool) → eqb (cond b 1 0) 1 ≡ b
-mark-test true = refl
-mark-test false = refl
-
-pub mask-test : (g : Grid) (t : ℕ → Bool) (i : ℕ) → i < size g → eqb (getD (maskOf g t) i 0) 1 ≡ t i
-mask-test g t i h = ap (λ (x : ℕ). eqb x 1) (mask-at g t i h) ∙ mark-test (t i)
+use Rattle.kinds.specs.Inside.{nameAt, nameAmong, nameTwice, Met, kindIn, codesIn, unnamed, ownersIn}
 
 -- ---- the name at a place is marked if the place has the tag
 module _ {M : List ℕ} (t : ℕ → Bool) (has tag f : ℕ) (k : Marks M t) where
@@ -75,7 +46,7 @@ met-none f h t k = record {
 pub met-some : {M : List ℕ} (f : ℕ) (met : Bool) → f < 1024 → met ≡ eqb (getD M f 0) 1 → (t : ℕ → Bool) → Marks M t → Met f t (set M f 1) met
 met-some f met h e t k = record {
   marked = marks-set t f h k;
-  before = e ∙ ap (λ (x : ℕ). eqb x 1) (k .at f h) ∙ mark-test (t f) ∙ rw (lt-ltb f 1024 h) refl;
+  before = e ∙ mark-is k f h ∙ rw (lt-ltb f 1024 h) refl;
 }
 
 -- both at once, as they are written without a branch: a name that is none goes by the place of its remainder, which stays as it is

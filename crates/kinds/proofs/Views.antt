@@ -23,11 +23,12 @@ use Rattle.grid.specs.Cells.{empty, square}
 use Rattle.groups.specs.Groups.{labels}
 use Rattle.groups.specs.Arrays.{labelAt}
 use Rattle.groups.proofs.GroupLaws.{label-least}
+use Rattle.groups.proofs.MarkLaws.{mask-test}
 use Rattle.groups.proofs.LabelLaws.{label-at}
 use Rattle.kinds.specs.Kinds.{Kind, vacant, barrier, floating, inBlock, neighbour, isFloating, kindTouching, arrowBlock, blocksTouched, kindAt, kindsOf, has, view, viewWith}
 use Rattle.kinds.specs.Arrays.{kindCode, ownerBy, kindArray, ownerArray}
 use Rattle.kinds.specs.Inside.{puzzleWith, arrowAt, arrowsAt, kindIn, codesIn, ownersIn, Given, Held, unnamed, Unnamed, Sofar}
-use Rattle.kinds.proofs.Filled.{owners-length, mask-test}
+use Rattle.kinds.proofs.Filled.{owners-length}
 use Rattle.kinds.proofs.BlockArrays.{kind-get, kind-past}
 use Rattle.kinds.proofs.Traversal.{sofar-labels}
 

@@ -1,4 +1,4 @@
--- What the inner functions of kinds promise each other, and the grid, marks and views that the crates above speak of.
+-- What the inner functions of kinds promise each other, and the grid and views that the crates above speak of.
 -- Assumes nothing.
 use Prim.Native.Nat.{ℕ, _≤_, _<_}
 use mathlib.Core.Path.{_≡_}
@@ -7,6 +7,7 @@ use mathlib.Core.List.{List, [], map, List·Memᴰ}
 use lib.Dec.{eqb, ltb}
 use lib.ListN.{length, getD}
 use Rattle.grid.specs.Lists.{upto, any, filter, once, arrayOf}
+use Rattle.grid.specs.Marks.{Marks}
 use Rattle.grid.specs.Grid.{Grid, neighbours, Adjacent}
 use Rattle.grid.specs.Side.{InGrid}
 use Rattle.record.specs.Record.{Puzzle}
@@ -25,11 +26,6 @@ use Rattle.kinds.specs.declared.DetailedCellKind.the-variants.{Empty, Ar
 pub record Limits (h w : ℕ) : Type 0 where
   pub tall : h ≤ 32
   pub wide : w ≤ 32
-
--- an array of marks: 1 where the test passes, and 0 elsewhere
-pub record Marks (marks : List ℕ) (test : ℕ → Bool) : Type 0 where
-  pub long : length marks ≡ 1024
-  pub at : (m : ℕ) → m < 1024 → getD marks m 0 ≡ cond (test m) 1 0
 
 -- a puzzle with this grid and these arrows. The codes of its cells do not matter here: kinds, reach, fence and reasons go by the grid and the arrows alone,
 -- which are all that the inner functions are lent of a puzzle

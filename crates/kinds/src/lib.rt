@@ -5,12 +5,13 @@ ghost use mathlib.Core.Bool.{Bool, cond, _&&_, _||_};
 ghost use mathlib.Core.List.{List, [], _∷_, _++_};
 ghost use lib.Dec.{eqb};
 ghost use lib.ListN.{getD, set, take, replicate};
+ghost use Rattle.grid.specs.Marks.{Marks};
 ghost use Rattle.grid.specs.Grid.{neighbours};
 ghost use Rattle.grid.specs.Side.{sized, InGrid};
 ghost use Rattle.groups.specs.Arrays.{Line};
 ghost use Rattle.kinds.specs.Kinds.{view};
 ghost use Rattle.kinds.specs.Arrays.{kindCode, ownerBy};
-ghost use Rattle.kinds.specs.Inside.{Limits, puzzleWith, Given, Held, Marks, nameAmong, nameTwice, Met, kindFrom, meetOf, Owned, arrowAt, arrowsAt, kindIn, codesIn, ownersIn, unnamed, OnlyUnnamed, Walked, Walkable, Unnamed, Sofar};
+ghost use Rattle.kinds.specs.Inside.{Limits, puzzleWith, Given, Held, nameAmong, nameTwice, Met, kindFrom, meetOf, Owned, arrowAt, arrowsAt, kindIn, codesIn, ownersIn, unnamed, OnlyUnnamed, Walked, Walkable, Unnamed, Sofar};
 use grid::Side;
 
 // No mark is set.

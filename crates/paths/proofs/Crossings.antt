@@ -21,6 +21,7 @@ use Rattle.groups.specs.Arrays.{labelArray, maskOf}
 use Rattle.groups.specs.Arrows.{onArrow}
 use Rattle.groups.proofs.GroupLaws.{group-mem, linked-label}
 use Rattle.groups.proofs.LabelLaws.{label-test, label-group}
+use Rattle.groups.proofs.MarkLaws.{mask-test}
 use Rattle.literals.specs.Literals.{Found, orElse, firstOf}
 use Rattle.paths.specs.Paths.{reason2, reason2At}
 use Rattle.units.specs.Arrays.{firstName}
@@ -30,7 +31,6 @@ use Rattle.units.specs.declared.Name.the-variants.{At, Nobody}
 use Rattle.paths.specs.declared.Ends.{Ends}
 use Rattle.paths.specs.declared.Ends.the-variants.{Between, Nowhere}
 use Rattle.units.proofs.Ranks.{first-upto}
-use Rattle.kinds.proofs.Filled.{mask-test}
 
 -- ---- one cell is kept
 

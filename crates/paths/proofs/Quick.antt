@@ -10,6 +10,7 @@ use lib.Dec.{eqb}
 use lib.ListN.{getD, take}
 use borrow.Author.Tests.{eqb-true, eq-eqb}
 use Rattle.grid.specs.Lists.{upto, filter, Distinct}
+use Rattle.grid.specs.Marks.{Marks}
 use Rattle.grid.specs.Grid.{Grid, size, cellsOf}
 use Rattle.grid.specs.Side.{sized}
 use Rattle.grid.proofs.GridLaws.{size-most}
@@ -19,7 +20,7 @@ use Rattle.grid.specs.Cells.{square}
 use Rattle.groups.specs.Groups.{labels, group, names}
 use Rattle.groups.specs.Arrows.{onArrow}
 use Rattle.groups.proofs.GroupLaws.{group-mem}
-use Rattle.kinds.specs.Inside.{puzzleWith, Given, Marks, nameAt, nameAmong, nameTwice}
+use Rattle.kinds.specs.Inside.{puzzleWith, Given, nameAt, nameAmong, nameTwice}
 use Rattle.kinds.proofs.ArrowMarks.{on-listed, arrow-mask, met-twice}
 use Rattle.paths.specs.Paths.{reason2, reason2At}
 use Rattle.units.specs.Arrays.{Listed}

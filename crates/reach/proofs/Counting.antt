@@ -9,13 +9,13 @@ use lib.Dec.{eqb}
 use lib.ListN.{getD, set, replicate}
 use borrow.Author.Tests.{eq-eqb}
 use Rattle.grid.specs.Lists.{range, upto, filter, any}
+use Rattle.grid.specs.Marks.{Marks}
 use Rattle.grid.specs.Grid.{Grid, neighbours}
 use Rattle.grid.proofs.ListLaws.{length-range, filter-length}
 use Rattle.grid.proofs.AppendLaws.{any-append, any-more, count-hit, count-miss}
 use Rattle.grid.proofs.FilledLaws.{filled-none, filled-more, filled-skip}
-use Rattle.kinds.specs.Inside.{Marks}
+use Rattle.grid.proofs.MarkLaws.{marks-same}
 use Rattle.reach.specs.Inside.{nearAt, nearAmong, reaches, reachesAt, Counted, miss, hit, Reached}
-use Rattle.kinds.proofs.Filled.{marks-same}
 
 -- ---- the marks of floating groups near a block
 

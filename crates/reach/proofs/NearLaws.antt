@@ -20,10 +20,10 @@ use Rattle.grid.proofs.ListLaws.{length-range, filter-length, distinct-snoc, at
 use Rattle.grid.proofs.SideLaws.{beside-at, beside-off}
 use Rattle.grid.proofs.AroundLaws.{gathered, gathered-all}
 use Rattle.grid.proofs.AppendLaws.{count-hit, count-miss, any-append, any-agree}
+use Rattle.grid.proofs.MarkLaws.{marks-none, marks-same, marks-set, mark-on, mark-off}
 use Rattle.reach.specs.Inside.{nearAt, nearAmong}
 use Rattle.reach.specs.Chains.{ownedBy, cellsFrom, Chains}
 use Rattle.reach.specs.Near.{Sizes, Listed, Listing, floatAmong, Names}
-use Rattle.kinds.proofs.Filled.{marks-none, marks-same, marks-set, mark-test}
 use Rattle.reach.proofs.ChainWalks.{Walk, walk-start, walk-more, walk-end}
 
 -- ---- the cells of each owner are counted
@@ -101,13 +101,6 @@ module _ {t : ℕ → Bool} {near groups : List ℕ} {c : ℕ} (L : Listed t nea
     distinct = L .distinct;
     listed = λ m. (λ q. let r = L .listed m .0 q in (r .0, sym (e m (r .0)) ∙ r .1), λ q. L .listed m .1 (q .0, e m (q .0) ∙ q .1));
   }
-
-  -- a mark tells whether a name is listed
-  pub mark-on : (m : ℕ) → m < 1024 → getD near m 0 ≡ 1 → t m ≡ true
-  mark-on m h e = sym (mark-test (t m)) ∙ ap (λ (x : ℕ). eqb x 1) (sym (L .marked .at m h) ∙ e)
-
-  pub mark-off : (m : ℕ) → m < 1024 → (getD near m 0 ≡ 1 → ⊥) → t m ≡ false
-  mark-off m h ne = sym (mark-test (t m)) ∙ ap (λ (x : ℕ). eqb x 1) (sym (L .marked .at m h)) ∙ ne-eqb (getD near m 0) 1 ne
 
   as-many : length (take c groups) ≡ c
   as-many = length-take-le c groups (omega (arith, L .few, L .long))
@@ -190,17 +183,17 @@ module _ (kinds owners : List ℕ) {t : ℕ → Bool} {near groups : List ℕ} {
       where
         go : (m : ℕ) (b : Bool) → t m ≡ b → Dec (getD owners j 0 ≡ m) → b ≡ (b || ((eqb (getD kinds j 0) 4 && eqb (getD owners j 0) m) || false))
         go m true q d = refl
-        go m false q (yes s) = absurd (false≢true (sym q ∙ subst (λ x. t x ≡ true) s (mark-on L (getD owners j 0) l e)))
+        go m false q (yes s) = absurd (false≢true (sym q ∙ subst (λ x. t x ≡ true) s (mark-on (L .marked) (getD owners j 0) l e)))
         go m false q (no ne) = simp (ne-eqb (getD owners j 0) m ne, and-false)
 
     -- its group is new
     pub float-new : getD kinds j 0 ≡ 4 → getD owners j 0 < 1024 → (getD near (getD owners j 0) 0 ≡ 1 → ⊥) → Listed then (set near (getD owners j 0) 1) (set groups c (getD owners j 0)) (c + 1)
     unfolding floatAmong any
-    float-new e l ne = listed-same (listed-more L (getD owners j 0) l (mark-off L (getD owners j 0) l ne)) then (λ m h. rw (eq-eqb (getD kinds j 0) 4 e) (ap (λ (b : Bool). t m || b) (sym (or-false (eqb (getD owners j 0) m)))))
+    float-new e l ne = listed-same (listed-more L (getD owners j 0) l (mark-off (L .marked) (getD owners j 0) l ne)) then (λ m h. rw (eq-eqb (getD kinds j 0) 4 e) (ap (λ (b : Bool). t m || b) (sym (or-false (eqb (getD owners j 0) m)))))
 
 -- a group that is not marked has room
 pub listing-room : {near groups : List ℕ} {c : ℕ} (m : ℕ) → Listing near groups c → m < 1024 → (getD near m 0 ≡ 1 → ⊥) → c < 1024
-listing-room m L h ne = listed-room (L .so-far) m h (mark-off (L .so-far) m h ne)
+listing-room m L h ne = listed-room (L .so-far) m h (mark-off (L .so-far .marked) m h ne)
 
 -- ---- the sides of a cell
 

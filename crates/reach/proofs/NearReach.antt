@@ -10,6 +10,7 @@ use lib.Dec.{eqb}
 use lib.ListN.{length, getD, take, List·getD-eq-default}
 use borrow.Author.Tests.{eqb-true, eq-eqb, ne-eqb}
 use Rattle.grid.specs.Lists.{upto, any, filter, member}
+use Rattle.grid.specs.Marks.{Marks}
 use Rattle.grid.specs.Grid.{Grid, size, cellsOf, neighbours}
 use Rattle.grid.specs.Side.{sized}
 use Rattle.grid.proofs.LinkLaws.{linked-end}
@@ -18,32 +19,22 @@ use Rattle.grid.proofs.GridLaws.{beside as side, on-grid}
 use Rattle.grid.proofs.SideLaws.{area}
 use Rattle.grid.proofs.AppendLaws.{same-test, filter-agree}
 use Rattle.grid.proofs.FilledLaws.{filled-past, filled-length}
+use Rattle.grid.proofs.MarkLaws.{marks-same}
 use Rattle.record.specs.Record.{Puzzle}
 use Rattle.grid.specs.Cells.{empty, square}
 use Rattle.groups.specs.Groups.{labels}
-use Rattle.groups.specs.Arrays.{maskOf}
-use Rattle.groups.proofs.MarkLaws.{mask-at}
+use Rattle.groups.proofs.MarkLaws.{mask-marks}
 use Rattle.groups.proofs.GroupLaws.{label-own, label-linked, linked-size}
 use Rattle.kinds.specs.Kinds.{Kind, vacant, barrier, floating, inBlock, neighbour, isFloating, isIn, isNeighbour, has, arrowBlock, blocksTouched, kindAt, View, view, viewWith, floatNear, inReach, reach}
 use Rattle.kinds.specs.Arrays.{kindCode, ownerBy, kindArray}
-use Rattle.kinds.specs.Inside.{Limits, puzzleWith, Held, Marks}
+use Rattle.kinds.specs.Inside.{Limits, puzzleWith, Held}
 use Rattle.reach.specs.Inside.{nearAmong, reachesAt}
 use Rattle.reach.specs.Chains.{cellsFrom}
 use Rattle.reach.specs.Near.{Sizes, Listed, NearFloats}
 use Rattle.kinds.proofs.Bridge.{in-of, beside-of}
 use Rattle.kinds.proofs.BlockArrays.{kind-get}
-use Rattle.kinds.proofs.Filled.{marks-same}
 use Rattle.reach.proofs.Reaches.{code-get, owner-get, near-is, near-out, groups-are, reaches-is}
 use Rattle.reach.proofs.NearLaws.{listed-same, total, total-same, ownedIn, any-owned, length-owned}
-
--- the mask of a grid's cells as marks
-mask-marks : (g : Grid) (t : ℕ → Bool) → size g ≤ 1024 → ((m : ℕ) → size g ≤ m → t m ≡ false) → Marks (maskOf g t) t
-unfolding maskOf cellsOf
-mask-marks g t small out = record { long = filled-length 0 (λ i. cond (t i) 1 0) (size g) small; at = λ m h. by m h (decLt m (size g)) }
-  where
-    by : (m : ℕ) → m < 1024 → Dec (m < size g) → getD (maskOf g t) m 0 ≡ cond (t m) 1 0
-    by m h (yes l) = mask-at g t m l
-    by m h (no l) = filled-past 0 (λ i. cond (t i) 1 0) (size g) m (omega arith) h ∙ rw (out m (omega arith)) refl
 
 -- a square of an arrow block is not floating
 block-kind : (k : Kind) → kindCode k ≡ 1 → isFloating k ≡ false

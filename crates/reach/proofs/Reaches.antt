@@ -9,6 +9,7 @@ use lib.Dec.{eqb}
 use lib.ListN.{length, getD}
 use borrow.Author.Tests.{eqb-true, lt-ltb}
 use Rattle.grid.specs.Lists.{upto, any}
+use Rattle.grid.specs.Marks.{Marks}
 use Rattle.grid.specs.Grid.{Grid, size, cellsOf, neighbours}
 use Rattle.grid.specs.Side.{sized}
 use Rattle.grid.specs.Link.{here}
@@ -16,14 +17,15 @@ use Rattle.grid.proofs.ListLaws.{so-false, and-true, any-mem, upto-mem}
 use Rattle.grid.proofs.GridLaws.{beside as side, on-grid}
 use Rattle.grid.proofs.AppendLaws.{filter-agree, any-agree}
 use Rattle.grid.proofs.FilledLaws.{filled-at, filled-same}
+use Rattle.grid.proofs.MarkLaws.{marks-same, mark-is}
 use Rattle.record.specs.Record.{Puzzle}
 use Rattle.groups.specs.Arrays.{maskOf}
 use Rattle.groups.proofs.GroupLaws.{label-least}
+use Rattle.groups.proofs.MarkLaws.{marks-mask}
 use Rattle.kinds.specs.Kinds.{Kind, vacant, barrier, floating, inBlock, neighbour, isFloating, isIn, isNeighbour, has, View, view, viewWith, floatNear, inReach, reach}
 use Rattle.kinds.specs.Arrays.{kindCode, ownerBy, kindArray, ownerArray, reachMask}
-use Rattle.kinds.specs.Inside.{puzzleWith, Held, Marks}
+use Rattle.kinds.specs.Inside.{puzzleWith, Held}
 use Rattle.reach.specs.Inside.{nearAt, nearAmong, reaches, reachesAt, Reached, Reach}
-use Rattle.kinds.proofs.Filled.{marks-same, marks-mask, mark-test}
 
 -- ---- a kind by its number and owner
 
@@ -113,7 +115,7 @@ module _ (p : Puzzle) (small : size (p .grid) ≤ 1024) (cells K O : List ℕ) (
       unfolding reachesAt inReach has
       reaches-is i l = rw (code-get i l, owner-get i l)
           (reaches-by (kind i) (float i) f near (floatNear v f (float i)) (λ o. omega (arith, float-low i l o))
-          (λ h. ap (λ (x : ℕ). eqb x 1) (M .at (float i) h) ∙ mark-test (nearAmong K O g f (size g) (float i)) ∙ near-is (float i)))
+          (λ h. mark-is M (float i) h ∙ near-is (float i)))
 
       reach-is : (marks : List ℕ) (r : ℕ) → Reached K O near f (size g) marks r → Reach v f near marks r
       unfolding reach reachMask maskOf cellsOf view viewWith

@@ -8,9 +8,9 @@ use mathlib.Core.List.{List, List·Memᴰ}
 use lib.Dec.{eqb}
 use lib.ListN.{length, getD, take}
 use Rattle.grid.specs.Lists.{any, Distinct}
+use Rattle.grid.specs.Marks.{Marks}
 use Rattle.groups.specs.Arrays.{maskOf}
 use Rattle.kinds.specs.Kinds.{View, floatNear}
-use Rattle.kinds.specs.Inside.{Marks}
 use Rattle.reach.specs.Chains.{cellsFrom}
 
 -- how many of the cells below n each owner has

@@ -4,11 +4,12 @@ ghost use Prim.Native.Nat.{ℕ, _+_, _*_, _≤_, _<_};
 ghost use mathlib.Core.Bool.{Bool, _||_};
 ghost use mathlib.Core.List.{List};
 ghost use lib.ListN.{getD, replicate};
+ghost use Rattle.grid.specs.Marks.{Marks};
 ghost use Rattle.grid.specs.Grid.{neighbours};
 ghost use Rattle.grid.specs.Side.{sized, InGrid};
 ghost use Rattle.kinds.specs.Kinds.{view};
 ghost use Rattle.reach.specs.Chains.{ChainsFrom, Chains};
-ghost use Rattle.kinds.specs.Inside.{Limits, puzzleWith, Held, Marks};
+ghost use Rattle.kinds.specs.Inside.{Limits, puzzleWith, Held};
 ghost use Rattle.reach.specs.Inside.{nearAt, nearAmong, reaches, Counted, Reached, Reach};
 use grid::Side;
 

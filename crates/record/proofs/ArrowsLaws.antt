@@ -11,10 +11,11 @@ use Rattle.grid.specs.Lists.{any, member, flatMap, arrayOf}
 use Rattle.grid.specs.Grid.{Grid}
 use Rattle.fields.specs.Fields.{Outcome, ok, refused, _>>=_, unless, filler}
 use Rattle.record.specs.Record.{arrowAt, arrowsAt}
-use Rattle.grid.proofs.ArrayLaws.{array-length, array-out, array-more}
+use Rattle.grid.proofs.ArrayLaws.{array-more}
+use Rattle.grid.proofs.MarkLaws.{marks-none}
 use Rattle.record.specs.Valid.{Fresh, Arrow}
 use Rattle.record.specs.Problem.{arrowCells, endsFrom}
-use Rattle.record.specs.Inside.{Answered, done, fault, mark, Kept, ArrowRead, arrow}
+use Rattle.record.specs.Inside.{Answered, done, fault, Kept, ArrowRead, arrow}
 use Rattle.record.specs.declared.Answer.the-variants.{Done, Refused}
 use Rattle.fields.specs.declared.Field.{Field}
 use Rattle.fields.specs.declared.Field.the-variants.{Value, Fault}
@@ -70,13 +71,12 @@ pub record ArrowsSoFar (s : List ℕ) (g : Grid) (at m n count : ℕ) (line ends
   pub rest : arrowsAt s g [] at m ≡ (arrowsAt s g (arrowCells read) (at + 18 * n + 2 * count) (m - n) >>= λ l. ok (read ++ l))
 
 kept-none : (line marks : List ℕ) → line ≡ arrayOf 0 [] → marks ≡ arrayOf 0 [] → Kept [] line marks
-unfolding member any mark
+unfolding member any arrayOf
 kept-none line marks e f = record {
   once = Fresh.nil;
   within = λ x m. absurd (List·Memᴰ·not-nil m);
   kept = e;
-  long = rw f (array-length 0 [] (omega arith));
-  marked = λ x h. rw f (array-out 0 [] 0 x (omega arith) h);
+  marked = rw f marks-none;
 }
 
 module _ (s : List ℕ) (g : Grid) (at m : ℕ) where

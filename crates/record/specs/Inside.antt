@@ -2,10 +2,11 @@
 -- Assumes nothing.
 use Prim.Native.Nat.{ℕ, _*_, _+_, _<_}
 use mathlib.Core.Path.{_≡_}
-use mathlib.Core.Bool.{Bool, true, false, not}
+use mathlib.Core.Bool.{not}
 use mathlib.Core.List.{List, [], _∷_, _++_, List·Memᴰ}
-use lib.ListN.{length, getD}
+use lib.ListN.{length}
 use Rattle.grid.specs.Lists.{member, arrayOf}
+use Rattle.grid.specs.Marks.{Marks}
 use Rattle.grid.specs.Grid.{Grid}
 use Rattle.fields.specs.Fields.{Outcome, ok, refused, _>>=_, unless}
 use Rattle.fields.specs.Inside.{stepAt}
@@ -23,18 +24,12 @@ pub data Answered {A : Type 0} (o : Outcome A) (P : A → Type 0) : Answer → T
   done : {a : A} → o ≡ ok a → P a → Answered o P Done
   fault : {k : ℕ} → o ≡ refused k → Answered o P (Refused k)
 
--- 1 for a cell that an arrow uses, else 0
-unfoldable pub mark : Bool → ℕ
-mark true = 1
-mark false = 0
-
 -- the arrays hold the arrow cells l: one after another, and each marked
 pub record Kept (l line marks : List ℕ) : Type 0 where
   pub once : Fresh [] l
   pub within : (x : ℕ) → List·Memᴰ x l → x < 1024
   pub kept : line ≡ arrayOf 0 l
-  pub long : length marks ≡ 1024
-  pub marked : (x : ℕ) → x < 1024 → getD marks x 0 ≡ mark (member x l)
+  pub marked : Marks marks (λ x. member x l)
 
 -- the cell that the step at `at` leads to, if no arrow uses it
 unfoldable pub takeAt : List ℕ → Grid → List ℕ → ℕ → ℕ → Outcome ℕ

@@ -12,17 +12,19 @@ use lib.ListN.{length, getD, take, List·getD-eq-default}
 use lib.Seq.{getD-take}
 use borrow.Author.Tests.{eqb-true, eq-eqb, le-leb, lt-leb}
 use Rattle.grid.specs.Lists.{range, upto, any}
+use Rattle.grid.specs.Marks.{Marks}
 use Rattle.grid.specs.Grid.{Grid, size, cellsOf}
 use Rattle.grid.specs.Side.{sized}
 use Rattle.grid.proofs.SideLaws.{area}
+use Rattle.grid.proofs.MarkLaws.{mark-on}
 use Rattle.grid.proofs.ListLaws.{so-false, and-true, true-and, not-so, any-mem, mem-any, filter-mem, upto-mem, mem-upto}
 use Rattle.record.specs.Record.{Puzzle}
 use Rattle.grid.specs.Cells.{Literal, potential, square}
 use Rattle.groups.specs.Groups.{labels, group, names}
 use Rattle.groups.specs.Arrows.{onArrow}
 use Rattle.groups.proofs.GroupLaws.{group-mem, mem-group}
-use Rattle.kinds.specs.Inside.{puzzleWith, Marks, nameAmong}
-use Rattle.kinds.proofs.ArrowMarks.{mark-on, listed-on}
+use Rattle.kinds.specs.Inside.{puzzleWith, nameAmong}
+use Rattle.kinds.proofs.ArrowMarks.{listed-on}
 use Rattle.literals.specs.Literals.{Found, orElse, reasonIf, firstOf}
 use Rattle.units.specs.Units.{reason1, reason1At}
 use Rattle.units.specs.Arrays.{PotentialArrays, Listed, strandedAt}
@@ -106,7 +108,7 @@ none-stranded p cells groups onarrow marks arrows n total small e P L M none-is 
         let r = any-mem (square now) (c f) (q .0) in
         let m = group-mem g t (labels g t) f (r .0) (r .1) in
         let own : getD groups (r .0) 0 ≡ f = eqb-true _ _ (test (r .0) f (m .0) h ∙ true-and (m .1) (eq-eqb _ _ (m .2))) in
-        let a = mark-on (nameAmong groups arrows total f) (sym (M .at f (omega arith)) ∙ eqb-true _ _ (mark (r .0) f (m .0) (r .2) own)) in
+        let a = mark-on M f (omega arith) (eqb-true _ _ (mark (r .0) f (m .0) (r .2) own)) in
         let k = any-mem _ (upto total) a in
         let o = listed-on g (p .arrows) (L .line) (L .marks) (P .arrows-are) (k .0) (upto-mem total (k .1)) in
         let i = getD arrows (k .0) 0 in

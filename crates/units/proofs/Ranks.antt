@@ -22,11 +22,11 @@ use Rattle.groups.specs.Arrays.{maskOf}
 use Rattle.groups.specs.Arrows.{onArrow}
 use Rattle.groups.proofs.GroupLaws.{group-mem}
 use Rattle.groups.proofs.LabelLaws.{label-test, label-group}
+use Rattle.groups.proofs.MarkLaws.{mask-test}
 use Rattle.literals.specs.Literals.{Found, orElse, reasonIf, firstOf}
 use Rattle.units.specs.Units.{reason1, reason1At}
 use Rattle.units.specs.Arrays.{PotentialArrays, rankAt, topRank, Ranked, firstName, foundAt, boundaryOf}
 use Rattle.units.specs.declared.Name.the-variants.{At, Nobody}
-use Rattle.kinds.proofs.Filled.{mask-test}
 
 -- ---- a mark is raised
 

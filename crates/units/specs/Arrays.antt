@@ -7,13 +7,14 @@ use mathlib.Core.List.{List, [], _∷_}
 use mathlib.Core.Option.{none, some}
 use lib.Dec.{eqb}
 use lib.ListN.{length, getD, take}
-use Rattle.grid.specs.Lists.{filter, upto}
+use Rattle.grid.specs.Lists.{filter, upto, member}
+use Rattle.grid.specs.Marks.{Marks}
 use Rattle.grid.specs.Grid.{Grid}
 use Rattle.record.specs.Record.{Puzzle}
 use Rattle.grid.specs.Cells.{Literal, potential}
 use Rattle.groups.specs.Groups.{labels, group}
 use Rattle.groups.specs.Arrows.{onArrow}
-use Rattle.groups.specs.Arrays.{Line, labelArray, maskOf, marksOf}
+use Rattle.groups.specs.Arrays.{Line, labelArray, maskOf}
 use Rattle.literals.specs.Literals.{Found}
 use Rattle.units.specs.Units.{boundary}
 use Rattle.units.specs.declared.Name.{Name}
@@ -27,7 +28,7 @@ pub record PotentialArrays (p : Puzzle) (cells groups onarrow : List ℕ) : Type
 -- the first `total` cells of an array are those that are marked
 pub record Listed (arrows : List ℕ) (total : ℕ) (onarrow : List ℕ) : Type 0 where
   pub line : Line arrows total
-  pub marks : onarrow ≡ marksOf (take total arrows)
+  pub marks : Marks onarrow (λ i. member i (take total arrows))
 
 -- cell i is a square of a group that is not marked
 unfoldable pub strandedAt : List ℕ → List ℕ → List ℕ → ℕ → Bool

@@ -9,16 +9,16 @@ use mathlib.Core.List.{List}
 use borrow.Author.Needs.{needs}
 use borrow.Author.Tests.{not-true, not-false}
 use lib.ListN.{length, getD, drop}
-use Rattle.grid.specs.Lists.{all, upto}
+use Rattle.grid.specs.Lists.{all, upto, member}
+use Rattle.grid.specs.Marks.{Marks}
 use Rattle.grid.proofs.AppendLaws.{upto-at, upto-length}
 use Rattle.form.specs.Form.{shown}
-use Rattle.form.specs.Inside.{Marks}
 use Rattle.form.proofs.Passes.{pass-on, pass-fail, pass-end, right-shown}
 use Rattle.decisions.proofs.all_right.Statement.{statement}
 use Rattle.decisions.proofs.all_right.Tie as tie
 
 abbrev Inv-loop : tie.InvT-loop
-Inv-loop cells marks n good₀ i₀ good i = (listed : List ℕ) → Marks listed marks → all (shown listed cells) (upto n) ≡ (good && all (shown listed cells) (drop i (upto n)))
+Inv-loop cells marks n good₀ i₀ good i = (listed : List ℕ) → Marks marks (λ j. member j listed) → all (shown listed cells) (upto n) ≡ (good && all (shown listed cells) (drop i (upto n)))
 
 abbrev μ-loop : tie.MeasureT-loop
 μ-loop cells marks n good₀ i₀ good i = n - i
@@ -51,7 +51,7 @@ loop-again c =
     let lt : t .i < length (upto n) = omega (arith, upto-length n) in
     λ listed m.
     let r : c .before .right .result ≡ shown listed cells (getD (upto n) (t .i) 0) =
-    c .before .right .ensures ∙ right-shown cells m (t .i) (omega arith) ∙ rw (upto-at n (t .i) h) refl in
+    c .before .right .ensures ∙ right-shown listed cells m (t .i) (omega arith) ∙ rw (upto-at n (t .i) h) refl in
     ⊎-elim
     (λ w. rw (w .1) (pass-fail (shown listed cells) (upto n) (t .good) (t .i) lt (t .inv listed m) (sym r ∙ not-true (c .before .right .result) (w .0 .taken))))
     (λ w. rw (w .1) (pass-on (shown listed cells) (upto n) (t .good) (t .i) lt (t .inv listed m) (sym r ∙ not-false (c .before .right .result) (w .0 .left))))

@@ -5,18 +5,20 @@ use native.Mathlib.Omega.{arith}
 use mathlib.Core.Path.{_≡_}
 use lib.ListN.{take}
 use borrow.Author.Needs.{needs}
-use Rattle.groups.specs.Arrays.{marksOf}
-use Rattle.groups.proofs.MarkLaws.{marks-none, marks-more}
+use Rattle.grid.specs.Lists.{any, member}
+use Rattle.grid.specs.Marks.{Marks}
+use Rattle.grid.proofs.MarkLaws.{marks-none, marks-next}
 use Rattle.groups.proofs.mark_arrow_cells.Statement.{statement}
 use Rattle.groups.proofs.mark_arrow_cells.Tie as tie
 
 abbrev Inv-loop : tie.InvT-loop
-Inv-loop arrows total marks₀ k₀ marks k = (k ≤ total) × (marks ≡ marksOf (take k arrows))
+Inv-loop arrows total marks₀ k₀ marks k = (k ≤ total) × Marks marks (λ i. member i (take k arrows))
 
 abbrev μ-loop : tie.MeasureT-loop
 μ-loop arrows total marks₀ k₀ marks k = total - k
 
 loop-holds : tie.Need-loop-holds Inv-loop μ-loop
+unfolding member any
 loop-holds c = (omega arith, marks-none)
 
 mul-wide : tie.Need-mul-wide Inv-loop μ-loop
@@ -45,7 +47,7 @@ loop-again c =
     let a = c .before .before .before .before .before in
     let k = c .before .before .before .loop .k in
     let v = c .before .before .before .loop .inv in
-    (omega arith, rw (v .1, c .wide .ensures .0) (marks-more (a .args .arrows .now) k (omega (arith, a .pre .long)) (a .pre .cells k (c .before .before .loop-test .taken))))
+    (omega arith, rw (c .wide .ensures .0) (marks-next (a .args .arrows .now) k (omega (arith, a .pre .long)) (a .pre .cells k (c .before .before .loop-test .taken)) (v .1)))
 
 returns : tie.Need-returns Inv-loop μ-loop
 returns c =

@@ -4,8 +4,10 @@ use Prim.Native.Nat.{_≤_, _-_}
 use mathlib.Core.Path.{_≡_}
 use borrow.Author.Needs.{needs}
 use native.Mathlib.Omega.{arith}
-use Rattle.kinds.specs.Inside.{Marks, nameAmong, nameTwice}
-use Rattle.kinds.proofs.Filled.{marks-none, among-none, among-more, twice-none, twice-next}
+use Rattle.grid.specs.Marks.{Marks}
+use Rattle.grid.proofs.MarkLaws.{marks-none}
+use Rattle.kinds.specs.Inside.{nameAmong, nameTwice}
+use Rattle.kinds.proofs.Filled.{among-none, among-more, twice-none, twice-next}
 use Rattle.kinds.proofs.mark_arrow_blocks.Statement.{statement}
 use Rattle.kinds.proofs.mark_arrow_blocks.Tie as tie
 

@@ -4,11 +4,11 @@ use Prim.Native.Nat.{_≤_, _-_, _*_}
 use mathlib.Core.Path.{_≡_}
 use borrow.Author.Needs.{needs}
 use native.Mathlib.Omega.{arith}
+use Rattle.grid.specs.Marks.{Marks}
 use Rattle.grid.specs.Side.{sized}
 use Rattle.grid.proofs.SideLaws.{area}
-use Rattle.kinds.specs.Inside.{Marks}
+use Rattle.grid.proofs.MarkLaws.{marks-none}
 use Rattle.reach.specs.Inside.{nearAmong}
-use Rattle.kinds.proofs.Filled.{marks-none}
 use Rattle.reach.proofs.Counting.{among-near-none, among-near-more}
 use Rattle.reach.proofs.mark_near_floats.Statement.{statement}
 use Rattle.reach.proofs.mark_near_floats.Tie as tie
