@@ -1,9 +1,9 @@
 -- The arrays of the code: the groups of all cells, marks of cells, and the arrows.
 -- Assumes nothing.
-use Prim.Native.Nat.{ℕ, _≤_, _<_}
+use Prim.Native.Nat.{ℕ, _+_, _≤_, _<_}
 use mathlib.Core.Path.{_≡_}
 use mathlib.Core.Bool.{Bool, cond}
-use mathlib.Core.List.{List, map}
+use mathlib.Core.List.{List, map, List·Memᴰ}
 use lib.ListN.{length, getD, take}
 use Rattle.grid.specs.Grid.{Grid, cellsOf}
 use Rattle.grid.specs.Lists.{arrayOf}
@@ -45,3 +45,13 @@ pub record CellArray (a : List ℕ) : Type 0 where
 -- all arrows as they stand in arrays
 abbrev pub linesOf : List ℕ → List ℕ → ℕ → List (List ℕ)
 linesOf arrows ends count = arrowsFrom arrows 0 (take count ends)
+
+-- the arrays hold the arrows of a board of n cells: their cells one after another, and where each of `number` arrows ends
+pub record Drawn (n : ℕ) (arrows ends : List ℕ) (number : ℕ) : Type 0 where
+  pub places : CellArray arrows
+  pub many : number ≤ 1024
+  pub ends-long : number ≤ length ends
+  pub ends-low : (a : ℕ) → a < number → getD ends a 0 ≤ 1024
+  pub ends-rise : (a : ℕ) → a + 1 < number → getD ends a 0 ≤ getD ends (a + 1) 0
+  pub inside : (a : List ℕ) → List·Memᴰ a (linesOf arrows ends number) → (i : ℕ) → List·Memᴰ i a → i < n
+  pub few : (a : List ℕ) → List·Memᴰ a (linesOf arrows ends number) → length a ≤ n

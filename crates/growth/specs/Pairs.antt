@@ -3,13 +3,13 @@
 use Prim.Native.Nat.{ℕ, _+_, _*_, _≤_, _<_}
 use mathlib.Core.Path.{_≡_}
 use mathlib.Core.Bool.{Bool, true, false, cond}
-use mathlib.Core.List.{List, List·Memᴰ}
-use lib.ListN.{length, getD, take}
+use mathlib.Core.List.{List}
+use lib.ListN.{getD, take}
 use lib.Seq.{slice}
 use Rattle.grid.specs.Side.{sized}
 use Rattle.grid.specs.Cells.{square}
 use Rattle.groups.specs.Arrows.{onArrow, Pair}
-use Rattle.groups.specs.Arrays.{CellArray, linesOf}
+use Rattle.groups.specs.Arrays.{CellArray, linesOf, Drawn}
 use Rattle.kinds.specs.Kinds.{View, view}
 use Rattle.kinds.specs.Arrays.{reachMask}
 use Rattle.literals.specs.Literals.{Found}
@@ -75,13 +75,7 @@ pub record Squares (h w : ℕ) (cells arrows kinds owners : List ℕ) (last cur 
   pub first : square cells (getD arrows last 0) ≡ true
   pub second : square cells (getD arrows cur 0) ≡ true
 
--- the arrays hold a board with its arrows, which are no longer than the grid is large
-pub record Whole (h w : ℕ) (cells arrows ends kinds owners : List ℕ) (count : ℕ) : Type 0 where
-  pub held : Held (viewOn h w (linesOf arrows ends count) cells) kinds owners
-  pub places : CellArray arrows
-  pub many : count ≤ 1024
-  pub ends-long : count ≤ length ends
-  pub ends-low : (a : ℕ) → a < count → getD ends a 0 ≤ 1024
-  pub ends-rise : (a : ℕ) → a + 1 < count → getD ends a 0 ≤ getD ends (a + 1) 0
-  pub inside : (a : List ℕ) → List·Memᴰ a (linesOf arrows ends count) → (i : ℕ) → List·Memᴰ i a → i < h * w
-  pub few : (a : List ℕ) → List·Memᴰ a (linesOf arrows ends count) → length a ≤ h * w
+-- the arrays hold a board with its arrows and its kinds
+pub record Whole (h w : ℕ) (cells arrows ends kinds owners : List ℕ) (number : ℕ) : Type 0 where
+  pub held : Held (viewOn h w (linesOf arrows ends number) cells) kinds owners
+  pub drawn : Drawn (h * w) arrows ends number

@@ -49,7 +49,7 @@ found-literals (some r) {before} {after} {k} x =
 pub few-literals : (h w : ℕ) {arrows ends : List ℕ} {number total : ℕ} (cells : List ℕ) {k : ℕ} {buffer : List ℕ} → ArrowArrays (h * w) arrows ends number total
     → Literals (findReason (puzzleWith (sized h w) (linesOf arrows ends number)) cells) k buffer → k ≤ 3 * (h * w) + 1
 unfolding size
-few-literals h w {arrows} {ends} {number} cells d l = rw (l .many) (reason-length (puzzleWith (sized h w) (linesOf arrows ends number)) cells (d .few) (l .reason) (l .is))
+few-literals h w {arrows} {ends} {number} cells d l = rw (l .many) (reason-length (puzzleWith (sized h w) (linesOf arrows ends number)) cells (d .drawn .few) (l .reason) (l .is))
 
 -- none, as the host has it
 pub none-told : {f : Found} (output : List ℕ) → f ≡ none → (pos 0 ≡ returned (ok f)) × (output ≡ outputAfter (ok f) output)

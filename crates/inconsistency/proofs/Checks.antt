@@ -1,7 +1,6 @@
 -- What the searches for reasons 1 and 2 found, as an answer and a lent buffer.
 -- Assumes nothing.
 use Prim.Native.Nat.{ℕ, suc, _*_, _≤_, _<_}
-use native.Mathlib.Omega.{arith}
 use mathlib.Core.Bool.{true, false}
 use mathlib.Core.Path.{_≡_, refl, subst, _∙_}
 use mathlib.Core.List.{List, List·Memᴰ}
@@ -20,7 +19,7 @@ use Rattle.groups.specs.Arrows.{onArrow}
 use Rattle.groups.specs.Arrays.{Line, linesOf, maskOf, labelArray, counts}
 use Rattle.groups.proofs.MarkLaws.{arrow-marks}
 use Rattle.groups.proofs.LabelLaws.{labels-potential, labels-blocks}
-use Rattle.kinds.specs.Inside.{puzzleWith, Held}
+use Rattle.kinds.specs.Inside.{puzzleWith}
 use Rattle.kinds.specs.Kinds.{view}
 use Rattle.literals.specs.declared.Finding.{Finding}
 use Rattle.literals.specs.declared.Finding.the-variants.{Nothing, Reason, Refused}
@@ -31,9 +30,8 @@ use Rattle.growth.specs.Growth.{reason34}
 use Rattle.inconsistency.specs.Reasons.{findReason}
 use Rattle.units.specs.Arrays.{PotentialArrays, Listed}
 use Rattle.paths.specs.Ends.{BlockArrays}
-use Rattle.inconsistency.specs.Arrays.{ArrowArrays, Ready}
+use Rattle.inconsistency.specs.Arrays.{ArrowArrays}
 use Rattle.literals.specs.Buffer.{FoundAs, Fit}
-use Rattle.growth.specs.Pairs.{Whole, viewOn}
 use Rattle.literals.proofs.Findings.{nothing-found, not-refused, found-first, found-next}
 use Rattle.units.proofs.Checks.{sized-size}
 
@@ -55,11 +53,11 @@ module _ (h w : ℕ) (tall : h ≤ 32) (wide : w ≤ 32) {arrows ends : List ℕ
       inside : (i : ℕ) → List·Memᴰ i (take total arrows) → i < size (sized h w)
       inside i m =
           let r = flatMap-mem (λ (a : List ℕ). a) (linesOf arrows ends number) (rw (d .cells-are) at m) in
-          rw (← sized-size h w) (d .inside (r .0) (r .1) i (r .2))
+          rw (← sized-size h w) (d .drawn .inside (r .0) (r .1) i (r .2))
 
   -- the cells in the array are a line of arrows
   pub line-is : Line arrows total
-  line-is = record { long = d .places .long; within = d .within; cells = λ k h. d .places .cells k }
+  line-is = record { long = d .drawn .places .long; within = d .within; cells = λ k h. d .drawn .places .cells k }
 
   pub listed-is : {onarrow : List ℕ} → Marks onarrow (λ i. member i (take total arrows)) → Listed arrows total onarrow
   listed-is m = record { line = line-is; marks = m }
@@ -78,20 +76,6 @@ module _ (h w : ℕ) (tall : h ≤ 32) (wide : w ≤ 32) {arrows ends : List ℕ
     blocks-are = l ∙ labels-blocks (sized h w) (take (h * w) cells) (rw (← sized-size h w) (area h w tall wide));
     arrows-are = marks-are m;
   }
-
--- a board that is ready, with its kinds
-pub whole-of : {h w : ℕ} {cells arrows ends blocks arrowed kinds owners : List ℕ} {number : ℕ} → Ready h w cells arrows ends number blocks arrowed
-    → Held (viewOn h w (linesOf arrows ends number) cells) kinds owners → Whole h w cells arrows ends kinds owners number
-whole-of r k = record {
-  held = k;
-  places = r .drawn .places;
-  many = r .drawn .many;
-  ends-long = omega (arith, r .drawn .many, r .drawn .ends-long);
-  ends-low = r .drawn .ends-low;
-  ends-rise = r .drawn .ends-rise;
-  inside = r .drawn .inside;
-  few = r .drawn .few;
-}
 
 -- ---- one search after another
 

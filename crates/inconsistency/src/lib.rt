@@ -15,7 +15,7 @@ ghost use Rattle.kinds.specs.Inside.{puzzleWith};
 
 // How many cells the arrows have together: the end of the last one.
 fn arrow_total(ends: &[u16; 1024], number: usize) -> usize
-    requires { ⌜ (number ≤ 1024) × (length (now ends) ≡ 1024) ⌝ }
+    requires { ⌜ (number ≤ 1024) × (number ≤ length (now ends)) ⌝ }
     ensures { λ r. ⌜ r ≡ last 0 (take number (now (ends .entry))) ⌝ }
 {
     if number == 0 {

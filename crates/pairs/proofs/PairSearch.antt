@@ -121,22 +121,22 @@ module _ (f : Pair → Found) (cells arrows ends : List ℕ) (number from a : �
 module _ {h w : ℕ} {cells arrows ends kinds owners : List ℕ} {number : ℕ} (all : Whole h w cells arrows ends kinds owners number) (from a : ℕ) (within : a < number)
     (sub : (l : List ℕ) → List·Memᴰ l (linesFrom arrows ends number from a) → List·Memᴰ l (linesOf arrows ends number)) where
   this : List·Memᴰ (slice from (getD ends a 0) arrows) (linesOf arrows ends number)
-  this = sub _ (rw (lines-more arrows ends number from a within (all .ends-long)) (List·Memᴰ·head refl))
+  this = sub _ (rw (lines-more arrows ends number from a within (all .drawn .ends-long)) (List·Memᴰ·head refl))
 
   pub sub-more : (l : List ℕ) → List·Memᴰ l (linesFrom arrows ends number (getD ends a 0) (a + 1)) → List·Memᴰ l (linesOf arrows ends number)
-  sub-more l m = sub l (rw (lines-more arrows ends number from a within (all .ends-long)) (List·Memᴰ·tail m))
+  sub-more l m = sub l (rw (lines-more arrows ends number from a within (all .drawn .ends-long)) (List·Memᴰ·tail m))
 
   module _ (rise : from ≤ getD ends a 0) where
     pub next-scene : Scene h w (linesOf arrows ends number) cells arrows kinds owners from (getD ends a 0)
     unfolding onArrow
     next-scene =
-        let short : getD ends a 0 ≤ length arrows = omega (arith, all .ends-low a within, all .places .long) in
+        let short : getD ends a 0 ≤ length arrows = omega (arith, all .drawn .ends-low a within, all .drawn .places .long) in
         record {
           held = all .held;
-          few = omega (arith, all .few (slice from (getD ends a 0) arrows) this, length-slice from (getD ends a 0) arrows short);
-          inside = λ k p q. all .inside (slice from (getD ends a 0) arrows) this (getD arrows k 0) (slice-at arrows from (getD ends a 0) k p q short);
+          few = omega (arith, all .drawn .few (slice from (getD ends a 0) arrows) this, length-slice from (getD ends a 0) arrows short);
+          inside = λ k p q. all .drawn .inside (slice from (getD ends a 0) arrows) this (getD arrows k 0) (slice-at arrows from (getD ends a 0) k p q short);
           on-arrow = λ k p q. mem-any (member (getD arrows k 0)) (linesOf arrows ends number) this (mem-member (getD arrows k 0) (slice from (getD ends a 0) arrows) (slice-at arrows from (getD ends a 0) k p q short));
         }
 
     pub next-line : Line h w cells arrows kinds owners from (getD ends a 0)
-    next-line = record { lines = linesOf arrows ends number; scene = next-scene; places = all .places; order = rise; short = all .ends-low a within }
+    next-line = record { lines = linesOf arrows ends number; scene = next-scene; places = all .drawn .places; order = rise; short = all .drawn .ends-low a within }

@@ -96,16 +96,19 @@ module _ (p : Puzzle) (v : Valid p) where
       let n : length (endsFrom 0 (p .arrows)) ≡ length (p .arrows) = length-ends 0 (p .arrows) in
       let end : (a : ℕ) → a < length (p .arrows) → getD (arrayOf 0 (endsFrom 0 (p .arrows))) a 0 ≡ getD (endsFrom 0 (p .arrows)) a 0 =
       λ a h. array-in 0 (endsFrom 0 (p .arrows)) 0 a (omega arith) in
+      let many = leb-true (length (p .arrows)) 1024 (f .0) in
       record {
-        places = record { long = array-length 0 (arrowCells (p .arrows)) (omega (arith, few-cells, most)); cells = place-low };
-        many = leb-true (length (p .arrows)) 1024 (f .0);
+        drawn = record {
+          places = record { long = array-length 0 (arrowCells (p .arrows)) (omega (arith, few-cells, most)); cells = place-low };
+          many = many;
+          ends-long = omega (arith, array-length 0 (endsFrom 0 (p .arrows)) (omega arith));
+          ends-low = λ a h. rw (end a h) (omega (arith, rises-low 0 (endsFrom 0 (p .arrows)) (f .1) a (omega arith), last-end p v, few-cells, most));
+          ends-rise = λ a h. rw (end a (omega arith), end (a + 1) h, add-one a) (rises-step 0 (endsFrom 0 (p .arrows)) (f .1) a (omega arith));
+          inside = rw lines-are (λ a m i k. arrows-size (v .arrows) a m i k);
+          few = rw lines-are (λ a m. omega (arith, one-length (p .arrows) a m, arrows-length p v));
+        };
         within = rw (ends-taken p v, last-end p v) (omega (arith, few-cells, most));
-        ends-long = array-length 0 (endsFrom 0 (p .arrows)) (omega (arith, leb-true (length (p .arrows)) 1024 (f .0)));
-        ends-low = λ a h. rw (end a h) (omega (arith, rises-low 0 (endsFrom 0 (p .arrows)) (f .1) a (omega arith), last-end p v, few-cells, most));
-        ends-rise = λ a h. rw (end a (omega arith), end (a + 1) h, add-one a) (rises-step 0 (endsFrom 0 (p .arrows)) (f .1) a (omega arith));
         cells-are = rw (lines-are, ends-taken p v, last-end p v) (array-take 0 (arrowCells (p .arrows)));
-        inside = rw lines-are (λ a m i k. arrows-size (v .arrows) a m i k);
-        few = rw lines-are (λ a m. omega (arith, one-length (p .arrows) a m, arrows-length p v));
       }
 
 -- a well-formed board has a grid of at most 32 by 32

@@ -3,7 +3,6 @@
 use mathlib.Core.Path.{refl}
 use Rattle.grid.proofs.SideLaws.{area}
 use Rattle.groups.specs.Arrays.{linesOf}
-use Rattle.inconsistency.proofs.Checks.{whole-of}
 use borrow.Author.Needs.{needs}
 use Rattle.inconsistency.proofs.check_arrows.Statement.{statement}
 use Rattle.inconsistency.proofs.check_arrows.Tie as tie
@@ -27,8 +26,10 @@ search-pairs-requires : tie.Need-search-pairs-requires
 search-pairs-requires c κs =
     let s = c .before .before .before .before .before .before .before .before .before .before .before .before .before .before .before .before .before in (
       s .pre .0,
-      whole-of (s .pre .1)
-          (c .before .before .before .before .before .before .before .before .before .before .before .before .before .compute-board-info-detailed .ensures (linesOf (s .args .arrows .now) (s .args .ends .now) (s .args .number)) (s .pre .1 .held)),
+      record {
+        held = c .before .before .before .before .before .before .before .before .before .before .before .before .before .compute-board-info-detailed .ensures (linesOf (s .args .arrows .now) (s .args .ends .now) (s .args .number)) (s .pre .1 .held);
+        drawn = s .pre .1 .drawn;
+      },
       record { chains = c .before .before .before .before .before .before .before .before .before .chain-cells .ensures; counts = c .before .before .before .before .before .before .count-cells .ensures },
     )
 

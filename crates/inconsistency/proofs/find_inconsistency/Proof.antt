@@ -160,7 +160,7 @@ check-arrows-requires c κs =
     let p = passed (labelled b) in
     let s = start (searched p) in (
       fit-after (s .pre .0) (same-after (reason2 (puzzle s) (held s)) (two b) (e .enum-told2 .given .1) ∙ same-after (reason1 (puzzle s) (held s)) (one (searched p)) (none p)),
-      record { total = totalled (searched p) .arrow-total .result; drawn = drawn (totalled (searched p)); held = b .check-blocks .ensures .1 (lines s) (blocks (labelled b)) },
+      record { drawn = s .pre .1 .drawn; held = b .check-blocks .ensures .1 (lines s) (blocks (labelled b)) },
     )
 
 enum-known-second : tie.Need-enum-known-second

@@ -36,10 +36,10 @@ loop-holds : tie.Need-loop-holds Inv-loop μ-loop
 loop-holds c = record { high = omega arith; rise = λ h. omega arith; work = c .before .pre .3; same = refl; sub = λ l m. m; passed = refl }
 
 mul-wide : tie.Need-mul-wide Inv-loop μ-loop
-mul-wide c = omega (arith, c .loop-test .taken, c .before .before .before .pre .1 .many)
+mul-wide c = omega (arith, c .loop-test .taken, c .before .before .before .pre .1 .drawn .many)
 
 element-copy-out-wide : tie.Need-element-copy-out-wide Inv-loop μ-loop
-element-copy-out-wide c = omega (arith, c .loop-test .taken, c .before .before .before .pre .1 .many)
+element-copy-out-wide c = omega (arith, c .loop-test .taken, c .before .before .before .pre .1 .drawn .many)
 
 wide-requires : tie.Need-wide-requires Inv-loop μ-loop
 wide-requires c κs = search needs
@@ -57,7 +57,7 @@ enum-told : tie.Need-enum-told Inv-loop μ-loop
 enum-told c = search needs
 
 add-a : tie.Need-add-a Inv-loop μ-loop
-add-a c = omega (arith, c .before .before .before .before .before .before .before .before .before .before .before .before .loop-test .taken, c .before .before .before .before .before .before .before .before .before .before .before .before .before .before .before .pre .1 .many)
+add-a c = omega (arith, c .before .before .before .before .before .before .before .before .before .before .before .before .loop-test .taken, c .before .before .before .before .before .before .before .before .before .before .before .before .before .before .before .pre .1 .drawn .many)
 
 loop-less : tie.Need-loop-less Inv-loop μ-loop
 loop-less c = omega (arith, c .before .before .before .before .before .before .before .before .before .before .before .before .loop-test .taken)
@@ -73,11 +73,11 @@ loop-again c =
     let found = rw (e, c .enum-told .given .1) at (search1 .0 (linesOf (n .arrows .now) (n .ends .now) (n .number)) (rw e (next-scene (s .pre .1) (l .from) (l .a) within (l .inv .sub) (l .inv .rise within)))) in
     record {
       high = omega (arith, within);
-      rise = λ h. rw e (s .pre .1 .ends-rise (l .a) h);
+      rise = λ h. rw e (s .pre .1 .drawn .ends-rise (l .a) h);
       work = search1 .1;
       same = nothing-found _ found .1 ∙ l .inv .same;
       sub = rw e (sub-more (s .pre .1) (l .from) (l .a) within (l .inv .sub));
-      passed = rw e (l .inv .passed ∙ rest-more (reasonAt (n .fourth) (viewOn (n .h) (n .w) (linesOf (n .arrows .now) (n .ends .now) (n .number)) (n .cells .now))) (take (n .h * n .w) (n .cells .now)) (n .arrows .now) (n .ends .now) (n .number) (l .from) (l .a) within (s .pre .1 .ends-long) found);
+      passed = rw e (l .inv .passed ∙ rest-more (reasonAt (n .fourth) (viewOn (n .h) (n .w) (linesOf (n .arrows .now) (n .ends .now) (n .number)) (n .cells .now))) (take (n .h * n .w) (n .cells .now)) (n .arrows .now) (n .ends .now) (n .number) (l .from) (l .a) within (s .pre .1 .drawn .ends-long) found);
     }
 
 enum-known-finding : tie.Need-enum-known-finding Inv-loop μ-loop
@@ -95,7 +95,7 @@ returns c =
     let e = c .before .before .before .before .before .before .before .before .before .before .before .wide .ensures .0 in
     let search1 = c .before .before .before .before .before .search-arrow .ensures in
     let found = rw (e, c .before .finding .given .1) at (search1 .0 (linesOf (n .arrows .now) (n .ends .now) (n .number)) (rw e (next-scene (s .pre .1) (l .from) (l .a) within (l .inv .sub) (l .inv .rise within)))) in
-    (rw (l .inv .passed) (rw (l .inv .same) at (rest-found (reasonAt (n .fourth) (viewOn (n .h) (n .w) (linesOf (n .arrows .now) (n .ends .now) (n .number)) (n .cells .now))) (take (n .h * n .w) (n .cells .now)) (n .arrows .now) (n .ends .now) (n .number) (l .from) (l .a) within (s .pre .1 .ends-long) found)), search1 .1)
+    (rw (l .inv .passed) (rw (l .inv .same) at (rest-found (reasonAt (n .fourth) (viewOn (n .h) (n .w) (linesOf (n .arrows .now) (n .ends .now) (n .number)) (n .cells .now))) (take (n .h * n .w) (n .cells .now)) (n .arrows .now) (n .ends .now) (n .number) (l .from) (l .a) within (s .pre .1 .drawn .ends-long) found)), search1 .1)
 
 enum-known-finding-2 : tie.Need-enum-known-finding-2 Inv-loop μ-loop
 enum-known-finding-2 c = search needs
