@@ -109,9 +109,9 @@ pub fn find_inconsistency<'a>(
         total,
         &labels,
         &onarrow,
-        &mut arrowed,
         h,
         w,
+        &mut arrowed,
         buffer,
     );
     match second {

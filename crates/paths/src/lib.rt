@@ -229,9 +229,9 @@ pub fn check_blocks(
     total: usize,
     blocks: &[u16; 1024],
     onarrow: &[u8; 1024],
-    arrowed: &mut [u8; 1024],
     h: usize,
     w: usize,
+    arrowed: &mut [u8; 1024],
     buffer: &mut [u16],
 ) -> Finding
     requires { ⌜ Fit h w (now buffer) × Blocked h w (now cells) (now blocks) (now onarrow) × Listed (now arrows) total (now onarrow) ⌝ }
