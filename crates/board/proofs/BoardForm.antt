@@ -20,6 +20,7 @@ use Rattle.record.specs.Record.{Puzzle}
 use Rattle.record.specs.Valid.{Fresh, Valid}
 use Rattle.record.specs.Problem.{problemOf, puzzleOf, gridOf}
 use Rattle.record.proofs.FreshLaws.{fresh-length}
+use Rattle.record.proofs.RecordLaws.{valid-size}
 use Rattle.form.specs.Form.{long, behind, fresh, problemFormed, shown, stated, ordered}
 use Rattle.form.proofs.ArrayTests.{behind-kept, kept-behind, fresh-is, is-fresh}
 use Rattle.form.proofs.ProblemForm.{Formed, formed-is, is-formed, formed-again, valid-formed}
@@ -255,9 +256,6 @@ module _ (b : Board) (w : Whole b) where
 -- ---- and the other way round
 
 module _ (p : Puzzle) (v : Valid p) {ds : List Literal} (s : Standing (p .grid) ds) where
-  grid-most : size (p .grid) ≤ 1024
-  grid-most = size-most (p .grid) (v .high .0) (v .high .1)
-
   -- the board shows the value at each cell
   pub cell-shown : (i : ℕ) → i < size (p .grid) → getD (arrayOf 2 (cellsAfter (p .grid) ds)) i 0 ≡ valueAt ds i
   cell-shown i h = array-in 2 (cellsAfter (p .grid) ds) 0 i (omega (arith, cells-length (p .grid) ds)) ∙ cell-value (p .grid) ds i h
@@ -277,11 +275,11 @@ module _ (p : Puzzle) (v : Valid p) {ds : List Literal} (s : Standing (p .grid) 
   pub standing-whole : Whole (boardOf p ds)
   unfolding boardOf problemOf gridOf
   standing-whole =
-      let n : length ds ≤ 1024 = omega (arith, standing-length s, grid-most) in
+      let n : length ds ≤ 1024 = omega (arith, standing-length s, valid-size v) in
       let f = standing-fresh s in
       record {
         problem = valid-formed p v;
-        cells-long = array-length 2 (cellsAfter (p .grid) ds) (omega (arith, cells-length (p .grid) ds, grid-most));
+        cells-long = array-length 2 (cellsAfter (p .grid) ds) (omega (arith, cells-length (p .grid) ds, valid-size v));
         order-long = array-length 0 (map index ds) (omega (arith, length-map ds index));
         few = n;
         once = rw order-taken (is-fresh (size (p .grid)) (f .0) (f .1));

@@ -15,14 +15,13 @@ use Rattle.grid.specs.Lists.{any, init, arrayOf}
 use Rattle.grid.specs.Grid.{Grid, size}
 use Rattle.grid.proofs.ListLaws.{dec-so, so-false}
 use Rattle.grid.proofs.ArrayLaws.{array-set, array-more, array-less, array-in}
-use Rattle.grid.proofs.GridLaws.{size-most}
 use Rattle.grid.proofs.AppendLaws.{init-more}
 use Rattle.record.specs.Record.{Puzzle, Outcome, ok, refused, readRecord}
 use Rattle.record.specs.Valid.{Valid}
 use Rattle.record.specs.Write.{writeRecord}
 use Rattle.record.specs.Problem.{problemOf, puzzleOf, gridOf, numberOf, blank}
 use Rattle.record.specs.declared.Answer.the-variants.{Done}
-use Rattle.record.proofs.RecordLaws.{record-valid}
+use Rattle.record.proofs.RecordLaws.{record-valid, valid-size}
 use Rattle.record.proofs.WriteLaws.{round-trip, written-bytes}
 use Rattle.form.specs.Form.{problemFormed, goodSize}
 use Rattle.form.proofs.ProblemForm.{formed-valid}
@@ -71,14 +70,11 @@ cells-more g ds i v l h =
             (cell-value g ds j (omega (arith, length-set (cellsAfter g ds) i v, cells-length g ds)))
 
 module _ (p : Puzzle) (v : Valid p) where
-  most : size (p .grid) ≤ 1024
-  most = size-most (p .grid) (v .high .0) (v .high .1)
-
   -- one more decision on the board
   placed-more : {ds : List Literal} → Standing (p .grid) ds → (i x : ℕ) → i < size (p .grid) → x ≤ 1 → decided ds i ≡ false → placed (boardOf p ds) i x ≡ boardOf p (ds ++ ((i, x) ∷ []))
   unfolding placed boardOf
   placed-more {ds} s i x l k h =
-      let room : length ds < 1024 = omega (arith, standing-length (more s l k h), length-append ds ((i, x) ∷ []), most) in
+      let room : length ds < 1024 = omega (arith, standing-length (more s l k h), length-append ds ((i, x) ∷ []), valid-size v) in
       let c : set (arrayOf 2 (cellsAfter (p .grid) ds)) i x ≡ arrayOf 2 (cellsAfter (p .grid) (ds ++ ((i, x) ∷ []))) =
       array-set 2 (cellsAfter (p .grid) ds) i x (omega (arith, cells-length (p .grid) ds)) ∙ ap (arrayOf 2) (cells-more (p .grid) ds i x l h) in
       let o : set (arrayOf 0 (map index ds)) (length ds) i ≡ arrayOf 0 (map index (ds ++ ((i, x) ∷ []))) =
@@ -90,7 +86,7 @@ module _ (p : Puzzle) (v : Valid p) where
   removed-less : {ds : List Literal} → Standing (p .grid) ds → (i x : ℕ) → i < size (p .grid) → x ≤ 1 → decided ds i ≡ false → removed (boardOf p (ds ++ ((i, x) ∷ []))) ≡ boardOf p ds
   unfolding removed boardOf
   removed-less {ds} s i x l k h =
-      let room : length ds < 1024 = omega (arith, standing-length (more s l k h), length-append ds ((i, x) ∷ []), most) in
+      let room : length ds < 1024 = omega (arith, standing-length (more s l k h), length-append ds ((i, x) ∷ []), valid-size v) in
       let n : length (ds ++ ((i, x) ∷ [])) - 1 ≡ length ds = omega (arith, length-append ds ((i, x) ∷ [])) in
       let m : map index (ds ++ ((i, x) ∷ [])) ≡ map index ds ++ (i ∷ []) = map-append index ds ((i, x) ∷ []) in
       let at : getD (arrayOf 0 (map index ds ++ (i ∷ []))) (length ds) 0 ≡ i =

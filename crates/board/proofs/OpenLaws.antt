@@ -7,13 +7,12 @@ use mathlib.Core.List.{List, [], _∷_, map}
 use lib.ListN.{replicate, length-replicate, replicate-append-replicate}
 use Rattle.grid.specs.Lists.{range, upto, arrayOf}
 use Rattle.grid.specs.Grid.{Grid, size, cellsOf}
-use Rattle.grid.proofs.GridLaws.{size-most}
 use Rattle.record.specs.Record.{Outcome, ok, refused, Puzzle, readRecord}
 use Rattle.record.specs.Problem.{reading, readOf}
 use Rattle.record.specs.declared.Problem.{Problem}
 use Rattle.record.specs.declared.Reading.{Reading}
 use Rattle.record.specs.declared.Answer.{Answer}
-use Rattle.record.proofs.RecordLaws.{record-valid}
+use Rattle.record.proofs.RecordLaws.{record-valid, valid-size}
 use Rattle.board.specs.declared.Opened.{Opened}
 use Rattle.board.specs.Board.{valueAt, cellsAfter}
 use Rattle.board.specs.Kept.{boardOf, blankBoard, opening, openOf}
@@ -43,7 +42,7 @@ opened s = go (readRecord s) refl
     go (refused k) e = unfold reading opening blankBoard arrayOf in refl
     go (ok p) e =
         let v = record-valid s e in
-        unfold reading opening boardOf in rw (fresh-cells (p .grid) (size-most (p .grid) (v .high .0) (v .high .1))) (unfold arrayOf in refl)
+        unfold reading opening boardOf in rw (fresh-cells (p .grid) (valid-size v)) (unfold arrayOf in refl)
 
 -- what open answers
 pub opened-by : (s : List ℕ) (r : Reading) (cells order : List ℕ) → r ≡ readOf s → cells ≡ replicate 1024 2 → order ≡ replicate 1024 0

@@ -7,9 +7,9 @@ use native.Mathlib.Omega.{arith}
 use mathlib.Core.Logic.{_⊎_, inl, inr}
 use mathlib.Core.Path.{_≡_, refl, sym, ap, _∙_, subst}
 use mathlib.Core.Bool.{Bool, true, false, So, cond, _&&_, not, false≢true}
-use mathlib.Core.List.{List, [], _∷_, _++_, map, List·Memᴰ, List·Memᴰ·head, List·Memᴰ·tail}
+use mathlib.Core.List.{List, [], _∷_, _++_, map, List·Memᴰ, List·Memᴰ·head, List·Memᴰ·tail, map-append}
 use lib.Dec.{eqb}
-use lib.ListN.{length, getD, take}
+use lib.ListN.{length, getD, take, length-map}
 use lib.Seq.{getD-take}
 use borrow.Author.Tests.{eqb-true, eq-eqb, ne-eqb}
 use Rattle.grid.specs.Lists.{upto, any, filter, flatMap, member}
@@ -25,7 +25,7 @@ use Rattle.groups.proofs.MarkLaws.{mask-test}
 use Rattle.kinds.specs.Kinds.{Kind, vacant, barrier, floating, inBlock, neighbour, kindTouching, blocksTouched, kindAt, isIn, has, View, view, viewWith, inReach, reach, disturbing, fenceAt, fence}
 use Rattle.kinds.specs.Arrays.{kindCode, ownerBy, reachMask}
 use Rattle.kinds.specs.Inside.{puzzleWith, Held}
-use Rattle.fence.specs.Inside.{litAt, Ordered, ofBlock, inDisturbing, touched, adds, Fenced}
+use Rattle.fence.specs.Inside.{litAt, Ordered, inDisturbing, touched, adds, Fenced}
 use Rattle.fence.proofs.Fences.{addsAmong}
 use Rattle.kinds.proofs.BlockArrays.{in-by, kind-get}
 use Rattle.reach.proofs.Reaches.{code-get, owner-get}
@@ -64,22 +64,14 @@ module _ (v : View) (f : ℕ) (r : List ℕ) where
       by false = refl
   fence-word K i (neighbour x) e = refl
 
-map-join : (l m : List Literal) → map word (l ++ m) ≡ map word l ++ map word m
-map-join [] m = refl
-map-join (x ∷ l) m = ap (λ (t : List ℕ). word x ∷ t) (map-join l m)
-
 flat-filter : (F : ℕ → List Literal) (lit : ℕ → ℕ) (t : ℕ → Bool) (l : List ℕ) → ((x : ℕ) → List·Memᴰ x l → map word (F x) ≡ cond (t x) (lit x ∷ []) []) → map word (flatMap F l) ≡ map lit (filter t l)
 unfolding flatMap filter
 flat-filter F lit t [] h = refl
-flat-filter F lit t (x ∷ l) h = map-join (F x) (flatMap F l) ∙ rw (h x (List·Memᴰ·head refl), flat-filter F lit t l (λ y m. h y (List·Memᴰ·tail m))) (by (t x))
+flat-filter F lit t (x ∷ l) h = map-append word (F x) (flatMap F l) ∙ rw (h x (List·Memᴰ·head refl), flat-filter F lit t l (λ y m. h y (List·Memᴰ·tail m))) (by (t x))
   where
     by : (b : Bool) → cond b (lit x ∷ []) [] ++ map lit (filter t l) ≡ map lit (cond b (x ∷ filter t l) (filter t l))
     by true = refl
     by false = refl
-
-length-word : (l : List Literal) → length (map word l) ≡ length l
-length-word [] = refl
-length-word (x ∷ l) = ap (λ (n : ℕ). suc n) (length-word l)
 
 -- ---- what a kind's number says
 
@@ -163,7 +155,7 @@ module _ (p : Puzzle) (small : size (p .grid) ≤ 1024) (values K O marks : List
 
   -- an inserted cell is fenced
   there : (x : ℕ) → x < size g → (i : ℕ) → i < size g → So (adds values K O marks g f i x) → So (fenced v f R x (kind x))
-  unfolding adds inDisturbing ofBlock disturbing has cellsOf view viewWith undecided
+  unfolding adds inDisturbing disturbing has cellsOf view viewWith undecided
   there x lx i l s = by (ℕ-discrete (getD K i 0) 0)
     where
       by : Dec (getD K i 0 ≡ 0) → So (fenced v f R x (kind x))
@@ -192,7 +184,7 @@ module _ (p : Puzzle) (small : size (p .grid) ≤ 1024) (values K O marks : List
 
   -- a fenced cell is inserted
   back : (x : ℕ) → x < size g → So (fenced v f R x (kind x)) → (i : ℕ) × (i < size g) × So (adds values K O marks g f i x)
-  unfolding adds inDisturbing ofBlock disturbing has cellsOf view viewWith undecided
+  unfolding adds inDisturbing disturbing has cellsOf view viewWith undecided
   back x lx s = by (fenced-says v f R x (float x) (kind x) s)
     where
       by : ((kindCode (kind x) ≡ 0) × So (touches g R x)) ⊎ ((e : ℕ) × (kindCode (kind x) ≡ 1) × (ownerBy (float x) (kind x) ≡ e) × So (not (eqb e f) && disturbing v R e)) → (i : ℕ) × (i < size g) × So (adds values K O marks g f i x)
@@ -243,7 +235,7 @@ fence-computed h w values K O marks f before after c Q arrows H M =
     let same = fence-list (puzzleWith (sized h w) arrows) (Q .small) values K O marks f H M in
     record {
       list = Q .list ∙ same;
-      number = Q .number ∙ sym (length-lit K (filter (addsAmong values K O marks (sized h w) f (h * w)) (upto (h * w)))) ∙ ap length same ∙ length-word (fence (view (puzzleWith (sized h w) arrows) (take (h * w) values)) f);
+      number = Q .number ∙ sym (length-lit K (filter (addsAmong values K O marks (sized h w) f (h * w)) (upto (h * w)))) ∙ ap length same ∙ length-map (fence (view (puzzleWith (sized h w) arrows) (take (h * w) values)) f) word;
       rest = Q .rest;
       long = Q .long;
     }

@@ -11,10 +11,11 @@ use lib.Dec.{eqb, ltb}
 use lib.ListN.{length, getD}
 use borrow.Author.Tests.{eqb-true, eq-eqb, ne-eqb, lt-ltb, le-ltb}
 use Rattle.grid.specs.Lists.{range, upto, filter, any}
+use Rattle.kinds.specs.Inside.{ofBlock}
 use Rattle.grid.specs.Grid.{Grid, neighbours}
 use Rattle.grid.proofs.ListLaws.{split, and-true, true-and, so-orl, so-orr, or-so, any-mem, mem-any}
 use Rattle.grid.proofs.AppendLaws.{any-append, any-more, none-more}
-use Rattle.fence.specs.Inside.{key, Place, Inserted, litAt, Ordered, Whole, ofBlock, inDisturbing, touched, adds}
+use Rattle.fence.specs.Inside.{key, Place, Inserted, litAt, Ordered, Whole, inDisturbing, touched, adds}
 use Rattle.fence.proofs.Ordering.{key-lit, ordered-same, found, absent, ordered-insert}
 
 -- nothing is added
@@ -41,13 +42,12 @@ module _ {K base part : List ℕ} {n c : ℕ} {t : ℕ → Bool} (O : Ordered K 
 
 -- ---- one cell of an arrow block
 module _ (K O : List ℕ) (e i : ℕ) where
-  pub cell-off : (eqb (getD K i 0) 1 && eqb (getD O i 0) e) ≡ false → (x : ℕ) → (ofBlock K O e i && eqb i x) ≡ false
-  unfolding ofBlock
+  pub cell-off : ofBlock K O e i ≡ false → (x : ℕ) → (ofBlock K O e i && eqb i x) ≡ false
   cell-off h x = rw h
 
   pub cell-added : {base part part′ : List ℕ} {n c r : ℕ} {t : ℕ → Bool} → getD K i 0 ≡ 1 → getD O i 0 ≡ e → i < n → Ordered K n base t part c → Inserted part c (32768 + i) r part′
       → Ordered K n base (λ x. t x || (ofBlock K O e i && eqb i x)) part′ r
-  unfolding ofBlock litAt
+  unfolding litAt
   cell-added {t = t} k o l Q I =
       let lit : 32768 + i ≡ litAt K i = rw k in
       ordered-same (λ x. t x || eqb i x) (λ x. t x || (ofBlock K O e i && eqb i x)) (λ x _. rw (k, eq-eqb (getD O i 0) e o))
@@ -96,7 +96,7 @@ module _ (K O : List ℕ) (f j : ℕ) where
 
   -- what is said of a cell of a disturbing block
   disturbing-says : (x : ℕ) → So (inDisturbing K O f j x) → (getD K x 0 ≡ 1) × (getD O x 0 ≡ getD O j 0)
-  unfolding inDisturbing ofBlock
+  unfolding inDisturbing
   disturbing-says x h =
       let a = and-true (eqb (getD K j 0) 1 && not (eqb (getD O j 0) f)) _ h in
       let b = and-true (eqb (getD K x 0) 1) _ (a .1) in
@@ -115,7 +115,7 @@ module _ (K O : List ℕ) (f j : ℕ) where
 
   -- it comes whole
   disturbing-whole : (a b : ℕ) → So (inDisturbing K O f j a) → getD K b 0 ≡ 1 → getD O a 0 ≡ getD O b 0 → So (inDisturbing K O f j b)
-  unfolding inDisturbing ofBlock
+  unfolding inDisturbing
   disturbing-whole a b h k o =
       let q = disturbing-says a h in
       let r = and-true (eqb (getD K j 0) 1 && not (eqb (getD O j 0) f)) _ h in

@@ -10,6 +10,7 @@ use Rattle.grid.specs.Cells.{word}
 use Rattle.grid.specs.Lists.{upto, any, filter}
 use Rattle.grid.specs.Grid.{Grid, neighbours}
 use Rattle.kinds.specs.Kinds.{View, fence}
+use Rattle.kinds.specs.Inside.{ofBlock}
 
 -- ---- the ordered part
 
@@ -61,13 +62,9 @@ pub record Room (kinds owners : List ℕ) (n : ℕ) (part : List ℕ) (c : ℕ) 
   pub whole : Whole kinds owners test
 
 module _ (kinds owners : List ℕ) where
-  -- cell i is in the arrow block e
-  unfoldable pub ofBlock : ℕ → ℕ → Bool
-  ofBlock e i = eqb (getD kinds i 0) 1 && eqb (getD owners i 0) e
-
   -- cell j is in an arrow block other than f, and x is in the same
   unfoldable pub inDisturbing : ℕ → ℕ → ℕ → Bool
-  inDisturbing f j x = eqb (getD kinds j 0) 1 && not (eqb (getD owners j 0) f) && ofBlock (getD owners j 0) x
+  inDisturbing f j x = eqb (getD kinds j 0) 1 && not (eqb (getD owners j 0) f) && ofBlock kinds owners (getD owners j 0) x
 
 -- a neighbour of cell i is marked
 unfoldable pub touched : List ℕ → Grid → ℕ → Bool

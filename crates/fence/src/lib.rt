@@ -1,6 +1,6 @@
 // The fence of an arrow block.
 ghost use mathlib.Core.Path.{_≡_};
-ghost use Prim.Native.Nat.{ℕ, _+_, _*_, _≤_, _<_};
+ghost use Prim.Native.Nat.{ℕ, _*_, _≤_, _<_};
 ghost use mathlib.Core.Bool.{Bool, _&&_, _||_};
 ghost use mathlib.Core.List.{List};
 ghost use lib.Dec.{eqb};
@@ -10,8 +10,8 @@ ghost use Rattle.grid.specs.Grid.{neighbours};
 ghost use Rattle.grid.specs.Side.{sized, InGrid};
 ghost use Rattle.kinds.specs.Kinds.{view};
 ghost use Rattle.kinds.specs.Arrays.{reachMask};
-ghost use Rattle.kinds.specs.Inside.{Limits, puzzleWith, Held};
-ghost use Rattle.fence.specs.Inside.{Place, Shifted, Inserted, Ordered, Room, Whole, ofBlock, inDisturbing, touched, adds, Fenced};
+ghost use Rattle.kinds.specs.Inside.{Limits, puzzleWith, Held, ofBlock};
+ghost use Rattle.fence.specs.Inside.{Place, Shifted, Inserted, Ordered, Room, Whole, inDisturbing, touched, adds, Fenced};
 use grid::Side;
 
 // The place of a literal among the first count of the part, which stand by rising index.

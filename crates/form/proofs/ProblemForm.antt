@@ -21,7 +21,8 @@ use Rattle.record.specs.Problem.{problemOf, puzzleOf, gridOf, arrowsFrom, endsF
 use Rattle.record.specs.declared.Problem.{Problem}
 use Rattle.record.proofs.FreshLaws.{fewer, arrows-size, arrows-length, fresh-append}
 use Rattle.record.proofs.ProblemLaws.{length-ends, arrows-again}
-use Rattle.form.specs.Form.{long, behind, rises, fresh, walks, path, goodSize, coded, ended, drawn, problemFormed}
+use Rattle.record.proofs.RecordLaws.{valid-size}
+use Rattle.form.specs.Form.{long, behind, rises, fresh, walks, isPath, goodSize, coded, ended, drawn, problemFormed}
 use Rattle.form.proofs.ArrayTests.{behind-kept, kept-behind, fresh-is, is-fresh}
 
 -- ---- walks
@@ -61,21 +62,21 @@ fresh-right {u} (j ∷ a) b (Fresh.cons h r) = fewer turn (fresh-right a b r)
         go (inr k) = Memᴰ·append-right a (List·Memᴰ·tail k)
 
 -- arrows that pass the tests
-arrows-is : (g : Grid) (u : List ℕ) (l : List (List ℕ)) → all nonempty l ≡ true → all (path g) l ≡ true
+arrows-is : (g : Grid) (u : List ℕ) (l : List (List ℕ)) → all nonempty l ≡ true → all (isPath g) l ≡ true
     → Fresh u (arrowCells l) → ((x : ℕ) → List·Memᴰ x (arrowCells l) → x < size g) → Arrows g u l
-unfolding all arrowCells flatMap path nonempty
+unfolding all arrowCells flatMap isPath nonempty
 arrows-is g u [] n h f b = Arrows.nil
 arrows-is g u ([] ∷ l) n h f b = absurd (omega (arith, ltb-true 0 0 (and-true (ltb 0 0) (all nonempty l) n .0)))
 arrows-is g u ((i ∷ js) ∷ l) n h f b =
-    let k = and-true (walks g i js) (all (path g) l) h in
+    let k = and-true (walks g i js) (all (isPath g) l) h in
     let m = and-true (ltb 0 (length (i ∷ js))) (all nonempty l) n in
     Arrows.cons
     (arrow (b i (List·Memᴰ·head refl)) (walks-is g i js (k .0)))
     (fresh-left (i ∷ js) (arrowCells l) f)
     (arrows-is g ((i ∷ js) ++ u) l (m .1) (k .1) (fresh-right (i ∷ js) (arrowCells l) f) (λ x q. b x (Memᴰ·append-right (i ∷ js) q)))
 
-is-path : {g : Grid} {u : List ℕ} {l : List (List ℕ)} → Arrows g u l → all (path g) l ≡ true
-unfolding all path
+is-path : {g : Grid} {u : List ℕ} {l : List (List ℕ)} → Arrows g u l → all (isPath g) l ≡ true
+unfolding all isPath
 is-path Arrows.nil = refl
 is-path {g} (Arrows.cons (arrow h w) f r) = true-and (is-walks g w) (is-path r)
 
@@ -238,12 +239,12 @@ module _ (q : Problem) (f : Formed q) where
     few : last 0 es ≤ 1024
     once : fresh (size (gridOf q)) [] (take (last 0 es) (q .arrows)) ≡ true
     zeros : behind 0 (last 0 es) (q .arrows) ≡ true
-    paths : all (path (gridOf q)) (arrowsFrom (q .arrows) 0 es) ≡ true
+    paths : all (isPath (gridOf q)) (arrowsFrom (q .arrows) 0 es) ≡ true
 
   line-facts : LineFacts
   unfolding drawn es
   line-facts =
-      let a = and-true ((leb (last 0 es) 1024 && fresh (size (gridOf q)) [] (take (last 0 es) (q .arrows))) && behind 0 (last 0 es) (q .arrows)) (all (path (gridOf q)) (arrowsFrom (q .arrows) 0 es)) (f .arrows) in
+      let a = and-true ((leb (last 0 es) 1024 && fresh (size (gridOf q)) [] (take (last 0 es) (q .arrows))) && behind 0 (last 0 es) (q .arrows)) (all (isPath (gridOf q)) (arrowsFrom (q .arrows) 0 es)) (f .arrows) in
       let b = and-true (leb (last 0 es) 1024 && fresh (size (gridOf q)) [] (take (last 0 es) (q .arrows))) (behind 0 (last 0 es) (q .arrows)) (a .0) in
       let c = and-true (leb (last 0 es) 1024) (fresh (size (gridOf q)) [] (take (last 0 es) (q .arrows))) (b .0) in
       record { few = leb-true (last 0 es) 1024 (c .0); once = c .1; zeros = b .1; paths = a .1 }
@@ -288,12 +289,9 @@ module _ (q : Problem) (f : Formed q) where
 -- ---- and the other way round
 
 module _ (p : Puzzle) (v : Valid p) where
-  gridSize : size (p .grid) ≤ 1024
-  gridSize = size-most (p .grid) (v .high .0) (v .high .1)
-
   few-cells : length (arrowCells (p .arrows)) ≤ 1024
   unfolding arrowCells
-  few-cells = omega (arith, arrows-length p v, gridSize)
+  few-cells = omega (arith, arrows-length p v, valid-size v)
 
   few-ends : length (endsFrom 0 (p .arrows)) ≤ 1024
   few-ends = omega (arith, length-ends 0 (p .arrows), few-arrows (v .arrows), few-cells)
@@ -343,7 +341,7 @@ module _ (p : Puzzle) (v : Valid p) where
   unfolding problemOf gridOf
   valid-formed = record {
     sizes = record { low = v .low; high = v .high };
-    cells-long = array-length 0 (p .given) (omega (arith, v .total, gridSize));
+    cells-long = array-length 0 (p .given) (omega (arith, v .total, valid-size v));
     arrows-long = array-length 0 (arrowCells (p .arrows)) few-cells;
     ends-long = array-length 0 (endsFrom 0 (p .arrows)) few-ends;
     codes = codes-pass;

@@ -17,7 +17,7 @@ use Rattle.grid.specs.Grid.{Grid, size, neighbours, Beside, above, below, befor
 use Rattle.grid.proofs.ListLaws.{member-mem, mem-member, so-false, and-true as both}
 use Rattle.grid.proofs.GridLaws.{beside, neighbour, beside-sym}
 use Rattle.record.specs.Problem.{arrowsFrom}
-use Rattle.form.specs.Form.{rises, walks, path}
+use Rattle.form.specs.Form.{rises, walks, isPath}
 use Rattle.form.specs.Inside.{Suits}
 
 module _ {g : Grid} {w : ℕ} {starts : List ℕ} (s : Suits g w starts) (i j : ℕ) (hi : i < size g) (hj : j < size g) where
@@ -80,8 +80,8 @@ module _ (g : Grid) (line : List ℕ) where
       rw (e, drop-cons line k 0 (omega arith), ← add-one k) refl
 
   -- from the first cell on
-  pub walk-start : (at end : ℕ) → at < end → end ≤ length line → path g (take (end - at) (drop at line)) ≡ walks g (getD line at 0) (take (end - (at + 1)) (drop (at + 1) line))
-  unfolding path
+  pub walk-start : (at end : ℕ) → at < end → end ≤ length line → isPath g (take (end - at) (drop at line)) ≡ walks g (getD line at 0) (take (end - (at + 1)) (drop (at + 1) line))
+  unfolding isPath
   walk-start at end h t = rw (part at end h t) refl
 
   module _ {total : Bool} (good : Bool) (i k end : ℕ) (h : k < end) (t : end ≤ length line) (e : total ≡ (good && walks g i (take (end - k) (drop k line)))) where
@@ -100,16 +100,16 @@ module _ (g : Grid) (line : List ℕ) where
 -- ---- all arrows
 
 module _ (g : Grid) (line l : List ℕ) {total : Bool} (good : Bool) (at k : ℕ) where
-  pub arrows-on : k < length l → total ≡ (good && all (path g) (arrowsFrom line at (drop k l))) → true ≡ path g (take (getD l k 0 - at) (drop at line))
-      → total ≡ (good && all (path g) (arrowsFrom line (getD l k 0) (drop (k + 1) l)))
+  pub arrows-on : k < length l → total ≡ (good && all (isPath g) (arrowsFrom line at (drop k l))) → true ≡ isPath g (take (getD l k 0 - at) (drop at line))
+      → total ≡ (good && all (isPath g) (arrowsFrom line (getD l k 0) (drop (k + 1) l)))
   unfolding all arrowsFrom
   arrows-on h e q = e ∙ rw (add-one k, drop-cons l k 0 h, ← q) refl
 
-  pub arrows-fail : k < length l → total ≡ (good && all (path g) (arrowsFrom line at (drop k l))) → false ≡ path g (take (getD l k 0 - at) (drop at line)) → total ≡ false
+  pub arrows-fail : k < length l → total ≡ (good && all (isPath g) (arrowsFrom line at (drop k l))) → false ≡ isPath g (take (getD l k 0 - at) (drop at line)) → total ≡ false
   unfolding all arrowsFrom
   arrows-fail h e q = e ∙ rw (drop-cons l k 0 h, ← q, and-false good) refl
 
-  pub arrows-end : length l ≤ k → total ≡ (good && all (path g) (arrowsFrom line at (drop k l))) → good ≡ total
+  pub arrows-end : length l ≤ k → total ≡ (good && all (isPath g) (arrowsFrom line at (drop k l))) → good ≡ total
   unfolding all arrowsFrom
   arrows-end h e = rw (e, drop-of-length-le l {i = k} h, and-true good) refl
 

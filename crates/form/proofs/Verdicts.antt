@@ -16,7 +16,7 @@ use Rattle.grid.proofs.ListLaws.{at-mem}
 use Rattle.grid.proofs.GridLaws.{size-most}
 use Rattle.record.specs.Problem.{gridOf, arrowsFrom}
 use Rattle.record.specs.declared.Problem.{Problem}
-use Rattle.form.specs.Form.{long, behind, rises, fresh, path, goodSize, coded, ended, drawn, problemFormed, shown, stated, ordered}
+use Rattle.form.specs.Form.{long, behind, rises, fresh, isPath, goodSize, coded, ended, drawn, problemFormed, shown, stated, ordered}
 use Rattle.form.specs.Inside.{Blank, Below}
 use Rattle.form.proofs.ArrayTests.{fresh-is}
 use Rattle.form.proofs.ProblemForm.{sized-is}
@@ -65,11 +65,11 @@ module _ (g : Grid) (es l : List ℕ) where
   unfolding drawn
   drawn-twice e = simp (e, and-false)
 
-  pub drawn-broken : all (path g) (arrowsFrom l 0 es) ≡ false → false ≡ drawn g es l
+  pub drawn-broken : all (isPath g) (arrowsFrom l 0 es) ≡ false → false ≡ drawn g es l
   unfolding drawn
   drawn-broken e = simp (e, and-false)
 
-  pub drawn-is : last 0 es ≤ 1024 → fresh (size g) [] (take (last 0 es) l) ≡ true → all (path g) (arrowsFrom l 0 es) ≡ true → behind 0 (last 0 es) l ≡ drawn g es l
+  pub drawn-is : last 0 es ≤ 1024 → fresh (size g) [] (take (last 0 es) l) ≡ true → all (isPath g) (arrowsFrom l 0 es) ≡ true → behind 0 (last 0 es) l ≡ drawn g es l
   unfolding drawn
   drawn-is few f p = simp (le-leb (last 0 es) 1024 few, f, p, and-true)
 

@@ -34,9 +34,9 @@ walks g i [] = true
 walks g i (j ∷ js) = member j (neighbours g i) && walks g j js
 
 -- an arrow goes from neighbour to neighbour
-unfoldable pub path : Grid → List ℕ → Bool
-path g [] = true
-path g (i ∷ js) = walks g i js
+unfoldable pub isPath : Grid → List ℕ → Bool
+isPath g [] = true
+isPath g (i ∷ js) = walks g i js
 
 -- H and W are 1 to 32
 unfoldable pub goodSize : Grid → Bool
@@ -52,7 +52,7 @@ ended count l = (leb count 1024 && rises 0 (take count l)) && behind 0 count l
 
 -- the arrows that end at es stand in l, and 0 behind
 unfoldable pub drawn : Grid → List ℕ → List ℕ → Bool
-drawn g es l = ((leb (last 0 es) 1024 && fresh (size g) [] (take (last 0 es) l)) && behind 0 (last 0 es) l) && all (path g) (arrowsFrom l 0 es)
+drawn g es l = ((leb (last 0 es) 1024 && fresh (size g) [] (take (last 0 es) l)) && behind 0 (last 0 es) l) && all (isPath g) (arrowsFrom l 0 es)
 
 -- what an accepted record says, in arrays
 unfoldable pub problemFormed : Problem → Bool

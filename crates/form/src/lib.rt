@@ -9,7 +9,7 @@ ghost use Rattle.grid.specs.Lists.{all, last, member};
 ghost use Rattle.grid.specs.Marks.{Marks};
 ghost use Rattle.grid.specs.Grid.{Grid, size, neighbours};
 ghost use Rattle.record.specs.Problem.{arrowsFrom};
-ghost use Rattle.form.specs.Form.{behind, rises, fresh, path, goodSize, drawn, problemFormed};
+ghost use Rattle.form.specs.Form.{behind, rises, fresh, isPath, goodSize, drawn, problemFormed};
 ghost use Rattle.form.specs.Inside.{Blank, RowStarts, Suits, Below, Cut};
 
 // Whether v stands at every place from `from` on. Like the passes below it goes on to the end, since a pass without a way out is
@@ -148,7 +148,7 @@ fn follows<'a>(
 ) -> bool
     requires { ⌜ (length (now line) ≡ 1024) × (at < end) × (end ≤ 1024) × (w ≤ 32) × Below end 1024 (now line) ⌝ }
     ensures { λ r. ⌜ ((g : Grid) → Suits g w (now (starts .entry)) → Below end (size g) (now (line .entry))
-        → r ≡ path g (take (end - at) (drop at (now (line .entry))))) ⌝ }
+        → r ≡ isPath g (take (end - at) (drop at (now (line .entry))))) ⌝ }
 {
     let mut good = true;
     let mut i = grid::wide(line[at]);
@@ -174,7 +174,7 @@ fn all_follow<'a>(
 ) -> bool
     requires { ⌜ (length (now arrows) ≡ 1024) × (length (now ends) ≡ 1024) × (count ≤ 1024) × (w ≤ 32) × Cut (take count (now ends)) (now arrows) ⌝ }
     ensures { λ r. ⌜ ((g : Grid) → Suits g w (now (starts .entry)) → Below (last 0 (take count (now (ends .entry)))) (size g) (now (arrows .entry))
-        → r ≡ all (path g) (arrowsFrom (now (arrows .entry)) 0 (take count (now (ends .entry))))) ⌝ }
+        → r ≡ all (isPath g) (arrowsFrom (now (arrows .entry)) 0 (take count (now (ends .entry))))) ⌝ }
 {
     let mut good = true;
     let mut at: usize = 0;

@@ -2,13 +2,14 @@
 -- Assumes nothing.
 use Prim.Native.Nat.{ℕ, _≤_, _<_}
 use mathlib.Core.Logic.{_⊎_, inl, inr}
-use mathlib.Core.Path.{_≡_}
+use mathlib.Core.Path.{_≡_, refl}
 use mathlib.Core.Bool.{So}
 use mathlib.Core.List.{List}
 use native.Mathlib.Omega.{arith}
 use native.Mathlib.Decide.{ℕ-discrete}
 use lib.Dec.{eqb}
-use lib.ListN.{length, getD}
+use lib.ListN.{length, getD, take}
+use lib.Seq.{getD-take}
 use borrow.Author.Tests.{eqb-true, eq-eqb}
 use Rattle.grid.specs.Cells.{empty, square, undecided}
 use Rattle.grid.proofs.ListLaws.{place-in}
@@ -44,3 +45,17 @@ module _ (cells : List ℕ) (i : ℕ) where
   pub un-below : So (undecided cells i) → i < length cells
   unfolding undecided
   un-below s = place-in cells i (omega (arith, eqb-true (getD cells i 0) 2 s))
+
+-- a cell among the first n, by them and by all
+module _ (cells : List ℕ) (n i : ℕ) (h : i < n) where
+  pub empty-taken : empty (take n cells) i ≡ empty cells i
+  unfolding empty
+  empty-taken = rw (getD-take n cells i 0 h) refl
+
+  pub square-taken : square (take n cells) i ≡ square cells i
+  unfolding square
+  square-taken = rw (getD-take n cells i 0 h) refl
+
+  pub undecided-taken : undecided (take n cells) i ≡ undecided cells i
+  unfolding undecided
+  undecided-taken = rw (getD-take n cells i 0 h) refl

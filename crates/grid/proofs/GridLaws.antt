@@ -9,6 +9,7 @@ use native.Mathlib.Omega.{arith}
 use mathlib.Core.Logic.{_⊎_, inl, inr}
 use mathlib.Core.Path.{_≡_, refl, sym, ap, _∙_}
 use mathlib.Core.List.{List, _++_, List·Memᴰ, List·Memᴰ·head, List·Memᴰ·not-nil, List·Memᴰ·append-cases, Memᴰ·append-left, Memᴰ·append-right, List·Memᴰ·eq-of-singleton}
+use lib.Arith.{digits-lt}
 use lib.Dec.{leb, ltb}
 use borrow.Author.Tests.{leb-true, ltb-true, ltb-false, le-leb, lt-ltb}
 use Rattle.grid.specs.Lists.{Distinct, upto, member}
@@ -88,6 +89,19 @@ width-pos g {i} l = go (eq-zero-or-pos (g .width))
     go : (g .width ≡ 0) ⊎ (0 < g .width) → 0 < g .width
     go (inl e) = absurd (omega (arith, ap (λ (w : ℕ). g .height * w) e ∙ mul-zero (g .height)))
     go (inr h) = h
+
+-- a cell has a row and a column of the grid, and they have a cell
+pub row-below : (g : Grid) {i : ℕ} → i < size g → row g i < g .height
+unfolding row size
+row-below g h = div-lt-iff-lt-mul {k = g .width} (width-pos g h) .1 h
+
+pub col-below : (g : Grid) {i : ℕ} → i < size g → col g i < g .width
+unfolding col
+col-below g {i} h = mod-lt i (width-pos g h)
+
+pub place-below : (g : Grid) {y x : ℕ} → y < g .height → x < g .width → y * g .width + x < size g
+unfolding size
+place-below g hy hx = digits-lt hy hx
 
 -- a grid of at most 32 by 32 has at most 1,024 cells
 pub size-most : (g : Grid) → g .height ≤ 32 → g .width ≤ 32 → size g ≤ 1024

@@ -5,7 +5,7 @@ use native.Mathlib.Omega.{arith}
 use native.Mathlib.Nat.{mod-lt, div-lt-iff-lt-mul}
 use mathlib.Core.Path.{_≡_, refl, ap}
 use mathlib.Core.Logic.{_↔_}
-use mathlib.Core.Bool.{Bool, true, false, cond, So, _&&_}
+use mathlib.Core.Bool.{Bool, true, false, cond, So}
 use mathlib.Core.List.{List, List·Memᴰ}
 use lib.Arith.{digits-lt, digits-div, digits-mod}
 use lib.Dec.{eqb, ltb}
@@ -18,7 +18,7 @@ use Rattle.grid.specs.declared.Side.{Side}
 use Rattle.grid.specs.declared.Side.the-variants.{At, Off}
 use Rattle.grid.specs.Lists.{any, member}
 use Rattle.grid.specs.Grid.{Grid, size, row, col}
-use Rattle.grid.specs.Side.{movedOf, placed, shiftedOf, landing, Landed}
+use Rattle.grid.specs.Side.{movedOf, sideAt, shiftedOf, landing, Landed, lands}
 use Rattle.grid.proofs.ListLaws.{and-true, true-and, any-mem, mem-any, member-mem, mem-member, so-false}
 use Rattle.grid.proofs.GridLaws.{width-pos, index}
 use Rattle.grid.proofs.SideLaws.{Reaches, moved-to, to-moved}
@@ -54,8 +54,8 @@ to-way a (suc f) t r e = go (ltb t (suc f)) refl
 data Led (w : ℕ) (s t : Step) (d : ℕ) : Type 0 where
   led : (y x : ℕ) → s ≡ To y → t ≡ To x → d ≡ y * w + x → Led w s t d
 
-led-by : (w : ℕ) (s t : Step) (d : ℕ) → placed w s t ≡ At d → Led w s t d
-unfolding placed
+led-by : (w : ℕ) (s t : Step) (d : ℕ) → sideAt w s t ≡ At d → Led w s t d
+unfolding sideAt
 led-by w (To y) (To x) d e = led y x refl refl (cc)
 led-by w (To y) Outside d e = let z : _≡_ {A = ℕ} 0 1 = cc in absurd (omega arith)
 led-by w Outside t d e = let z : _≡_ {A = ℕ} 0 1 = cc in absurd (omega arith)
@@ -85,7 +85,7 @@ module _ (g : Grid) (f t c : ℕ) where
           }
 
   to-landing : (d : ℕ) → Landed g f t c d → landing g f t c ≡ At d
-  unfolding shiftedOf placed row col size
+  unfolding shiftedOf sideAt row col size
   to-landing d h =
       let some : 0 < W = width-pos g (h .inside) in
       rw (
@@ -102,34 +102,32 @@ module _ (g : Grid) (f t c : ℕ) where
   pub landing-off : (landing g f t c ≡ Off) ↔ ((d : ℕ) → ¬ Landed g f t c d)
   landing-off = (λ e d h. let k = to-landing d h in let z : _≡_ {A = ℕ} 0 1 = cc in omega arith, λ n. off-by (landing g f t c) (λ d e. n d (landing-to d e)))
 
+-- the test says that rows and columns add up
+module _ (g : Grid) (f t c d : ℕ) where
+  pub lands-sums : So (lands g f t c d) → (row g d + row g f ≡ row g c + row g t) × (col g d + col g f ≡ col g c + col g t)
+  lands-sums h =
+      let k = and-true (eqb (row g d + row g f) (row g c + row g t)) (eqb (col g d + col g f) (col g c + col g t)) h in
+      (eqb-true (row g d + row g f) (row g c + row g t) (k .0), eqb-true (col g d + col g f) (col g c + col g t) (k .1))
+
+  pub sums-lands : row g d + row g f ≡ row g c + row g t → col g d + col g f ≡ col g c + col g t → So (lands g f t c d)
+  sums-lands r k = true-and (eq-eqb (row g d + row g f) (row g c + row g t) r) (eq-eqb (col g d + col g f) (col g c + col g t) k)
+
 -- a place of the grid is in the list
 unfoldable pub sideIn : Side → List ℕ → Bool
 sideIn (At d) r = member d r
 sideIn Off r = false
 
 module _ (g : Grid) (f t c : ℕ) where
-  -- the test by sums that is tried at each cell of a list
-  abbrev pub lands : ℕ → Bool
-  lands d = eqb (row g d + row g f) (row g c + row g t) && eqb (col g d + col g f) (col g c + col g t)
-
-  lands-landed : (d : ℕ) → d < size g → So (lands d) → Landed g f t c d
-  lands-landed d l h =
-      let k = and-true (eqb (row g d + row g f) (row g c + row g t)) (eqb (col g d + col g f) (col g c + col g t)) h in
-      record { inside = l; rows = eqb-true (row g d + row g f) (row g c + row g t) (k .0); cols = eqb-true (col g d + col g f) (col g c + col g t) (k .1) }
-
-  landed-lands : (d : ℕ) → Landed g f t c d → So (lands d)
-  landed-lands d h = true-and (eq-eqb (row g d + row g f) (row g c + row g t) (h .rows)) (eq-eqb (col g d + col g f) (col g c + col g t) (h .cols))
-
   -- a cell of the list passes it exactly when the signed offsets lead into the list
-  pub landing-any : (r : List ℕ) → ((d : ℕ) → List·Memᴰ d r → d < size g) → any lands r ≡ sideIn (landing g f t c) r
+  pub landing-any : (r : List ℕ) → ((d : ℕ) → List·Memᴰ d r → d < size g) → any (lands g f t c) r ≡ sideIn (landing g f t c) r
   unfolding sideIn
   landing-any r inside = go (landing g f t c) refl
     where
-      found : So (any lands r) → (d : ℕ) × List·Memᴰ d r × (landing g f t c ≡ At d)
-      found h = let k = any-mem lands r h in (k .0, k .1, landing-at g f t c (k .0) .1 (lands-landed (k .0) (inside (k .0) (k .1)) (k .2)))
+      found : So (any (lands g f t c) r) → (d : ℕ) × List·Memᴰ d r × (landing g f t c ≡ At d)
+      found h = let k = any-mem (lands g f t c) r h in (k .0, k .1, landing-at g f t c (k .0) .1 (let e = lands-sums g f t c (k .0) (k .2) in record { inside = inside (k .0) (k .1); rows = e .0; cols = e .1 }))
 
-      go : (s : Side) → landing g f t c ≡ s → any lands r ≡ sideIn s r
+      go : (s : Side) → landing g f t c ≡ s → any (lands g f t c) r ≡ sideIn s r
       go (At d) e = same-test _ _
           (λ h. let k = found h in let q : k .0 ≡ d = cc (k .2) in mem-member d r (rw q at (k .1)))
-          (λ h. mem-any lands r (member-mem d r h) (landed-lands d (landing-at g f t c d .0 e)))
+          (λ h. mem-any (lands g f t c) r (member-mem d r h) (let h = landing-at g f t c d .0 e in sums-lands g f t c d (h .rows) (h .cols)))
       go Off e = so-false _ (λ h. let k = found h in let z : _≡_ {A = ℕ} 0 1 = cc (k .2) in omega arith)

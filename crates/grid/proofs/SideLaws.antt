@@ -19,13 +19,18 @@ use borrow.Author.Tests.{lt-ltb, le-ltb, ltb-true, ltb-false, le-leb, lt-leb}
 use Rattle.grid.specs.declared.Step.the-variants.{To, Outside}
 use Rattle.grid.specs.declared.Side.the-variants.{At, Off}
 use Rattle.grid.specs.Grid.{Grid, size, col, only, up, down, left, right, neighbours, Adjacent}
-use Rattle.grid.specs.Side.{sized, movedOf, placed, shiftedOf, towards, sideOf, besideOf, InGrid, InPlace}
+use Rattle.grid.specs.Side.{sized, movedOf, sideAt, shiftedOf, towards, sideOf, besideOf, InGrid, InPlace}
 use Rattle.grid.proofs.GridLaws.{width-pos, size-most, on-grid, beside}
 
 -- the cells of a grid that is given by its height and width
 pub area : (h w : ℕ) → h ≤ 32 → w ≤ 32 → h * w ≤ 1024
 unfolding size
 area h w = size-most (sized h w)
+
+-- how many there are
+pub sized-size : (h w : ℕ) → h * w ≡ size (sized h w)
+unfolding size
+sized-size h w = refl
 
 -- a cell has a row and a column
 pub in-place : {h w i : ℕ} → InGrid h w i → InPlace h w (i / w) (i % w)
@@ -86,15 +91,15 @@ index-small {h} {w} y x p q r s =
 -- a shift by its two moves
 module _ (h w y x : ℕ) (dy dx : ℤ) where
   pub both : (r c : ℕ) → To r ≡ movedOf y dy h → To c ≡ movedOf x dx w → At (r * w + c) ≡ shiftedOf h w y x dy dx
-  unfolding shiftedOf placed
+  unfolding shiftedOf sideAt
   both r c e f = rw (← e, ← f) refl
 
   pub off-column : (r : ℕ) → To r ≡ movedOf y dy h → Outside ≡ movedOf x dx w → Off ≡ shiftedOf h w y x dy dx
-  unfolding shiftedOf placed
+  unfolding shiftedOf sideAt
   off-column r e f = rw (← e, ← f) refl
 
   pub off-row : Outside ≡ movedOf y dy h → Off ≡ shiftedOf h w y x dy dx
-  unfolding shiftedOf placed
+  unfolding shiftedOf sideAt
   off-row e = rw (← e) refl
 
 -- ---- the four directions
@@ -123,7 +128,7 @@ module _ (h w : ℕ) where
   Leads y x k = shiftedOf h w y x (read k 0) (read k 1) ≡ besideOf (sized h w) (y * w + x) k
 
   leads-up : (y x : ℕ) → y < h → x < w → Leads y x 0
-  unfolding shiftedOf placed movedOf besideOf sideOf towards up only
+  unfolding shiftedOf sideAt movedOf besideOf sideOf towards up only
   leads-up zero x p q = simp (lt-leb w (0 * w + x) (omega arith))
   leads-up (suc y) x p q =
       let e : suc y * w ≡ y * w + w = suc-mul y w in
@@ -132,7 +137,7 @@ module _ (h w : ℕ) where
       (ap At (omega (arith, ap (λ (n : ℕ). n * w) s)))
 
   leads-down : (y x : ℕ) → y < h → x < w → Leads y x 1
-  unfolding shiftedOf placed movedOf besideOf sideOf towards down only size
+  unfolding shiftedOf sideAt movedOf besideOf sideOf towards down only size
   leads-down y x p q = go (ltb (y + 1) h) refl
     where
       next : (y + 1) * w ≡ y * w + w
@@ -146,7 +151,7 @@ module _ (h w : ℕ) where
       go false t = simp (t, le-ltb (y * w + x + w) (h * w) (omega (arith, next, mul-le-mul-right w (ltb-false (y + 1) h t))))
 
   leads-left : (y x : ℕ) → y < h → x < w → Leads y x 2
-  unfolding shiftedOf placed movedOf besideOf sideOf towards left only col
+  unfolding shiftedOf sideAt movedOf besideOf sideOf towards left only col
   leads-left y zero p q = simp (digits-mod y {m = w} {r = 0} q, lt-ltb (y + 0) h (omega arith))
   leads-left y (suc x) p q =
       let e : y + 0 ≡ y = omega arith in
@@ -154,7 +159,7 @@ module _ (h w : ℕ) where
       (ap At (omega (arith, ap (λ (n : ℕ). n * w) e)))
 
   leads-right : (y x : ℕ) → y < h → x < w → Leads y x 3
-  unfolding shiftedOf placed movedOf besideOf sideOf towards right only col
+  unfolding shiftedOf sideAt movedOf besideOf sideOf towards right only col
   leads-right y x p q = go (ltb (x + 1) w) refl
     where
       same : (y + 0) * w ≡ y * w

@@ -2,9 +2,9 @@
 -- Assumes nothing.
 use Prim.Native.Nat.{ℕ, zero, suc, _+_, _-_, _*_, _≤_, _<_}
 use mathlib.Core.Path.{_≡_}
-use mathlib.Core.Bool.{cond}
+use mathlib.Core.Bool.{Bool, cond, _&&_}
 use mathlib.Core.List.{List, [], _∷_, _++_}
-use lib.Dec.{ltb}
+use lib.Dec.{eqb, ltb}
 use lib.IntN.{ℤ, pos, negsuc, _-ℤ_}
 use lib.ListN.{length, replicate}
 use Rattle.grid.specs.Grid.{Grid, size, row, col, up, down, left, right, neighbours}
@@ -24,14 +24,14 @@ movedOf at (pos n) limit = cond (ltb (at + n) limit) (To (at + n)) Outside
 movedOf at (negsuc n) limit = cond (ltb n at) (cond (ltb (at - suc n) limit) (To (at - suc n)) Outside) Outside
 
 -- the cell at a row and a column
-unfoldable pub placed : ℕ → Step → Step → Side
-placed w (To y) (To x) = At (y * w + x)
-placed w (To y) Outside = Off
-placed w Outside t = Off
+unfoldable pub sideAt : ℕ → Step → Step → Side
+sideAt w (To y) (To x) = At (y * w + x)
+sideAt w (To y) Outside = Off
+sideAt w Outside t = Off
 
 -- a shift: the cell at row y, column x of an h by w grid, moved by a signed row and column offset
 unfoldable pub shiftedOf : ℕ → ℕ → ℕ → ℕ → ℤ → ℤ → Side
-shiftedOf h w y x dy dx = placed w (movedOf y dy h) (movedOf x dx w)
+shiftedOf h w y x dy dx = sideAt w (movedOf y dy h) (movedOf x dx w)
 
 -- the shift that takes the cell f to the cell t, by its signed row and column offset: where it takes the cell c
 abbrev pub landing : Grid → ℕ → ℕ → ℕ → Side
@@ -42,6 +42,10 @@ pub record Landed (g : Grid) (f t c d : ℕ) : Type 0 where
   pub inside : d < size g
   pub rows : row g d + row g f ≡ row g c + row g t
   pub cols : col g d + col g f ≡ col g c + col g t
+
+-- the same as a test
+abbrev pub lands : Grid → ℕ → ℕ → ℕ → ℕ → Bool
+lands g f t c d = eqb (row g d + row g f) (row g c + row g t) && eqb (col g d + col g f) (col g c + col g t)
 
 -- the neighbour in direction k, as a list of at most one: up, down, left, right
 unfoldable pub towards : Grid → ℕ → ℕ → List ℕ

@@ -3,19 +3,19 @@
 use Prim.Native.Nat.{ℕ, suc, _+_, _≤_, _<_}
 use mathlib.Core.Path.{_≡_, refl, subst}
 use mathlib.Core.Logic.{_≢_}
-use mathlib.Core.Bool.{Bool, So, _&&_}
+use mathlib.Core.Bool.{So}
 use mathlib.Core.List.{List, List·Memᴰ}
 use native.Mathlib.Decide.{ℕ-discrete, map-dec}
 use native.Mathlib.Nat.{le-antisymm}
 use native.Mathlib.Omega.{arith}
-use lib.Dec.{eqb}
-use borrow.Author.Tests.{eqb-true, eq-eqb}
 use Rattle.grid.specs.Lists.{any}
-use Rattle.grid.proofs.ListLaws.{and-true, true-and, any-mem, mem-any, all-mem, mem-all}
+use Rattle.grid.proofs.ListLaws.{any-mem, mem-any, all-mem, mem-all}
 use Rattle.grid.specs.Count.{count}
 use Rattle.grid.proofs.Count.{dec-and, dec-not, dec-some, except, count-except, count-inj, count-inj-suc}
-use Rattle.grid.specs.Grid.{Grid, size, row, col}
+use Rattle.grid.specs.Grid.{Grid, size}
 use Rattle.grid.proofs.GridLaws.{one-place}
+use Rattle.grid.specs.Side.{lands}
+use Rattle.grid.proofs.ShiftLaws.{lands-sums, sums-lands}
 use Rattle.groups.specs.Rules.{Shift, Moved, Contains, Below, Grown, taking, fits}
 
 module _ (g : Grid) where
@@ -120,34 +120,27 @@ module _ (g : Grid) where
                   )),
             ))
 
-  lands : ℕ → ℕ → ℕ → ℕ → Bool
-  lands f t x y = eqb (row g y + row g f) (row g x + row g t) && eqb (col g y + col g f) (col g x + col g t)
+  lands-moved : (f t x y : ℕ) → So (lands g f t x y) → Moved g (taking g f t) x y
+  lands-moved f t x y h = let e = lands-sums g f t x y h in record { rows = e .0; cols = e .1 }
 
-  lands-moved : (f t x y : ℕ) → So (lands f t x y) → Moved g (taking g f t) x y
-  unfolding lands
-  lands-moved f t x y h =
-      let k = and-true (eqb (row g y + row g f) (row g x + row g t)) (eqb (col g y + col g f) (col g x + col g t)) h in
-      record { rows = eqb-true (row g y + row g f) (row g x + row g t) (k .0); cols = eqb-true (col g y + col g f) (col g x + col g t) (k .1) }
-
-  moved-lands : (f t x y : ℕ) → Moved g (taking g f t) x y → So (lands f t x y)
-  unfolding lands
-  moved-lands f t x y m = true-and (eq-eqb (row g y + row g f) (row g x + row g t) (m .rows)) (eq-eqb (col g y + col g f) (col g x + col g t) (m .cols))
+  moved-lands : (f t x y : ℕ) → Moved g (taking g f t) x y → So (lands g f t x y)
+  moved-lands f t x y m = sums-lands g f t x y (m .rows) (m .cols)
 
   -- the test passes where the shift of the list B that takes f to t lies in C
   pub fits-contains : (B C : List ℕ) (f t : ℕ) → So (fits g B C f t) → Contains g (taking g f t) (λ x. List·Memᴰ x B) (λ y. List·Memᴰ y C)
-  unfolding fits lands
+  unfolding fits
   fits-contains B C f t h x m =
-      let k = any-mem (lands f t x) C (all-mem (λ z. any (lands f t z) C) B h x m) in
+      let k = any-mem (lands g f t x) C (all-mem (λ z. any (lands g f t z) C) B h x m) in
       (k .0, k .1, lands-moved f t x (k .0) (k .2))
 
   -- a shift that fits is one of those that are tried
   pub contains-fits : (B C : List ℕ) (f : ℕ) → List·Memᴰ f B → (s : Shift) → Contains g s (λ x. List·Memᴰ x B) (λ y. List·Memᴰ y C) → So (any (fits g B C f) C)
-  unfolding fits lands
+  unfolding fits
   contains-fits B C f b s h =
       let t = h f b in
-      mem-any (fits g B C f) C (t .1) (mem-all (λ x. any (lands f (t .0) x) C) B λ x m.
+      mem-any (fits g B C f) C (t .1) (mem-all (λ x. any (lands g f (t .0) x) C) B λ x m.
       let u = h x m in
-      mem-any (lands f (t .0) x) C (u .1) (moved-lands f (t .0) x (u .0) (record {
+      mem-any (lands g f (t .0) x) C (u .1) (moved-lands f (t .0) x (u .0) (record {
         rows = omega (arith, u .2 .rows, t .2 .rows);
         cols = omega (arith, u .2 .cols, t .2 .cols);
       })))

@@ -10,6 +10,7 @@ use Rattle.grid.specs.Lists.{any, all, filter, flatMap}
 use Rattle.grid.specs.Grid.{Grid, size, row, col}
 use Rattle.record.specs.Record.{Puzzle}
 use Rattle.grid.specs.Cells.{square}
+use Rattle.grid.specs.Side.{lands}
 use Rattle.groups.specs.Groups.{Joined, labels, group, names}
 use Rattle.groups.specs.Arrows.{OnArrow, onArrow, Pair, pairs}
 
@@ -81,8 +82,7 @@ Below g P = (c : ℕ) → P c → c < size g
 
 -- the set b, shifted so that its cell f comes to t, lies in the set r
 unfoldable pub fits : Grid → List ℕ → List ℕ → ℕ → ℕ → Bool
-fits g b r f t =
-    all (λ c. any (λ d. eqb (row g d + row g f) (row g c + row g t) && eqb (col g d + col g f) (col g c + col g t)) r) b
+fits g b r f t = all (λ c. any (lands g f t c) r) b
 
 module _ (p : Puzzle) (cells : List ℕ) where
   -- the block named f has exactly one arrow cell

@@ -7,13 +7,14 @@ use mathlib.Core.Bool.{Bool, true, false}
 use mathlib.Core.List.{List, [], _∷_, _++_, List·Memᴰ, List·Memᴰ·head, List·Memᴰ·tail}
 use mathlib.Core.Option.{none, some}
 use lib.ListN.{length, getD, set, take, take-append-drop}
-use lib.Seq.{slice, getD-take}
+use lib.Seq.{slice}
 use borrow.Author.Tests.{lt-ltb, le-ltb}
+use Rattle.grid.proofs.CellLaws.{empty-taken, undecided-taken}
 use Rattle.grid.specs.Lists.{filter, init, tail}
 use Rattle.grid.specs.Grid.{size}
 use Rattle.grid.proofs.AppendLaws.{filter-agree}
 use Rattle.grid.proofs.SliceLaws.{slice-tail, slice-init}
-use Rattle.grid.specs.Cells.{Literal, empty, undecided, word}
+use Rattle.grid.specs.Cells.{Literal, empty, word}
 use Rattle.groups.specs.Arrows.{Pair}
 use Rattle.kinds.specs.Kinds.{View, view, viewWith, block, reach, fence}
 use Rattle.kinds.specs.Inside.{Held}
@@ -69,23 +70,15 @@ gap-places arrows last cur h long =
     ∙ ap (λ (k : ℕ). slice k (cur - 1) arrows) next
 
 module _ (cells : List ℕ) (n : ℕ) where
-  empty-taken : (i : ℕ) → i < n → empty (take n cells) i ≡ empty cells i
-  unfolding empty
-  empty-taken i h = rw (getD-take n cells i 0 h) refl
-
-  undecided-taken : (i : ℕ) → i < n → undecided (take n cells) i ≡ undecided cells i
-  unfolding undecided
-  undecided-taken i h = rw (getD-take n cells i 0 h) refl
-
   pub most-taken : (t : Bool) (l : List ℕ) → ((x : ℕ) → List·Memᴰ x l → x < n) → mostApart (take n cells) t l ≡ mostApart cells t l
   unfolding mostApart
   most-taken t [] h = refl
   most-taken true (i ∷ l) h = most-taken false l (λ x m. h x (List·Memᴰ·tail m))
   most-taken false (i ∷ l) h =
-      rw (undecided-taken i (h i (List·Memᴰ·head refl)), most-taken true l (λ x m. h x (List·Memᴰ·tail m)), most-taken false l (λ x m. h x (List·Memᴰ·tail m))) refl
+      rw (undecided-taken cells n i (h i (List·Memᴰ·head refl)), most-taken true l (λ x m. h x (List·Memᴰ·tail m)), most-taken false l (λ x m. h x (List·Memᴰ·tail m))) refl
 
   pub empty-agree : (l : List ℕ) → ((x : ℕ) → List·Memᴰ x l → x < n) → filter (empty (take n cells)) l ≡ filter (empty cells) l
-  empty-agree l h = filter-agree (empty (take n cells)) (empty cells) l (λ x m. empty-taken x (h x m))
+  empty-agree l h = filter-agree (empty (take n cells)) (empty cells) l (λ x m. empty-taken cells n x (h x m))
 
 -- ---- the arrays of a board
 

@@ -6,8 +6,8 @@ use mathlib.Core.Path.{_≡_, refl, sym, _∙_}
 use mathlib.Core.Bool.{true, false}
 use mathlib.Core.List.{List}
 use lib.ListN.{getD, take}
-use lib.Seq.{getD-take}
 use borrow.Author.Tests.{eqb-true, eq-eqb}
+use Rattle.grid.proofs.CellLaws.{square-taken}
 use Rattle.grid.specs.Grid.{Grid, size, cellsOf}
 use Rattle.grid.specs.Side.{sized}
 use Rattle.grid.proofs.LinkLaws.{linked-end}
@@ -25,11 +25,7 @@ use Rattle.kinds.specs.Inside.{puzzleWith}
 use Rattle.growth.specs.Pairs.{NextSquare, viewOn, Scene, Squares}
 use Rattle.kinds.proofs.BlockArrays.{kind-get}
 
--- a cell of the grid, in an array and among the grid's cells
-pub square-taken : (cells : List ℕ) (n i : ℕ) → i < n → square (take n cells) i ≡ square cells i
-unfolding square
-square-taken cells n i h = rw (getD-take n cells i 0 h) refl
-
+-- the next square, in an array and among the grid's cells
 pub next-taken : {cells arrows : List ℕ} {from to r : ℕ} (n : ℕ) → NextSquare cells arrows from to r → ((k : ℕ) → from ≤ k → k < to → getD arrows k 0 < n)
     → NextSquare (take n cells) arrows from to r
 next-taken {cells} {arrows} {from} {to} {r} n x inside = record {

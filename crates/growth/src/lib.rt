@@ -3,8 +3,7 @@ ghost use mathlib.Core.Path.{_≡_};
 ghost use Prim.Native.Nat.{_+_, _<_, _≤_, ℕ, _*_};
 ghost use lib.ListN.{length, getD};
 ghost use lib.Seq.{slice};
-ghost use mathlib.Core.Bool.{false, _&&_};
-ghost use lib.Dec.{eqb};
+ghost use mathlib.Core.Bool.{false};
 ghost use Rattle.grid.specs.Lists.{filter};
 ghost use Rattle.grid.specs.Grid.{size};
 ghost use Rattle.grid.specs.Cells.{empty};
@@ -14,7 +13,7 @@ ghost use Rattle.literals.specs.Literals.{each};
 ghost use Rattle.growth.specs.Growth.{mostApart, blockCellFence};
 ghost use Rattle.literals.specs.Buffer.{Wrote, Fit};
 ghost use Rattle.groups.specs.Arrays.{CellArray};
-ghost use Rattle.kinds.specs.Inside.{Held, Limits, puzzleWith};
+ghost use Rattle.kinds.specs.Inside.{Held, Limits, puzzleWith, ofBlock};
 ghost use mathlib.Core.List.{List};
 ghost use Rattle.grid.specs.Side.{sized};
 ghost use Rattle.reach.specs.Chains.{Chains};
@@ -65,7 +64,7 @@ pub fn reason_for_gap(
 // Whether cell i is in the arrow block named f.
 fn in_block(kinds: &[u8; 1024], owners: &[u16; 1024], i: usize, f: u16) -> bool
     requires { ⌜ i < 1024 ⌝ }
-    ensures { λ r. ⌜ r ≡ (eqb (getD (now (kinds .entry)) i 0) 1 && eqb (getD (now (owners .entry)) i 0) f) ⌝ }
+    ensures { λ r. ⌜ r ≡ ofBlock (now (kinds .entry)) (now (owners .entry)) f i ⌝ }
 {
     if kinds[i] != 1 {
         return false;

@@ -16,9 +16,8 @@ use Rattle.record.specs.Valid.{Valid}
 use Rattle.record.specs.declared.Problem.{Problem}
 use Rattle.record.specs.declared.Answer.{Answer}
 use Rattle.record.specs.declared.Answer.the-variants.{Done, Refused}
-use Rattle.record.proofs.RecordLaws.{record-valid}
+use Rattle.record.proofs.RecordLaws.{record-valid, valid-size}
 use Rattle.grid.specs.Cells.{Literal}
-use Rattle.grid.proofs.GridLaws.{size-most}
 use Rattle.board.specs.Board.{decide, after, refusal, enough}
 use Rattle.board.specs.Form.{wellFormed}
 use Rattle.board.specs.Kept.{boardOf, opening, openOf}
@@ -131,7 +130,7 @@ module _ (s : List ℕ) {p : Puzzle} (reads : readRecord s ≡ ok p) {b : Board}
 
   -- the cells are few, so nothing overflows
   pub opens-area : b .problem .height * b .problem .width ≤ 1024
-  opens-area = rw sizes (size-most (p .grid) (valid .high .0) (valid .high .1))
+  opens-area = rw sizes (valid-size valid)
 
   -- the board is well formed
   pub opens-well : wellFormed b ≡ true

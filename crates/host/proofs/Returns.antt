@@ -13,10 +13,8 @@ use borrow.Author.Tests.{ltb-true, leb-false, eqb-true, eq-eqb, not-true}
 use Rattle.grid.specs.Lists.{all, member}
 use Rattle.grid.specs.Grid.{Grid, size, up, down, left, right}
 use Rattle.grid.proofs.ListLaws.{all-mem, and-true}
-use Rattle.grid.proofs.GridLaws.{size-most}
 use Rattle.record.specs.Record.{Outcome, ok, refused, _>>=_, unless, Puzzle, number, field, cellCodes, there, stepFrom, stepCells, arrowAt, filler, arrowsAt, readRecord, Bytes}
-use Rattle.record.specs.Valid.{Valid}
-use Rattle.record.proofs.RecordLaws.{record-valid}
+use Rattle.record.proofs.RecordLaws.{record-valid, valid-size}
 use Rattle.grid.specs.Cells.{Literal}
 use Rattle.board.specs.Board.{decide, refusal, decided, cellsAfter, enough}
 use Rattle.board.proofs.Standing.{Standing, none, after-standing, standing-calls, standing-low}
@@ -171,7 +169,7 @@ module _ {ks : List ℕ} (has : (k : ℕ) → List·Memᴰ k refusals → List·
 
 -- a record has at most 1,024 cells
 pub few-cells : (s : List ℕ) (p : Puzzle) → readRecord s ≡ ok p → size (p .grid) ≤ 1024
-few-cells s p e = let v : Valid p = record-valid s e in size-most (p .grid) (v .high .0) (v .high .1)
+few-cells s p e = valid-size (record-valid s e)
 
 found-with : (s : List ℕ) (p : Puzzle) → readRecord s ≡ ok p → {ds : List Literal} → Standing (p .grid) ds → FoundWith s (findOn p ds)
 found-with s p e {ds} st = record { puzzle = p; reads = e; few = few-cells s p e; found = go (findOn p ds) refl }

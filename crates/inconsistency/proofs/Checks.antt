@@ -10,7 +10,7 @@ use Rattle.grid.specs.Lists.{last, member}
 use Rattle.grid.specs.Marks.{Marks}
 use Rattle.grid.specs.Grid.{size}
 use Rattle.grid.specs.Side.{sized}
-use Rattle.grid.proofs.SideLaws.{area}
+use Rattle.grid.proofs.SideLaws.{area, sized-size}
 use Rattle.grid.proofs.ListLaws.{flatMap-mem}
 use Rattle.grid.proofs.AppendLaws.{last-more}
 use Rattle.record.specs.Record.{Puzzle}
@@ -33,7 +33,6 @@ use Rattle.paths.specs.Ends.{BlockArrays}
 use Rattle.inconsistency.specs.Arrays.{ArrowArrays}
 use Rattle.literals.specs.Buffer.{FoundAs, Fit}
 use Rattle.literals.proofs.Findings.{nothing-found, not-refused, found-first, found-next}
-use Rattle.units.proofs.Checks.{sized-size}
 
 pub last-taken : (l : List ℕ) (k : ℕ) → k < length l → last 0 (take (suc k) l) ≡ getD l k 0
 last-taken l k h = rw (take-suc l k 0 h) (last-more 0 (take k l) (getD l k 0))

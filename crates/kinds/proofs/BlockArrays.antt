@@ -12,7 +12,7 @@ use Rattle.grid.proofs.ListLaws.{map-upto-at, map-upto-past}
 use Rattle.grid.proofs.FilledLaws.{filled-at}
 use Rattle.grid.proofs.AppendLaws.{filter-upto}
 use Rattle.record.specs.Record.{Puzzle}
-use Rattle.kinds.specs.Inside.{Held}
+use Rattle.kinds.specs.Inside.{Held, ofBlock}
 use Rattle.kinds.specs.Kinds.{View, Kind, vacant, barrier, floating, inBlock, neighbour, isIn, has, block, kindAt, kindsOf}
 use Rattle.kinds.specs.Arrays.{kindCode, ownerBy, kindArray, ownerArray}
 
@@ -45,6 +45,6 @@ module _ (v : View) where
 
   -- the cells of the arrow block f
   pub block-by : (f : ℕ) (kinds owners : List ℕ) (n : ℕ) → Held v kinds owners → n ≡ size (v .grid)
-      → filter (λ i. eqb (getD kinds i 0) 1 && eqb (getD owners i 0) f) (upto n) ≡ block v f
+      → filter (ofBlock kinds owners f) (upto n) ≡ block v f
   unfolding block cellsOf
   block-by f kinds owners n k e = rw (e, k .kind, k .owner) (filter-upto _ (has (isIn f) (v .kinds)) (size (v .grid)) (λ i h. block-test f i h))

@@ -1,6 +1,6 @@
 -- Marks at the names of groups, and arrays of kinds and owners that are filled cell by cell.
 -- Assumes nothing.
-use Prim.Native.Nat.{ℕ, _+_, _-_, _%_, _≤_, _<_}
+use Prim.Native.Nat.{ℕ, _+_, _%_, _≤_, _<_}
 use native.Mathlib.Decide.{decLt}
 use native.Mathlib.Omega.{arith}
 use mathlib.Core.Bool.{Bool, false, cond, _&&_, _||_, or-false, and-false}

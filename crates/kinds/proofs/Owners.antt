@@ -14,7 +14,7 @@ use Rattle.grid.specs.Grid.{Grid, neighbours}
 use Rattle.grid.proofs.ListLaws.{once-nil, once-one, mem-once}
 use Rattle.grid.proofs.AppendLaws.{filter-append}
 use Rattle.kinds.specs.Kinds.{Kind, vacant, barrier, floating, inBlock, neighbour, kindTouching}
-use Rattle.kinds.specs.Inside.{meetOf, Owned, nobody, one, many, arrowAt, arrowsAt, kindIn}
+use Rattle.kinds.specs.Inside.{meetOf, Owned, nobody, one, many, arrowBlockAt, arrowBlocksAt, kindIn}
 use Rattle.kinds.specs.declared.Owner.{Owner}
 use Rattle.kinds.specs.declared.Owner.the-variants.{Nobody, One, Many}
 
@@ -38,27 +38,27 @@ owned-more {l} x (one {f} m h) = by (ℕ-discrete f x)
 owned-more {l} x (many m k ne) = many (Memᴰ·append-left (x ∷ []) m) (Memᴰ·append-left (x ∷ []) k) ne
 
 module _ (blocks arrowed : List ℕ) where
-  pub owned-none : Owned (arrowsAt blocks arrowed []) Nobody
-  unfolding arrowsAt filter
+  pub owned-none : Owned (arrowBlocksAt blocks arrowed []) Nobody
+  unfolding arrowBlocksAt filter
   owned-none = nobody (λ x m. List·Memᴰ·not-nil m)
 
-  more : (js : List ℕ) (j : ℕ) → arrowsAt blocks arrowed (js ++ (j ∷ [])) ≡ arrowsAt blocks arrowed js ++ arrowsAt blocks arrowed (j ∷ [])
-  unfolding arrowsAt
-  more js j = ap (filter (λ f. ltb f 1024)) (map-append (arrowAt blocks arrowed) js (j ∷ [])) ∙ filter-append (λ f. ltb f 1024) (map (arrowAt blocks arrowed) js) (arrowAt blocks arrowed j ∷ [])
+  more : (js : List ℕ) (j : ℕ) → arrowBlocksAt blocks arrowed (js ++ (j ∷ [])) ≡ arrowBlocksAt blocks arrowed js ++ arrowBlocksAt blocks arrowed (j ∷ [])
+  unfolding arrowBlocksAt
+  more js j = ap (filter (λ f. ltb f 1024)) (map-append (arrowBlockAt blocks arrowed) js (j ∷ [])) ∙ filter-append (λ f. ltb f 1024) (map (arrowBlockAt blocks arrowed) js) (arrowBlockAt blocks arrowed j ∷ [])
 
   -- one more cell, in an arrow block or in none
-  pub owned-hit : (js : List ℕ) (j x : ℕ) {o : Owner} → x ≡ arrowAt blocks arrowed j → x < 1024 → Owned (arrowsAt blocks arrowed js) o → Owned (arrowsAt blocks arrowed (js ++ (j ∷ []))) (meetOf o x)
-  unfolding arrowsAt filter
-  owned-hit js j x {o} e h q = subst (λ (l : List ℕ). Owned l (meetOf o x)) (sym (more js j ∙ ap (λ (l : List ℕ). arrowsAt blocks arrowed js ++ l) single)) (owned-more x q)
+  pub owned-hit : (js : List ℕ) (j x : ℕ) {o : Owner} → x ≡ arrowBlockAt blocks arrowed j → x < 1024 → Owned (arrowBlocksAt blocks arrowed js) o → Owned (arrowBlocksAt blocks arrowed (js ++ (j ∷ []))) (meetOf o x)
+  unfolding arrowBlocksAt filter
+  owned-hit js j x {o} e h q = subst (λ (l : List ℕ). Owned l (meetOf o x)) (sym (more js j ∙ ap (λ (l : List ℕ). arrowBlocksAt blocks arrowed js ++ l) single)) (owned-more x q)
     where
-      single : arrowsAt blocks arrowed (j ∷ []) ≡ x ∷ []
+      single : arrowBlocksAt blocks arrowed (j ∷ []) ≡ x ∷ []
       single = rw (← e, lt-ltb x 1024 h)
 
-  pub owned-miss : (js : List ℕ) (j x : ℕ) {o : Owner} → x ≡ arrowAt blocks arrowed j → 1024 ≤ x → Owned (arrowsAt blocks arrowed js) o → Owned (arrowsAt blocks arrowed (js ++ (j ∷ []))) o
-  unfolding arrowsAt filter
-  owned-miss js j x {o} e h q = subst (λ (l : List ℕ). Owned l o) (sym (more js j ∙ ap (λ (l : List ℕ). arrowsAt blocks arrowed js ++ l) nothing ∙ append-nil (arrowsAt blocks arrowed js))) q
+  pub owned-miss : (js : List ℕ) (j x : ℕ) {o : Owner} → x ≡ arrowBlockAt blocks arrowed j → 1024 ≤ x → Owned (arrowBlocksAt blocks arrowed js) o → Owned (arrowBlocksAt blocks arrowed (js ++ (j ∷ []))) o
+  unfolding arrowBlocksAt filter
+  owned-miss js j x {o} e h q = subst (λ (l : List ℕ). Owned l o) (sym (more js j ∙ ap (λ (l : List ℕ). arrowBlocksAt blocks arrowed js ++ l) nothing ∙ append-nil (arrowBlocksAt blocks arrowed js))) q
     where
-      nothing : arrowsAt blocks arrowed (j ∷ []) ≡ []
+      nothing : arrowBlocksAt blocks arrowed (j ∷ []) ≡ []
       nothing = rw (← e, le-ltb x 1024 h)
 
 -- ---- the kind that they make of an undecided cell
@@ -87,14 +87,14 @@ module _ (blocks arrowed : List ℕ) (g : Grid) (cells : List ℕ) (i : ℕ) whe
   unfolding kindIn
   kind-empty e = rw e
 
-  pub kind-arrow : (x : ℕ) → getD cells i 0 ≡ 1 → x ≡ arrowAt blocks arrowed i → x < 1024 → inBlock x ≡ kindIn blocks arrowed g cells i
+  pub kind-arrow : (x : ℕ) → getD cells i 0 ≡ 1 → x ≡ arrowBlockAt blocks arrowed i → x < 1024 → inBlock x ≡ kindIn blocks arrowed g cells i
   unfolding kindIn
   kind-arrow x e q h = rw (e, ← q, lt-ltb x 1024 h)
 
-  pub kind-alone : (x : ℕ) → getD cells i 0 ≡ 1 → x ≡ arrowAt blocks arrowed i → 1024 ≤ x → floating ≡ kindIn blocks arrowed g cells i
+  pub kind-alone : (x : ℕ) → getD cells i 0 ≡ 1 → x ≡ arrowBlockAt blocks arrowed i → 1024 ≤ x → floating ≡ kindIn blocks arrowed g cells i
   unfolding kindIn
   kind-alone x e q h = rw (e, ← q, le-ltb x 1024 h)
 
-  pub kind-open : (k : Kind) → (getD cells i 0 ≡ 0 → ⊥) → (getD cells i 0 ≡ 1 → ⊥) → kindTouching (once (arrowsAt blocks arrowed (neighbours g i))) ≡ k → k ≡ kindIn blocks arrowed g cells i
+  pub kind-open : (k : Kind) → (getD cells i 0 ≡ 0 → ⊥) → (getD cells i 0 ≡ 1 → ⊥) → kindTouching (once (arrowBlocksAt blocks arrowed (neighbours g i))) ≡ k → k ≡ kindIn blocks arrowed g cells i
   unfolding kindIn
   kind-open k a b e = rw (ne-eqb (getD cells i 0) 0 a, ne-eqb (getD cells i 0) 1 b) (sym e)

@@ -27,7 +27,7 @@ use Rattle.groups.proofs.MarkLaws.{mask-test}
 use Rattle.groups.proofs.LabelLaws.{label-at}
 use Rattle.kinds.specs.Kinds.{Kind, vacant, barrier, floating, inBlock, neighbour, isFloating, kindTouching, arrowBlock, blocksTouched, kindAt, kindsOf, has, view, viewWith}
 use Rattle.kinds.specs.Arrays.{kindCode, ownerBy, kindArray, ownerArray}
-use Rattle.kinds.specs.Inside.{puzzleWith, arrowAt, arrowsAt, kindIn, codesIn, ownersIn, Given, Held, unnamed, Unnamed, Sofar}
+use Rattle.kinds.specs.Inside.{puzzleWith, arrowBlockAt, arrowBlocksAt, kindIn, codesIn, ownersIn, Given, Held, unnamed, Unnamed, Sofar}
 use Rattle.kinds.proofs.Filled.{owners-length}
 use Rattle.kinds.proofs.BlockArrays.{kind-get, kind-past}
 use Rattle.kinds.proofs.Traversal.{sofar-labels}
@@ -66,8 +66,8 @@ module _ (p : Puzzle) (small : size (p .grid) ≤ 1024) (cells blocks A : List �
   abbrev inArrow : ℕ → Bool
   inArrow j = square cells j && arrowed (blockName j)
 
-  arrow-at : (j : ℕ) → j < size g → arrowAt blocks A j ≡ cond (inArrow j) (blockName j) 1024
-  unfolding arrowAt
+  arrow-at : (j : ℕ) → j < size g → arrowBlockAt blocks A j ≡ cond (inArrow j) (blockName j) 1024
+  unfolding arrowBlockAt
   arrow-at j l = by (square cells j) refl
     where
       by : (s : Bool) → square cells j ≡ s → cond (ltb (getD blocks j 0) 1024 && eqb (getD A (getD blocks j 0) 0) 1) (getD blocks j 0) 1024 ≡ cond (s && arrowed (blockName j)) (blockName j) 1024
@@ -79,20 +79,20 @@ module _ (p : Puzzle) (small : size (p .grid) ≤ 1024) (cells blocks A : List �
           let b : getD blocks j 0 ≡ 1024 = block-at j l ∙ rw e in
           rw b
 
-  in-arrow-low : (j : ℕ) → j < size g → ltb (arrowAt blocks A j) 1024 ≡ inArrow j
+  in-arrow-low : (j : ℕ) → j < size g → ltb (arrowBlockAt blocks A j) 1024 ≡ inArrow j
   in-arrow-low j l = rw (arrow-at j l) (by (inArrow j) refl)
     where
       by : (b : Bool) → inArrow j ≡ b → ltb (cond b (blockName j) 1024) 1024 ≡ b
       by true e = lt-ltb (blockName j) 1024 (omega (arith, label-below j l (and-true (square cells j) (arrowed (blockName j)) e .0)))
       by false e = refl
 
-  arrows-at : (l : List ℕ) → ((x : ℕ) → List·Memᴰ x l → x < size g) → arrowsAt blocks A l ≡ map blockName (filter inArrow l)
-  unfolding arrowsAt filter
+  arrows-at : (l : List ℕ) → ((x : ℕ) → List·Memᴰ x l → x < size g) → arrowBlocksAt blocks A l ≡ map blockName (filter inArrow l)
+  unfolding arrowBlocksAt filter
   arrows-at [] h = refl
   arrows-at (x ∷ l) h = rw (in-arrow-low x (h x (List·Memᴰ·head refl))) (by (inArrow x) refl (arrows-at l (λ y m. h y (List·Memᴰ·tail m))))
     where
-      by : (b : Bool) → inArrow x ≡ b → filter (λ f. ltb f 1024) (map (arrowAt blocks A) l) ≡ map blockName (filter inArrow l)
-          → cond b (arrowAt blocks A x ∷ filter (λ f. ltb f 1024) (map (arrowAt blocks A) l)) (filter (λ f. ltb f 1024) (map (arrowAt blocks A) l)) ≡ map blockName (cond b (x ∷ filter inArrow l) (filter inArrow l))
+      by : (b : Bool) → inArrow x ≡ b → filter (λ f. ltb f 1024) (map (arrowBlockAt blocks A) l) ≡ map blockName (filter inArrow l)
+          → cond b (arrowBlockAt blocks A x ∷ filter (λ f. ltb f 1024) (map (arrowBlockAt blocks A) l)) (filter (λ f. ltb f 1024) (map (arrowBlockAt blocks A) l)) ≡ map blockName (cond b (x ∷ filter inArrow l) (filter inArrow l))
       by true e q = rw (arrow-at x (h x (List·Memᴰ·head refl)), e, q)
       by false e q = q
 
@@ -163,10 +163,10 @@ module _ (blocks A : List ℕ) (g : Grid) (values : List ℕ) (n : ℕ) (small :
       by (no l) = absurd (false≢true (sym (ap (λ (x : ℕ). eqb x 4) (code-past i (omega arith))) ∙ h))
 
   kind-floating : (i : ℕ) → ownerBy unnamed (kindIn blocks A g values i) ≡ unnamed → So (isFloating (kindIn blocks A g values i))
-  unfolding kindIn arrowsAt
-  kind-floating i h = only-floating (eqb (getD values i 0) 0) (eqb (getD values i 0) 1) (ltb (arrowAt blocks A i) 1024) (arrowAt blocks A i) (once (arrowsAt blocks A (neighbours g i)))
-      (ltb-true (arrowAt blocks A i) 1024)
-      (λ f m. ltb-true f 1024 (filter-mem (λ (x : ℕ). ltb x 1024) (map (arrowAt blocks A) (neighbours g i)) (once-mem (arrowsAt blocks A (neighbours g i)) m) .1))
+  unfolding kindIn arrowBlocksAt
+  kind-floating i h = only-floating (eqb (getD values i 0) 0) (eqb (getD values i 0) 1) (ltb (arrowBlockAt blocks A i) 1024) (arrowBlockAt blocks A i) (once (arrowBlocksAt blocks A (neighbours g i)))
+      (ltb-true (arrowBlockAt blocks A i) 1024)
+      (λ f m. ltb-true f 1024 (filter-mem (λ (x : ℕ). ltb x 1024) (map (arrowBlockAt blocks A) (neighbours g i)) (once-mem (arrowBlocksAt blocks A (neighbours g i)) m) .1))
       h
 
   unnamed-floats : (i : ℕ) → getD (ownersIn blocks A g values n) i 0 ≡ unnamed → So (floats (codesIn blocks A g values n) i)
@@ -200,7 +200,7 @@ module _ (p : Puzzle) (small : size (p .grid) ≤ 1024) (values blocks A : List 
   abbrev kinds : List Kind
   kinds = kindsOf p cells (labels grid (square cells))
 
-  kind-square : (i : ℕ) → i < size grid → So (square cells i) → cond (ltb (arrowAt blocks A i) 1024) (inBlock (arrowAt blocks A i)) floating ≡ cond (arrowBlock p cells (labels grid (square cells)) (getD (labels grid (square cells)) i 0)) (inBlock (getD (labels grid (square cells)) i 0)) floating
+  kind-square : (i : ℕ) → i < size grid → So (square cells i) → cond (ltb (arrowBlockAt blocks A i) 1024) (inBlock (arrowBlockAt blocks A i)) floating ≡ cond (arrowBlock p cells (labels grid (square cells)) (getD (labels grid (square cells)) i 0)) (inBlock (getD (labels grid (square cells)) i 0)) floating
   kind-square i l q =
       let e : (square cells i && F) ≡ F = rw q in
       rw (in-arrow-low p small cells blocks A given i l, arrow-at p small cells blocks A given i l, e) (by F)

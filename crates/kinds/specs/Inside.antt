@@ -42,6 +42,10 @@ pub record Held (v : View) (kinds owners : List ℕ) : Type 0 where
   pub kind : kinds ≡ kindArray v
   pub owner : owners ≡ ownerArray v
 
+-- cell i is in the arrow block f, by the arrays of kinds and owners
+abbrev pub ofBlock : List ℕ → List ℕ → ℕ → ℕ → Bool
+ofBlock kinds owners f i = eqb (getD kinds i 0) 1 && eqb (getD owners i 0) f
+
 -- the cells in a line, and the names of their groups
 module _ (names line : List ℕ) where
   -- the name of the group of the cell at place k
@@ -85,19 +89,19 @@ pub data Owned (l : List ℕ) : Owner → Type 0 where
 
 module _ (blocks arrowed : List ℕ) where
   -- the name of the arrow block of cell j, 1024 where it is in none
-  unfoldable pub arrowAt : ℕ → ℕ
-  arrowAt j = cond (ltb (getD blocks j 0) 1024 && eqb (getD arrowed (getD blocks j 0) 0) 1) (getD blocks j 0) 1024
+  unfoldable pub arrowBlockAt : ℕ → ℕ
+  arrowBlockAt j = cond (ltb (getD blocks j 0) 1024 && eqb (getD arrowed (getD blocks j 0) 0) 1) (getD blocks j 0) 1024
 
   -- the names of the arrow blocks of the cells js
-  unfoldable pub arrowsAt : List ℕ → List ℕ
-  arrowsAt js = filter (λ f. ltb f 1024) (map arrowAt js)
+  unfoldable pub arrowBlocksAt : List ℕ → List ℕ
+  arrowBlocksAt js = filter (λ f. ltb f 1024) (map arrowBlockAt js)
 
   -- the kind of cell i, whose value is in cells
   unfoldable pub kindIn : Grid → List ℕ → ℕ → Kind
   kindIn g cells i =
       cond (eqb (getD cells i 0) 0) vacant
-      (cond (eqb (getD cells i 0) 1) (cond (ltb (arrowAt i) 1024) (inBlock (arrowAt i)) floating)
-      (kindTouching (once (arrowsAt (neighbours g i)))))
+      (cond (eqb (getD cells i 0) 1) (cond (ltb (arrowBlockAt i) 1024) (inBlock (arrowBlockAt i)) floating)
+      (kindTouching (once (arrowBlocksAt (neighbours g i)))))
 
 -- the kinds of the first k cells by their numbers, in an array
 unfoldable pub codesIn : List ℕ → List ℕ → Grid → List ℕ → ℕ → List ℕ

@@ -1,6 +1,6 @@
 // The kinds of a board's cells.
 ghost use mathlib.Core.Path.{_≡_};
-ghost use Prim.Native.Nat.{ℕ, _+_, _*_, _<_};
+ghost use Prim.Native.Nat.{ℕ, _*_, _<_};
 ghost use mathlib.Core.Bool.{Bool, cond, _&&_, _||_};
 ghost use mathlib.Core.List.{List, [], _∷_, _++_};
 ghost use lib.Dec.{eqb};
@@ -11,7 +11,7 @@ ghost use Rattle.grid.specs.Side.{sized, InGrid};
 ghost use Rattle.groups.specs.Arrays.{Line};
 ghost use Rattle.kinds.specs.Kinds.{view};
 ghost use Rattle.kinds.specs.Arrays.{kindCode, ownerBy};
-ghost use Rattle.kinds.specs.Inside.{Limits, puzzleWith, Given, Held, nameAmong, nameTwice, Met, kindFrom, meetOf, Owned, arrowAt, arrowsAt, kindIn, codesIn, ownersIn, unnamed, OnlyUnnamed, Walked, Walkable, Unnamed, Sofar};
+ghost use Rattle.kinds.specs.Inside.{Limits, puzzleWith, Given, Held, nameAmong, nameTwice, Met, kindFrom, meetOf, Owned, arrowBlockAt, arrowBlocksAt, kindIn, codesIn, ownersIn, unnamed, OnlyUnnamed, Walked, Walkable, Unnamed, Sofar};
 use grid::Side;
 
 // No mark is set.
@@ -142,7 +142,7 @@ fn meet(owner: Owner, f: u16) -> Owner
 // The name of the arrow block of cell j, 1024 where it is in none.
 fn arrow_block_at(blocks: &[u16; 1024], arrowed: &[u8; 1024], j: usize) -> u16
     requires { ⌜ j < 1024 ⌝ }
-    ensures { λ r. ⌜ r ≡ arrowAt (now (blocks .entry)) (now (arrowed .entry)) j ⌝ }
+    ensures { λ r. ⌜ r ≡ arrowBlockAt (now (blocks .entry)) (now (arrowed .entry)) j ⌝ }
 {
     let f = blocks[j];
     if 1024 <= f {
@@ -154,8 +154,8 @@ fn arrow_block_at(blocks: &[u16; 1024], arrowed: &[u8; 1024], j: usize) -> u16
 // One more neighbour j: its arrow block is met, if it is in one.
 fn meet_at(blocks: &[u16; 1024], arrowed: &[u8; 1024], j: usize, owner: Owner) -> Owner
     requires { ⌜ j < 1024 ⌝ }
-    ensures { λ r. ⌜ ((js : List ℕ) → Owned (arrowsAt (now (blocks .entry)) (now (arrowed .entry)) js) owner
-        → Owned (arrowsAt (now (blocks .entry)) (now (arrowed .entry)) (js ++ (j ∷ []))) r) ⌝ }
+    ensures { λ r. ⌜ ((js : List ℕ) → Owned (arrowBlocksAt (now (blocks .entry)) (now (arrowed .entry)) js) owner
+        → Owned (arrowBlocksAt (now (blocks .entry)) (now (arrowed .entry)) (js ++ (j ∷ []))) r) ⌝ }
 {
     let f = arrow_block_at(blocks, arrowed, j);
     if 1024 <= f {
@@ -167,7 +167,7 @@ fn meet_at(blocks: &[u16; 1024], arrowed: &[u8; 1024], j: usize, owner: Owner) -
 // The arrow blocks that cell i touches.
 fn look_around(blocks: &[u16; 1024], arrowed: &[u8; 1024], h: usize, w: usize, i: usize) -> Owner
     requires { ⌜ InGrid h w i ⌝ }
-    ensures { λ r. ⌜ Owned (arrowsAt (now (blocks .entry)) (now (arrowed .entry)) (neighbours (sized h w) i)) r ⌝ }
+    ensures { λ r. ⌜ Owned (arrowBlocksAt (now (blocks .entry)) (now (arrowed .entry)) (neighbours (sized h w) i)) r ⌝ }
 {
     let y = i / w;
     let x = i % w;

@@ -1,6 +1,6 @@
 // Literals in a lent buffer, and the answer of find.
 ghost use mathlib.Core.Path.{_≡_};
-ghost use Prim.Native.Nat.{_+_, _*_, _<_, _≤_};
+ghost use Prim.Native.Nat.{_+_, _<_, _≤_};
 ghost use lib.ListN.{length, set};
 ghost use mathlib.Core.Bool.{cond};
 ghost use Rattle.grid.specs.Cells.{word};

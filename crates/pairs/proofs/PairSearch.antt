@@ -9,6 +9,7 @@ use mathlib.Core.List.{List, [], _∷_, List·Memᴰ, List·Memᴰ·head, List·
 use mathlib.Core.Option.{none}
 use lib.ListN.{length, getD, take, drop, length-take, drop-of-length-le}
 use lib.Seq.{slice, slice-cons, length-slice, take-nil, drop-nil}
+use Rattle.grid.proofs.CellLaws.{square-taken}
 use Rattle.grid.specs.Lists.{flatMap, member}
 use Rattle.grid.proofs.ListLaws.{mem-any, mem-member}
 use Rattle.grid.proofs.SliceLaws.{slice-none, slice-at}
@@ -21,7 +22,7 @@ use Rattle.literals.specs.Buffer.{FoundAs}
 use Rattle.literals.specs.Literals.{Found, orElse, firstOf}
 use Rattle.literals.specs.declared.Finding.the-variants.{Nothing, Reason}
 use Rattle.literals.proofs.Findings.{nothing-found, found-first, first-append}
-use Rattle.growth.proofs.PairNames.{square-taken, next-taken}
+use Rattle.growth.proofs.PairNames.{next-taken}
 use Rattle.growth.proofs.PairPlaces.{pairs-start, pairs-more, pairs-end}
 
 -- ---- one arrow

@@ -14,7 +14,7 @@ use borrow.Author.Tests.{eq-eqb, ne-eqb, eqb-true, lt-ltb, le-ltb}
 use Rattle.grid.specs.Lists.{range, upto, filter}
 use Rattle.grid.proofs.ListLaws.{filter-mem, range-mem}
 use Rattle.grid.proofs.AppendLaws.{filter-append, upto-more, filter-filter, filter-agree}
-use Rattle.reach.specs.Chains.{ownedBy, cellsFrom, firstOf, firstFrom, ChainsFrom, Chains}
+use Rattle.reach.specs.Chains.{ownedBy, cellsFrom, firstCell, firstFrom, ChainsFrom, Chains}
 
 -- ---- the cells from k on that pass a test
 
@@ -26,8 +26,8 @@ record First (p : ℕ → Bool) (k m i : ℕ) : Type 0 where
   rest : filter p (range k m) ≡ i ∷ filter p (range (i + 1) (k + m - (i + 1)))
   none-before : filter p (range k (i - k)) ≡ []
 
-first-of : (p : ℕ → Bool) (k m i : ℕ) → i ≡ firstOf (filter p (range k m)) → i < 1024 → First p k m i
-unfolding firstOf filter range
+first-of : (p : ℕ → Bool) (k m i : ℕ) → i ≡ firstCell (filter p (range k m)) → i < 1024 → First p k m i
+unfolding firstCell filter range
 first-of p k zero i e h = absurd (omega (arith, e))
 first-of p k (suc m) i e h = go (p k) refl (first-of p (suc k) m i)
   where
@@ -49,7 +49,7 @@ first-of p k (suc m) i e h = go (p k) refl (first-of p (suc k) m i)
       none-before = let z : i - k ≡ suc (i - suc k) = omega (arith, F .low) in rw z (rw t (F .none-before));
     }
 
-    go : (b : Bool) → p k ≡ b → (i ≡ firstOf (filter p (range (suc k) m)) → i < 1024 → First p (suc k) m i) → First p k (suc m) i
+    go : (b : Bool) → p k ≡ b → (i ≡ firstCell (filter p (range (suc k) m)) → i < 1024 → First p (suc k) m i) → First p k (suc m) i
     go true t below = here (rw t at e) t
     go false t below = later t (below (rw t at e) h)
 
@@ -86,13 +86,13 @@ module _ (owners : List ℕ) (n f : ℕ) where
 
   -- there is no next cell
   pub from-none : (k i : ℕ) → n ≤ 1024 → i ≡ firstFrom owners n f k → 1024 ≤ i → cellsFrom owners n f k ≡ []
-  unfolding firstFrom firstOf cellsFrom
+  unfolding firstFrom firstCell cellsFrom
   from-none k i small e h = go (cellsFrom owners n f k) refl
     where
       go : (l : List ℕ) → cellsFrom owners n f k ≡ l → l ≡ []
       go [] q = refl
       go (j ∷ js) q =
-          let s : i ≡ j = e ∙ ap firstOf q in
+          let s : i ≡ j = e ∙ ap firstCell q in
           let m : List·Memᴰ j (filter (ownedBy owners f) (range k (n - k))) = rw q (List·Memᴰ·head refl) in
           absurd (omega (arith, s, range-mem k (n - k) (filter-mem (ownedBy owners f) (range k (n - k)) m .0)))
 
@@ -146,7 +146,7 @@ module _ (owners : List ℕ) (n : ℕ) where
 
   -- before the last cell
   pub chains-none : n ≤ 1024 → ChainsFrom owners (replicate 1024 1024) (replicate 1024 1024) n n
-  unfolding firstFrom cellsFrom range filter firstOf
+  unfolding firstFrom cellsFrom range filter firstCell
   chains-none small = record {
     small = small;
     head-long = length-replicate {A = ℕ} 1024 1024;
@@ -157,12 +157,12 @@ module _ (owners : List ℕ) (n : ℕ) where
 
   module _ {head next : List ℕ} (i : ℕ) (inside : i < n) (C : ChainsFrom owners head next n (i + 1)) where
     own-first : i ≡ firstFrom owners n (getD owners i 0) i
-    unfolding firstFrom firstOf ownedBy
-    own-first = sym (ap firstOf {y = i ∷ cellsFrom owners n (getD owners i 0) (i + 1)} (from-next (getD owners i 0) i inside ∙ rw (eq-eqb (getD owners i 0) (getD owners i 0) refl)))
+    unfolding firstFrom firstCell ownedBy
+    own-first = sym (ap firstCell {y = i ∷ cellsFrom owners n (getD owners i 0) (i + 1)} (from-next (getD owners i 0) i inside ∙ rw (eq-eqb (getD owners i 0) (getD owners i 0) refl)))
 
     firsts : (f : ℕ) → (getD owners i 0 ≡ f → ⊥) → firstFrom owners n f (i + 1) ≡ firstFrom owners n f i
     unfolding firstFrom ownedBy
-    firsts f ne = sym (ap firstOf (from-next f i inside ∙ rw (ne-eqb (getD owners i 0) f ne)))
+    firsts f ne = sym (ap firstCell (from-next f i inside ∙ rw (ne-eqb (getD owners i 0) f ne)))
 
     -- one more cell, with an owner
     pub chains-more : getD owners i 0 < 1024 → ChainsFrom owners (set head (getD owners i 0) i) (set next i (getD head (getD owners i 0) 0)) n i

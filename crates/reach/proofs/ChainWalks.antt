@@ -10,7 +10,7 @@ use lib.ListN.{length, getD}
 use borrow.Author.Tests.{eq-eqb}
 use Rattle.grid.specs.Lists.{upto}
 use Rattle.grid.proofs.ListLaws.{filter-length, length-range, mem-filter, mem-upto}
-use Rattle.reach.specs.Chains.{ownedBy, cellsFrom, firstOf, firstFrom, Chains}
+use Rattle.reach.specs.Chains.{ownedBy, cellsFrom, firstCell, firstFrom, Chains}
 use Rattle.reach.proofs.ChainLaws.{cellsUpTo, first-low, first-in, first-owned, from-none, passed-none, passed-first, passed-all, chain-head, chain-next}
 
 -- i is the next cell of the chain of f, 1024 or more at its end, and `passed` are the cells before it
@@ -36,12 +36,12 @@ module _ {owners head next : List ℕ} {n : ℕ} (C : Chains owners head next n)
 
     -- no number is above 1024
     pub walk-high : i ≤ 1024
-    unfolding firstFrom firstOf
+    unfolding firstFrom firstCell
     walk-high = go (decLt i 1024)
       where
         go : Dec (i < 1024) → i ≤ 1024
         go (yes l) = omega (arith, l)
-        go (no l) = omega (arith, W .next ∙ ap firstOf (from-none owners n f (W .from) i (C .small) (W .next) (omega (arith, l))))
+        go (no l) = omega (arith, W .next ∙ ap firstCell (from-none owners n f (W .from) i (C .small) (W .next) (omega (arith, l))))
 
     -- it is one of the chain's cells
     pub walk-mem : i < 1024 → List·Memᴰ i (cellsFrom owners n f 0)

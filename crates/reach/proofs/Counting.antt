@@ -1,6 +1,6 @@
 -- The marks of the floating groups near a block and of a reach, as they grow cell by cell.
 -- Assumes nothing.
-use Prim.Native.Nat.{ℕ, _+_, _-_, _≤_, _<_}
+use Prim.Native.Nat.{ℕ, _+_, _≤_, _<_}
 use native.Mathlib.Omega.{arith}
 use mathlib.Core.Bool.{Bool, false, cond, _&&_, _||_, or-false, or-assoc}
 use mathlib.Core.Path.{_≡_, refl, sym, ap, _∙_}

@@ -17,13 +17,13 @@ unfoldable pub cellsFrom : List ℕ → ℕ → ℕ → ℕ → List ℕ
 cellsFrom owners n f i = filter (ownedBy owners f) (range i (n - i))
 
 -- the first of a list of cells, 1024 if there is none
-unfoldable pub firstOf : List ℕ → ℕ
-firstOf [] = 1024
-firstOf (j ∷ js) = j
+unfoldable pub firstCell : List ℕ → ℕ
+firstCell [] = 1024
+firstCell (j ∷ js) = j
 
 -- the first cell from i on and below n that has the owner f, 1024 if there is none
 unfoldable pub firstFrom : List ℕ → ℕ → ℕ → ℕ → ℕ
-firstFrom owners n f i = firstOf (cellsFrom owners n f i)
+firstFrom owners n f i = firstCell (cellsFrom owners n f i)
 
 -- the cells from k on are linked: head has the first of each owner's, and next the one behind each
 pub record ChainsFrom (owners head next : List ℕ) (n k : ℕ) : Type 0 where

@@ -15,13 +15,13 @@ use Rattle.grid.specs.Grid.{size}
 use Rattle.grid.specs.Side.{sized}
 use Rattle.grid.proofs.ListLaws.{and-true, at-mem}
 use Rattle.grid.proofs.ArrayLaws.{array-length, array-take, array-in, array-out}
-use Rattle.grid.proofs.GridLaws.{size-most}
 use Rattle.record.specs.Record.{Puzzle}
 use Rattle.record.specs.Valid.{Valid}
 use Rattle.record.specs.Problem.{arrowCells, endsFrom, problemOf, puzzleOf, gridOf}
 use Rattle.record.specs.declared.Problem.{Problem}
 use Rattle.record.proofs.FreshLaws.{arrows-size, one-length, arrows-length}
 use Rattle.record.proofs.ProblemLaws.{length-ends, problem-puzzle}
+use Rattle.record.proofs.RecordLaws.{valid-size}
 use Rattle.form.specs.Form.{rises, ended, behind}
 use Rattle.board.specs.Form.{wellFormed}
 use Rattle.board.specs.declared.Board.{Board}
@@ -59,9 +59,6 @@ rises-low at (e ∷ es) h zero k = rises-last e es (and-true (ltb at e) (rises e
 rises-low at (e ∷ es) h (suc a) k = rises-low e es (and-true (ltb at e) (rises e es) h .1) a (omega arith)
 
 module _ (p : Puzzle) (v : Valid p) where
-  most : size (p .grid) ≤ 1024
-  most = size-most (p .grid) (v .high .0) (v .high .1)
-
   few-cells : length (arrowCells (p .arrows)) ≤ size (p .grid)
   unfolding arrowCells
   few-cells = arrows-length p v
@@ -78,10 +75,10 @@ module _ (p : Puzzle) (v : Valid p) where
       l = arrowCells (p .arrows)
 
       go : Dec (k < length (arrowCells (p .arrows))) → Dec (k < 1024) → getD (arrayOf 0 (arrowCells (p .arrows))) k 0 < 1024
-      go (yes h) _ = rw (array-in 0 (arrowCells (p .arrows)) 0 k h) (omega (arith, line-below p v (getD (arrowCells (p .arrows)) k 0) (at-mem (arrowCells (p .arrows)) k h), most))
+      go (yes h) _ = rw (array-in 0 (arrowCells (p .arrows)) 0 k h) (omega (arith, line-below p v (getD (arrowCells (p .arrows)) k 0) (at-mem (arrowCells (p .arrows)) k h), valid-size v))
       go (no n) (yes h) = rw (array-out 0 (arrowCells (p .arrows)) 0 k (omega arith) h) (omega arith)
       go (no n) (no m) =
-          rw (List·getD-eq-default (arrayOf 0 (arrowCells (p .arrows))) 0 {n = k} (omega (arith, array-length 0 (arrowCells (p .arrows)) (omega (arith, few-cells, most))))) (omega arith)
+          rw (List·getD-eq-default (arrayOf 0 (arrowCells (p .arrows))) 0 {n = k} (omega (arith, array-length 0 (arrowCells (p .arrows)) (omega (arith, few-cells, valid-size v))))) (omega arith)
 
   -- the ends rise, and are no more than the arrays hold
   ends-formed : (leb (length (p .arrows)) 1024 && rises 0 (endsFrom 0 (p .arrows))) ≡ true
@@ -99,19 +96,19 @@ module _ (p : Puzzle) (v : Valid p) where
       let many = leb-true (length (p .arrows)) 1024 (f .0) in
       record {
         drawn = record {
-          places = record { long = array-length 0 (arrowCells (p .arrows)) (omega (arith, few-cells, most)); cells = place-low };
+          places = record { long = array-length 0 (arrowCells (p .arrows)) (omega (arith, few-cells, valid-size v)); cells = place-low };
           many = many;
           ends-long = omega (arith, array-length 0 (endsFrom 0 (p .arrows)) (omega arith));
-          ends-low = λ a h. rw (end a h) (omega (arith, rises-low 0 (endsFrom 0 (p .arrows)) (f .1) a (omega arith), last-end p v, few-cells, most));
+          ends-low = λ a h. rw (end a h) (omega (arith, rises-low 0 (endsFrom 0 (p .arrows)) (f .1) a (omega arith), last-end p v, few-cells, valid-size v));
           ends-rise = λ a h. rw (end a (omega arith), end (a + 1) h, add-one a) (rises-step 0 (endsFrom 0 (p .arrows)) (f .1) a (omega arith));
           inside = rw lines-are (λ a m i k. arrows-size (v .arrows) a m i k);
           few = rw lines-are (λ a m. omega (arith, one-length (p .arrows) a m, arrows-length p v));
         };
-        within = rw (ends-taken p v, last-end p v) (omega (arith, few-cells, most));
+        within = rw (ends-taken p v, last-end p v) (omega (arith, few-cells, valid-size v));
         cells-are = rw (lines-are, ends-taken p v, last-end p v) (array-take 0 (arrowCells (p .arrows)));
       }
 
--- a well-formed board has a grid of at most 32 by 32
+-- a well-formed board has a grid of at valid-size v 32 by 32
 pub board-sizes : (b : Board) → wellFormed b ≡ true → (b .problem .height ≤ 32) × (b .problem .width ≤ 32)
 unfolding gridOf
 board-sizes b h = whole-is b h .problem .sizes .high

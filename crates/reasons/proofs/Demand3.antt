@@ -11,11 +11,10 @@ use lib.ListN.{length, drop, length-map}
 use lib.Seq.{take-at}
 use borrow.Author.Tests.{le-ltb, lt-ltb}
 use Rattle.grid.proofs.ArrayLaws.{array-take}
-use Rattle.grid.proofs.GridLaws.{size-most}
 use Rattle.record.specs.Record.{Puzzle, ok, refused, readRecord}
 use Rattle.record.specs.Problem.{gridOf, problemOf}
 use Rattle.record.specs.Valid.{Valid}
-use Rattle.record.proofs.RecordLaws.{record-valid}
+use Rattle.record.proofs.RecordLaws.{record-valid, valid-size}
 use Rattle.record.proofs.ProblemLaws.{problem-puzzle}
 use Rattle.grid.specs.Cells.{Literal, word}
 use Rattle.board.specs.Board.{Call, find, refusal, Full, cellsAfter, enough}
@@ -117,7 +116,7 @@ demand-3 s p read cs ds = record {
 
     low : (cs : List Call) (r : List Literal) → findOn p (standing p cs) ≡ some r → (l : Literal) → List·Memᴰ l r → l .0 < 32768
     low cs r e l q =
-        omega (arith, standing-low (calls-standing (p .grid) cs) l (on-machine s p read cs cs .stands r e l q) .0, size-most (p .grid) (v .high .0) (v .high .1))
+        omega (arith, standing-low (calls-standing (p .grid) cs) l (on-machine s p read cs cs .stands r e l q) .0, valid-size v)
 
     reasons : (cs : List Call) (a : List ℕ) → enough (p .grid) ≤ length a → answerOn (boardAfter s cs) a ≡ ok (findOn p (standing p cs))
     reasons cs a h = rw (board cs) (long-answer p v (calls-standing (p .grid) cs) (low cs) a h)

@@ -13,14 +13,13 @@ use lib.Seq.{ext-getD, getD-drop, getD-at}
 use borrow.Author.Tests.{ltb-true, ltb-false, eqb-true}
 use Rattle.grid.specs.Lists.{Distinct}
 use Rattle.grid.proofs.ListLaws.{split, and-true, at-mem}
-use Rattle.grid.proofs.GridLaws.{size-most}
 use Rattle.grid.specs.Grid.{size}
 use Rattle.fields.specs.Fields.{ok, bit, number, filler}
 use Rattle.record.specs.Record.{Puzzle, readRecord, Bytes}
 use Rattle.record.specs.Write.{valueOf, pack, recordBits, writeRecord}
 use Rattle.record.specs.Valid.{Valid, ValidArrows}
 use Rattle.record.specs.Problem.{arrowCells}
-use Rattle.record.proofs.RecordLaws.{record-valid}
+use Rattle.record.proofs.RecordLaws.{record-valid, valid-size}
 use Rattle.record.proofs.FreshLaws.{arrows-fresh, arrows-length, fresh-distinct}
 use Rattle.record.proofs.LineLaws.{valid-arrows}
 use Rattle.record.proofs.PackLaws.{pack-byte, length-pack}
@@ -124,7 +123,7 @@ module _ (s : List ℕ) {p : Puzzle} (e : readRecord s ≡ ok p) where
   record-length =
       let r = record-bits s e in
       let v = record-valid s e in
-      omega (arith, r .4, bytes-needed s (r .0) (r .2) (r .3), size-most (p .grid) (v .high .0) (v .high .1), many, few)
+      omega (arith, r .4, bytes-needed s (r .0) (r .2) (r .3), valid-size v, many, few)
     where
       many : length (p .arrows) ≤ length (arrowCells (p .arrows))
       many = unfold arrowCells in few-arrows (record-valid s e .arrows)

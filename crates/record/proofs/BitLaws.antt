@@ -13,13 +13,12 @@ use borrow.Author.Tests.{ltb-true, leb-true}
 use Rattle.grid.specs.Lists.{member, flatMap, Distinct}
 use Rattle.grid.proofs.ListLaws.{and-true, so-false, member-mem, mem-member}
 use Rattle.grid.specs.Grid.{Grid, size, row, col, up, down, left, right, neighbours}
-use Rattle.grid.proofs.GridLaws.{apart, beside, on-grid}
+use Rattle.grid.proofs.GridLaws.{apart, beside, on-grid, place-below}
 use Rattle.fields.specs.Fields.{ok, refused, unless, bit, number, field, stepFrom, filler}
 use Rattle.record.specs.Record.{Puzzle, cellCodes, stepCells, arrowAt, arrowsAt, readRecord}
 use Rattle.record.specs.Problem.{arrowCells}
 use Rattle.record.specs.Write.{bitsOf, direction, stepBits, arrowBits, recordBits}
 use Rattle.fields.proofs.OutcomeLaws.{bind-ok, unless-ok, ok-eq, bit-lt, field-ok, there-ok, step-ok}
-use Rattle.record.proofs.RecordLaws.{corner}
 use Rattle.record.proofs.WholeLaws.{arrows-count}
 
 module _ (s : List ℕ) where
@@ -143,7 +142,7 @@ module _ (s : List ℕ) (g : Grid) where
           let fx = field-bits s (at + 5) 5 ex in
           let fk = field-bits s (at + 10) 10 ek in
           let room : at + 20 ≤ 8 * length s = omega (arith, fk .1) in
-          let r = steps-bits ((y * g .width + x) ∷ u) (y * g .width + x) (at + 20) k (corner g y x hy hx) room es in
+          let r = steps-bits ((y * g .width + x) ∷ u) (y * g .width + x) (at + 20) k (place-below g hy hx) room es in
           let n : 18 + 2 * suc (length js) ≡ 5 + (5 + (10 + 2 * k)) = omega (arith, r .2) in
           let p : at + 5 + 5 ≡ at + 10 = omega arith in
           let q : at + 10 + 10 ≡ at + 20 = omega arith in

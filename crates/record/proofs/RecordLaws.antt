@@ -1,7 +1,6 @@
 -- What a record that is read says: sizes, codes, and arrows that go from neighbour to neighbour and use no cell twice.
 -- Assumes nothing.
-use Prim.Native.Nat.{ℕ, zero, suc, _+_, _-_, _*_, _<_}
-use native.Mathlib.Nat.{suc-mul, mul-le-mul-right}
+use Prim.Native.Nat.{ℕ, zero, suc, _+_, _*_, _≤_, _<_}
 use native.Mathlib.Omega.{arith}
 use mathlib.Core.Logic.{_⊎_, inl, inr}
 use mathlib.Core.Path.{_≡_, refl, ap}
@@ -13,6 +12,7 @@ use borrow.Author.Tests.{ltb-true}
 use Rattle.grid.proofs.ListLaws.{not-so, mem-member, and-true}
 use Rattle.grid.specs.Lists.{member}
 use Rattle.grid.specs.Grid.{Grid, size}
+use Rattle.grid.proofs.GridLaws.{place-below, size-most}
 use Rattle.record.specs.Valid.{Walk, end, on, Fresh, nil, cons, Arrow, arrow, Arrows, Valid}
 use Rattle.fields.specs.Fields.{ok, unless, field, stepFrom}
 use Rattle.record.specs.Record.{Puzzle, cellCodes, stepCells, arrowAt, arrowsAt, readRecord}
@@ -46,11 +46,6 @@ steps-ok s g used i at (suc k) e =
     let r = steps-ok s g (b .0 ∷ used) (b .0) (at + 2) k (d .1) in
     rw (← ok-eq (d .2)) (on (step-ok g i (a .0) (b .1)) (r .0), cons (not-member (b .0) used (unless-ok _ 4 (c .1))) (r .1))
 
--- a row and a column of the grid
-pub corner : (g : Grid) (y x : ℕ) → y < g .height → x < g .width → y * g .width + x < size g
-unfolding size
-corner g y x hy hx = omega (arith, suc-mul y (g .width), mul-le-mul-right (g .width) hy)
-
 -- an arrow that is read goes from neighbour to neighbour and uses no cell twice
 pub arrow-ok : (s : List ℕ) (g : Grid) (used : List ℕ) (at : ℕ) {a : List ℕ} → arrowAt s g used at ≡ ok a → Arrow g a × Fresh used a
 unfolding arrowAt
@@ -64,7 +59,7 @@ arrow-ok s g used at e =
     let r = steps-ok s g ((a .0 * g .width + b .0) ∷ used) (a .0 * g .width + b .0) (at + 20) (c .0) (h .1) in
     let t = and-true (ltb (a .0) (g .height)) (ltb (b .0) (g .width)) (unless-ok _ 3 (d .1)) in
     rw (← ok-eq (h .2)) (
-      arrow (corner g (a .0) (b .0) (ltb-true (a .0) (g .height) (t .0)) (ltb-true (b .0) (g .width) (t .1))) (r .0),
+      arrow (place-below g (ltb-true (a .0) (g .height) (t .0)) (ltb-true (b .0) (g .width) (t .1))) (r .0),
       cons (not-member (a .0 * g .width + b .0) used (unless-ok _ 4 (f .1))) (r .1),
     )
 
@@ -95,3 +90,7 @@ record-valid s e =
       codes = r .1;
       arrows = arrows-ok s g [] (21 + 2 * size g) (c .0) (f .1);
     })
+
+-- it has at most 1,024 cells
+pub valid-size : {p : Puzzle} → Valid p → size (p .grid) ≤ 1024
+valid-size {p} v = size-most (p .grid) (v .high .0) (v .high .1)

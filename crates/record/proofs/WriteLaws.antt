@@ -1,7 +1,6 @@
 -- A valid puzzle is read back from the record that is written for it.
 -- Assumes nothing.
 use Prim.Native.Nat.{ℕ, _+_, _-_, _*_, _/_, _^_, _≤_, _<_}
-use native.Mathlib.Nat.{mod-lt, div-lt-iff-lt-mul}
 use native.Mathlib.Omega.{arith}
 use mathlib.Core.Logic.{_⊎_, inl, inr}
 use mathlib.Core.Path.{_≡_, refl, sym, ap, _∙_}
@@ -14,13 +13,14 @@ use borrow.Author.Tests.{eqb-true, le-leb, lt-ltb}
 use Rattle.grid.proofs.ListLaws.{so-false, member-mem, split, mem-member}
 use Rattle.grid.specs.Lists.{member, any, flatMap}
 use Rattle.grid.specs.Grid.{Grid, size, row, col, only, up, down, left, right, neighbours}
-use Rattle.grid.proofs.GridLaws.{width-pos, index, size-most}
+use Rattle.grid.proofs.GridLaws.{row-below, col-below, index}
 use Rattle.fields.specs.Fields.{_>>=_, Outcome, ok, unless, field, there, stepFrom, filler}
 use Rattle.record.specs.Record.{Puzzle, cellCodes, stepCells, arrowAt, arrowsAt, readRecord, Bytes}
 use Rattle.record.specs.Valid.{Walk, on, Fresh, Arrow, arrow, Arrows, Valid}
 use Rattle.record.proofs.FreshLaws.{together, arrows-length, one-length}
 use Rattle.record.specs.Write.{bitsOf, valueOf, pack, direction, stepBits, arrowBits, recordBits, writeRecord}
 use Rattle.record.proofs.PackLaws.{Bits, length-pack, pack-number, length-bitsOf, value-bitsOf, value-nil, bits-append, bits-bitsOf, bits-flatMap, pack-bytes}
+use Rattle.record.proofs.RecordLaws.{valid-size}
 
 -- the cell of a list of one
 there-read : (t : Bool) (x j : ℕ) → member j (only t x) ≡ true → there (only t x) ≡ ok j
@@ -75,14 +75,6 @@ direction-read g i j m = one (split (member j (up g i)))
 no-empty : {g : Grid} → Arrow g [] → ⊥
 no-empty h = elim h [ ]
 
-row-size : (g : Grid) (i : ℕ) → i < size g → row g i < g .height
-unfolding row size
-row-size g i h = div-lt-iff-lt-mul {k = g .width} (width-pos g h) .1 h
-
-col-size : (g : Grid) (i : ℕ) → i < size g → col g i < g .width
-unfolding col
-col-size g i h = mod-lt i (width-pos g h)
-
 length-stepBits : (g : Grid) (i : ℕ) (js : List ℕ) → length (stepBits g i js) ≡ 2 * length js
 unfolding stepBits
 length-stepBits g i [] = omega arith
@@ -136,8 +128,8 @@ module _ (m : ℕ) (b : List ℕ) (h : Bits b) (fit : length b ≤ 8 * m) where
           → b ≡ pre ++ (arrowBits g (i ∷ js) ++ post) → length pre ≡ at → arrowAt (pack m b) g used at ≡ ok (i ∷ js)
       unfolding arrowAt arrowBits _>>=_ unless
       arrow-read i at js pre post used hi w (Fresh.cons d f) l e n =
-          let y : row g i < g .height = row-size g i hi in
-          let x : col g i < g .width = col-size g i hi in
+          let y : row g i < g .height = row-below g hi in
+          let x : col g i < g .width = col-below g hi in
           let e1 : b ≡ pre ++ (bitsOf (row g i) 5 ++ (bitsOf (col g i) 5 ++ (bitsOf (length js) 10 ++ (stepBits g i js ++ post)))) = e ∙ simp append-assoc in
           let e2 : b ≡ (pre ++ bitsOf (row g i) 5) ++ (bitsOf (col g i) 5 ++ (bitsOf (length js) 10 ++ (stepBits g i js ++ post))) = e1 ∙ simp append-assoc in
           let e3 : b ≡ (pre ++ (bitsOf (row g i) 5 ++ bitsOf (col g i) 5)) ++ (bitsOf (length js) 10 ++ (stepBits g i js ++ post)) = e1 ∙ simp append-assoc in
@@ -217,7 +209,7 @@ module _ (p : Puzzle) (v : Valid p) (m : ℕ) (b : List ℕ) (h : Bits b) (fit :
       let l1 : length B1 ≡ 5 = length-bitsOf (p .grid .height - 1) 5 in
       let l2 : length B2 ≡ 5 = length-bitsOf (p .grid .width - 1) 5 in
       let l3 : length B3 ≡ 11 = length-bitsOf (length (p .arrows)) 11 in
-      let most : size (p .grid) ≤ 1024 = size-most (p .grid) (v .high .0) (v .high .1) in
+      let most : size (p .grid) ≤ 1024 = valid-size v in
       let few : length (p .arrows) < 2 ^ 11 = omega (arith, few-arrows (v .arrows), arrows-length p v) in
       let H : p .grid .height - 1 + 1 ≡ p .grid .height = omega (arith, v .low .0) in
       let W : p .grid .width - 1 + 1 ≡ p .grid .width = omega (arith, v .low .1) in

@@ -5,16 +5,15 @@ use native.Mathlib.Omega.{arith}
 use native.Mathlib.Nat.{mod-lt, div-lt-iff-lt-mul}
 use native.Mathlib.Numerals.{add-one}
 use mathlib.Core.Path.{_≡_, refl, sym, _∙_}
-use mathlib.Core.Bool.{Bool, true, false, cond, _&&_, false≢true}
+use mathlib.Core.Bool.{Bool, true, false, cond, false≢true}
 use mathlib.Core.List.{List, [], _∷_, _++_, map, map-append, append-nil, append-assoc, List·Memᴰ}
 use lib.Arith.{digits-lt}
-use lib.Dec.{eqb}
 use lib.IntN.{ℤ}
 use lib.ListN.{length, getD, set, drop, length-append, length-map, length-drop}
 use lib.Seq.{drop-cons, set-at, take-at, getD-take}
 use Rattle.grid.specs.Lists.{all, upto, range, member}
 use Rattle.grid.specs.Grid.{Grid, size, row, col, cellsOf}
-use Rattle.grid.specs.Side.{sized, movedOf, placed, shiftedOf, landing}
+use Rattle.grid.specs.Side.{sized, movedOf, sideAt, shiftedOf, landing}
 use Rattle.grid.specs.declared.Step.{Step}
 use Rattle.grid.specs.declared.Step.the-variants.{To, Outside}
 use Rattle.grid.specs.declared.Side.{Side}
@@ -26,6 +25,7 @@ use Rattle.grid.proofs.ShiftLaws.{landing-at, landing-any, sideIn}
 use Rattle.grid.proofs.AppendLaws.{same-test}
 use Rattle.groups.specs.Rules.{fits}
 use Rattle.kinds.specs.Kinds.{View, inReach, reach}
+use Rattle.kinds.specs.Inside.{ofBlock}
 use Rattle.shift.specs.Shift.{blockIn, Gathered, BlockPlaces, Places, landsIn, allLand, fitsAt}
 
 -- ---- the cells of a block in two arrays
@@ -44,13 +44,9 @@ count-if b i k e true = simp length-append (omega arith)
 count-if b i k e false = rw (append-nil b) e
 
 module _ (kinds owners : List ℕ) (f : ℕ) where
-  -- cell i is in the block
-  abbrev pub inIt : ℕ → Bool
-  inIt i = eqb (getD kinds i 0) 1 && eqb (getD owners i 0) f
-
   pub in-few : (n : ℕ) → length (blockIn kinds owners n f) ≤ n
   unfolding blockIn upto
-  in-few n = omega (arith, filter-length inIt (range 0 n), length-range 0 n)
+  in-few n = omega (arith, filter-length (ofBlock kinds owners f) (range 0 n), length-range 0 n)
 
 module _ (w : ℕ) (b : List ℕ) where
   -- one more cell is looked at
@@ -159,10 +155,10 @@ module _ (v : View) (e : ℕ) where
 
 -- a shift leads to a cell of the grid
 pub shifted-inside : (h w y x : ℕ) (dy dx : ℤ) (d : ℕ) → shiftedOf h w y x dy dx ≡ At d → d < h * w
-unfolding shiftedOf placed
+unfolding shiftedOf sideAt
 shifted-inside h w y x dy dx d e = go (movedOf y dy h) (movedOf x dx w) refl refl e
   where
-    go : (s t : Step) → movedOf y dy h ≡ s → movedOf x dx w ≡ t → placed w s t ≡ At d → d < h * w
+    go : (s t : Step) → movedOf y dy h ≡ s → movedOf x dx w ≡ t → sideAt w s t ≡ At d → d < h * w
     go (To r) (To c) p q z =
         let k : d ≡ r * w + c = cc in
         rw k (digits-lt (moved-to y dy h r p .0) (moved-to x dx w c q .0))
@@ -175,4 +171,4 @@ pub gathered-inside : (h w : ℕ) (kinds owners : List ℕ) (f : ℕ) {r c r′ 
 unfolding blockIn
 gathered-inside h w kinds owners f p q s =
     block-places h w p q (omega (arith, s .many, in-few kinds owners f (h * w), area h w p q))
-    (λ i m. upto-mem (h * w) (filter-mem (inIt kinds owners f) (upto (h * w)) m .0)) (gathered-places s)
+    (λ i m. upto-mem (h * w) (filter-mem (ofBlock kinds owners f) (upto (h * w)) m .0)) (gathered-places s)

@@ -1,13 +1,13 @@
 -- The shift test of reason 3 on arrays: a block's cells by their rows and columns, a reach by a test of a cell.
 -- Assumes nothing.
-use Prim.Native.Nat.{ℕ, _+_, _/_, _%_, _≤_, _<_}
+use Prim.Native.Nat.{ℕ, _/_, _%_, _≤_, _<_}
 use mathlib.Core.Path.{_≡_}
-use mathlib.Core.Bool.{Bool, false, _&&_}
+use mathlib.Core.Bool.{Bool, false}
 use mathlib.Core.List.{List, _++_, map}
-use lib.Dec.{eqb}
 use lib.IntN.{ℤ, pos, _-ℤ_}
 use lib.ListN.{length, getD, take, drop}
 use Rattle.grid.specs.Lists.{upto, all, filter}
+use Rattle.kinds.specs.Inside.{ofBlock}
 use Rattle.grid.specs.Side.{shiftedOf}
 use Rattle.grid.specs.declared.Side.{Side}
 use Rattle.grid.specs.declared.Side.the-variants.{At, Off}
@@ -15,7 +15,7 @@ use Rattle.reach.specs.Chains.{Chains}
 
 -- the cells of the arrow block named f among the first n, by their kinds and owners
 unfoldable pub blockIn : List ℕ → List ℕ → ℕ → ℕ → List ℕ
-blockIn kinds owners n f = filter (λ i. eqb (getD kinds i 0) 1 && eqb (getD owners i 0) f) (upto n)
+blockIn kinds owners n f = filter (ofBlock kinds owners f) (upto n)
 
 -- `head` and `next` link the cells of the owners of some grid
 pub record Chained (head next : List ℕ) : Type 0 where

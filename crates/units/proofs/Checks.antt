@@ -1,10 +1,8 @@
 -- What was found for reason 1, as the answer and the buffer tell it.
 -- Assumes nothing.
-use Prim.Native.Nat.{ℕ, _*_}
-use mathlib.Core.Path.{_≡_, refl}
+use Prim.Native.Nat.{ℕ}
+use mathlib.Core.Path.{_≡_}
 use mathlib.Core.List.{List}
-use Rattle.grid.specs.Grid.{size}
-use Rattle.grid.specs.Side.{sized}
 use Rattle.grid.specs.Cells.{Literal}
 use Rattle.units.specs.declared.Name.{Name}
 use Rattle.units.specs.declared.Name.the-variants.{At, Nobody}
@@ -13,11 +11,6 @@ use Rattle.literals.specs.Literals.{Found}
 use Rattle.literals.specs.Buffer.{Wrote, FoundAs}
 use Rattle.units.specs.Arrays.{foundAt}
 use Rattle.literals.proofs.Findings.{found-none, wrote-found}
-
--- the cells of a grid
-pub sized-size : (h w : ℕ) → h * w ≡ size (sized h w)
-unfolding size
-sized-size h w = refl
 
 -- a group that was named gives its reason, and nobody gives none
 pub named-found : {f : Found} (r : ℕ → List Literal) {name : Name} {i k : ℕ} {a b : List ℕ} → f ≡ foundAt r name → name ≡ At i → Wrote (r i) a b k → FoundAs f a b (Reason k)

@@ -15,7 +15,7 @@ use Rattle.grid.specs.Lists.{range, upto, any}
 use Rattle.grid.specs.Marks.{Marks}
 use Rattle.grid.specs.Grid.{Grid, size, cellsOf}
 use Rattle.grid.specs.Side.{sized}
-use Rattle.grid.proofs.SideLaws.{area}
+use Rattle.grid.proofs.SideLaws.{area, sized-size}
 use Rattle.grid.proofs.MarkLaws.{mark-on}
 use Rattle.grid.proofs.ListLaws.{so-false, and-true, true-and, not-so, any-mem, mem-any, filter-mem, upto-mem, mem-upto}
 use Rattle.record.specs.Record.{Puzzle}
@@ -32,7 +32,6 @@ use Rattle.literals.specs.Buffer.{FoundAs}
 use Rattle.literals.specs.declared.Finding.the-variants.{Nothing}
 use Rattle.groups.proofs.LabelLaws.{label-test}
 use Rattle.literals.proofs.Findings.{found-none}
-use Rattle.units.proofs.Checks.{sized-size}
 
 -- ---- a square of a group that is not marked
 

@@ -13,7 +13,7 @@ use lib.Seq.{length-take-le, getD-take}
 use Rattle.grid.specs.Lists.{all, last}
 use Rattle.grid.specs.Grid.{Grid, size}
 use Rattle.record.specs.Problem.{arrowsFrom}
-use Rattle.form.specs.Form.{rises, path}
+use Rattle.form.specs.Form.{rises, isPath}
 use Rattle.form.specs.Inside.{Suits, Below}
 use Rattle.form.proofs.ProblemForm.{rises-last}
 use Rattle.form.proofs.Passes.{last-on}
@@ -25,7 +25,7 @@ use Rattle.form.proofs.all_follow.Tie as tie
 record Amid (line l starts : List ℕ) (w : ℕ) (good : Bool) (at k : ℕ) : Type 0 where
   rise : rises at (drop k l) ≡ true
   top : last 0 l ≡ last at (drop k l)
-  same : (g : Grid) → Suits g w starts → Below (last 0 l) (size g) line → all (path g) (arrowsFrom line 0 l) ≡ (good && all (path g) (arrowsFrom line at (drop k l)))
+  same : (g : Grid) → Suits g w starts → Below (last 0 l) (size g) line → all (isPath g) (arrowsFrom line 0 l) ≡ (good && all (isPath g) (arrowsFrom line at (drop k l)))
 
 abbrev Inv-loop : tie.InvT-loop
 Inv-loop arrows ends starts w count good₀ at₀ k₀ good at k = Amid arrows (take count ends) starts w good at k
@@ -97,7 +97,7 @@ loop-again c =
       rise = rw e at (n .rest);
       top = rw e at (n .top);
       same = λ g u b.
-          let r : c .before .follows .result ≡ path g (take (getD (cuts s) (t .k) 0 - t .at) (drop (t .at) line)) =
+          let r : c .before .follows .result ≡ isPath g (take (getD (cuts s) (t .k) 0 - t .at) (drop (t .at) line)) =
           rw (← e) at (c .before .follows .ensures g u (λ i h. b i (omega (arith, e, n .below, h)))) in
           ⊎-elim
           (λ w. rw (w .1) (arrows-fail g line (cuts s) (t .good) (t .at) (t .k) (n .lt) (t .inv .same g u b) (sym (not-true (c .before .follows .result) (w .0 .taken)) ∙ r)))

@@ -11,7 +11,7 @@ use borrow.Author.Tests.{not-true, not-false}
 use lib.ListN.{length, getD, take, drop}
 use Rattle.grid.specs.Lists.{member}
 use Rattle.grid.specs.Grid.{Grid, size, neighbours}
-use Rattle.form.specs.Form.{walks, path}
+use Rattle.form.specs.Form.{walks, isPath}
 use Rattle.form.specs.Inside.{Suits, Below}
 use Rattle.form.proofs.Steps.{walk-start, walk-on, walk-fail, walk-end}
 use Rattle.form.proofs.follows.Statement.{statement}
@@ -22,7 +22,7 @@ record Amid (line starts : List ℕ) (w at end : ℕ) (good : Bool) (i k : ℕ) 
   prev : ℕ
   within : prev < end
   is : i ≡ getD line prev 0
-  same : (g : Grid) → Suits g w starts → Below end (size g) line → path g (take (end - at) (drop at line)) ≡ (good && walks g i (take (end - k) (drop k line)))
+  same : (g : Grid) → Suits g w starts → Below end (size g) line → isPath g (take (end - at) (drop at line)) ≡ (good && walks g i (take (end - k) (drop k line)))
 
 abbrev Inv-loop : tie.InvT-loop
 Inv-loop line starts w at end good₀ i₀ k₀ good i k = Amid line starts w at end good i k

@@ -11,7 +11,7 @@ use borrow.Author.Tests.{not-true, not-false}
 use Rattle.grid.specs.Lists.{all}
 use Rattle.grid.specs.Grid.{Grid, size}
 use Rattle.record.specs.Problem.{arrowsFrom}
-use Rattle.form.specs.Form.{fresh, path}
+use Rattle.form.specs.Form.{fresh, isPath}
 use Rattle.form.specs.Inside.{Below}
 use Rattle.form.proofs.Verdicts.{blank-zeros, fresh-below, drawn-far, drawn-twice, drawn-broken, drawn-is}
 use Rattle.form.proofs.good_arrows.Statement.{statement}
@@ -35,7 +35,7 @@ on-grid c =
     fresh-below (s .args .n) (s .args .total) (s .args .arrows .now) (omega arith) (passed c)
 
 -- what `all_follow` says of the grid
-followed : (c : tie.After-all-follow) (g : Grid) → g .width ≡ start c .args .w → size g ≡ start c .args .n → c .all-follow .result ≡ all (path g) (arrowsFrom (start c .args .arrows .now) 0 (cuts (start c)))
+followed : (c : tie.After-all-follow) (g : Grid) → g .width ≡ start c .args .w → size g ≡ start c .args .n → c .all-follow .result ≡ all (isPath g) (arrowsFrom (start c .args .arrows .now) 0 (cuts (start c)))
 followed c g ew en =
     let e = c .before .before .before .before in
     let s = start c in

@@ -1,12 +1,9 @@
 -- `growth::reason_for_arrow_block` meets its contract: the cells of the block that were passed are written.
 -- Assumes nothing.
 use mathlib.Core.Path.{_≡_, subst, _∙_}
-use mathlib.Core.Bool.{Bool, _&&_}
 use mathlib.Core.List.{List}
-use Prim.Native.Nat.{ℕ, _-_, _≤_, _<_}
+use Prim.Native.Nat.{ℕ, _-_, _≤_}
 use native.Mathlib.Omega.{arith}
-use lib.Dec.{eqb}
-use lib.ListN.{getD}
 use borrow.Author.Needs.{needs}
 use Rattle.grid.specs.Lists.{filter, upto}
 use Rattle.literals.specs.Literals.{each}
@@ -14,17 +11,14 @@ use Rattle.literals.specs.Buffer.{Wrote}
 use Rattle.literals.proofs.BufferLaws.{wrote-length}
 use Rattle.literals.proofs.Pass.{cells-none, cells-count, cells-more}
 use Rattle.kinds.proofs.BlockArrays.{block-by}
+use Rattle.kinds.specs.Inside.{ofBlock}
 use Rattle.growth.proofs.reason_for_arrow_block.Statement.{statement}
 use Rattle.growth.proofs.reason_for_arrow_block.Tie as tie
-
--- cell i is in the block
-abbrev test : List ℕ → List ℕ → ℕ → ℕ → Bool
-test kinds owners f i = eqb (getD kinds i 0) 1 && eqb (getD owners i 0) f
 
 -- the cells of the block below i are written
 record Amid (kinds owners : List ℕ) (n f : ℕ) (before after : List ℕ) (count i : ℕ) : Type 0 where
   high : i ≤ n
-  wrote : Wrote (each 1 (filter (test kinds owners f) (upto i))) before after count
+  wrote : Wrote (each 1 (filter (ofBlock kinds owners f) (upto i))) before after count
 
 abbrev Inv-loop : tie.InvT-loop
 Inv-loop kinds owners n f buffer₀ count₀ i₀ buffer count i = Amid kinds owners n f buffer₀ buffer count i
@@ -35,7 +29,7 @@ abbrev μ-loop : tie.MeasureT-loop
 loop-holds : tie.Need-loop-holds Inv-loop μ-loop
 loop-holds c =
     let a = c .before .args in
-    record { high = omega arith; wrote = cells-none (test (a .kinds .now) (a .owners .now) (a .f)) 1 (a .buffer .now) }
+    record { high = omega arith; wrote = cells-none (ofBlock (a .kinds .now) (a .owners .now) (a .f)) 1 (a .buffer .now) }
 
 in-block-requires : tie.Need-in-block-requires Inv-loop μ-loop
 in-block-requires c κs = omega (arith, c .before .loop-test .taken, c .before .before .before .before .pre .0)
@@ -44,7 +38,7 @@ push-requires : tie.Need-push-requires Inv-loop μ-loop
 push-requires c κs =
     let a = c .before .before .before .before .before in
     let s = c .before .before .before .loop in
-    let few = cells-count (test (a .args .kinds .now) (a .args .owners .now) (a .args .f)) 1 (s .i) (s .inv .wrote) in
+    let few = cells-count (ofBlock (a .args .kinds .now) (a .args .owners .now) (a .args .f)) 1 (s .i) (s .inv .wrote) in
     let i< = c .before .before .loop-test .taken in
     let long = wrote-length (s .inv .wrote) (omega (arith, few, i<, a .pre .1)) in
     (omega (arith, few, long, i<, a .pre .1), omega (arith, i<, a .pre .0), omega arith)
@@ -60,7 +54,7 @@ loop-again c =
     let a = c .before .before .before .before .before .before .before .before in
     let s = c .before .before .before .before .before .before .loop in
     let i< = c .before .before .before .before .before .loop-test .taken in
-    let p = test (a .args .kinds .now) (a .args .owners .now) (a .args .f) in
+    let p = ofBlock (a .args .kinds .now) (a .args .owners .now) (a .args .f) in
     record {
       high = omega (arith, i<);
       wrote = cells-more p 1 (s .i) (s .inv .wrote) (omega (arith, cells-count p 1 (s .i) (s .inv .wrote), i<, a .pre .1)) (c .before .before .before .in-block .ensures) (c .before .before .push .ensures .0) (c .before .before .push .ensures .1);
@@ -70,7 +64,7 @@ same-length : tie.Need-same-length Inv-loop μ-loop
 same-length c =
     let a = c .before .before .before in
     let s = c .before .loop in
-    wrote-length (s .inv .wrote) (omega (arith, cells-count (test (a .args .kinds .now) (a .args .owners .now) (a .args .f)) 1 (s .i) (s .inv .wrote), a .pre .1, s .inv .high))
+    wrote-length (s .inv .wrote) (omega (arith, cells-count (ofBlock (a .args .kinds .now) (a .args .owners .now) (a .args .f)) 1 (s .i) (s .inv .wrote), a .pre .1, s .inv .high))
 
 returns : tie.Need-returns Inv-loop μ-loop
 returns c =

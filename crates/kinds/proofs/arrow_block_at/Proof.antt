@@ -1,7 +1,7 @@
 -- `kinds::arrow_block_at` meets its contract: the name of a cell's arrow block, by its block's name and mark.
 -- Assumes nothing.
 use borrow.Author.Tests.{le-ltb, lt-ltb, eq-eqb, ne-eqb}
-use Rattle.kinds.specs.Inside.{arrowAt}
+use Rattle.kinds.specs.Inside.{arrowBlockAt}
 use borrow.Author.Needs.{needs}
 use Rattle.kinds.proofs.arrow_block_at.Statement.{statement}
 use Rattle.kinds.proofs.arrow_block_at.Tie as tie
@@ -13,7 +13,7 @@ element-copy-out-f : tie.Need-element-copy-out-f
 element-copy-out-f c = search needs
 
 returns : tie.Need-returns
-unfolding arrowAt
+unfolding arrowBlockAt
 returns c = rw (le-ltb _ 1024 (c .if1 .taken))
 
 cast-if2 : tie.Need-cast-if2
@@ -23,11 +23,11 @@ element-copy-out-if2 : tie.Need-element-copy-out-if2
 element-copy-out-if2 c = search needs
 
 returns-2 : tie.Need-returns-2
-unfolding arrowAt
+unfolding arrowBlockAt
 returns-2 c = rw (lt-ltb _ 1024 (c .before .before .if1 .left), eq-eqb _ 1 (c .if2 .taken))
 
 returns-3 : tie.Need-returns-3
-unfolding arrowAt
+unfolding arrowBlockAt
 returns-3 c = rw (lt-ltb _ 1024 (c .before .before .if1 .left), ne-eqb _ 1 (c .if2 .left))
 
 pub arrow-block-at-spec : {M : Type 1} → statement M

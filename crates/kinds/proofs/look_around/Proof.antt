@@ -8,14 +8,14 @@ use native.Mathlib.Omega.{arith}
 use Rattle.grid.specs.Side.{sized}
 use Rattle.grid.proofs.SideLaws.{in-place, cell-small, some-wide}
 use Rattle.grid.proofs.AroundLaws.{gathered, side-cell, side-at, side-off, sides-none, sides-all}
-use Rattle.kinds.specs.Inside.{Owned, arrowsAt}
+use Rattle.kinds.specs.Inside.{Owned, arrowBlocksAt}
 use Rattle.kinds.specs.declared.Owner.the-variants.{Nobody}
 use Rattle.kinds.proofs.Owners.{owned-none}
 use Rattle.kinds.proofs.look_around.Statement.{statement}
 use Rattle.kinds.proofs.look_around.Tie as tie
 
 abbrev Inv-loop : tie.InvT-loop
-Inv-loop blocks arrowed h w i y x owner₀ k₀ owner k = (k ≤ 4) × Owned (arrowsAt blocks arrowed (gathered (sized h w) i k)) owner
+Inv-loop blocks arrowed h w i y x owner₀ k₀ owner k = (k ≤ 4) × Owned (arrowBlocksAt blocks arrowed (gathered (sized h w) i k)) owner
 
 abbrev μ-loop : tie.MeasureT-loop
 μ-loop blocks arrowed h w i y x owner₀ k₀ owner k = 4 - k
@@ -29,7 +29,7 @@ rem-x c = some-wide (c .pre)
 loop-holds : tie.Need-loop-holds Inv-loop μ-loop
 loop-holds c =
     let a = c .args in
-    (omega arith, sides-none (λ (l : List ℕ). Owned (arrowsAt (a .blocks .now) (a .arrowed .now) l) Nobody) _ _ (owned-none _ _))
+    (omega arith, sides-none (λ (l : List ℕ). Owned (arrowBlocksAt (a .blocks .now) (a .arrowed .now) l) Nobody) _ _ (owned-none _ _))
 
 toward-requires : tie.Need-toward-requires Inv-loop μ-loop
 toward-requires c κs = (in-place (c .before .before .pre), c .loop-test .taken)
@@ -59,9 +59,9 @@ loop-again c =
     let a = s .args in (
       omega (arith, c .before .before .loop-test .taken),
       ⊎-elim
-          (λ v. side-at (s .pre) (l .k) (t .toward .result) (t .toward .ensures) (λ (m : List ℕ). Owned (arrowsAt (a .blocks .now) (a .arrowed .now) m) (c .match .owner)) _ (v .1 .given .1)
+          (λ v. side-at (s .pre) (l .k) (t .toward .result) (t .toward .ensures) (λ (m : List ℕ). Owned (arrowBlocksAt (a .blocks .now) (a .arrowed .now) m) (c .match .owner)) _ (v .1 .given .1)
           (rw (v .4) (v .3 .ensures _ (l .inv .1))))
-          (λ v. side-off (s .pre) (l .k) (t .toward .result) (t .toward .ensures) (λ (m : List ℕ). Owned (arrowsAt (a .blocks .now) (a .arrowed .now) m) (c .match .owner)) (v .1 .given .1)
+          (λ v. side-off (s .pre) (l .k) (t .toward .result) (t .toward .ensures) (λ (m : List ℕ). Owned (arrowBlocksAt (a .blocks .now) (a .arrowed .now) m) (c .match .owner)) (v .1 .given .1)
           (rw (v .2) (l .inv .1)))
           (c .match .came),
     )
@@ -69,7 +69,7 @@ loop-again c =
 returns : tie.Need-returns Inv-loop μ-loop
 returns c =
     let a = c .before .before .args in
-    sides-all (λ (m : List ℕ). Owned (arrowsAt (a .blocks .now) (a .arrowed .now) m) (c .before .loop .owner)) (sized (a .h) (a .w)) (a .i) (c .before .loop .k)
+    sides-all (λ (m : List ℕ). Owned (arrowBlocksAt (a .blocks .now) (a .arrowed .now) m) (c .before .loop .owner)) (sized (a .h) (a .w)) (a .i) (c .before .loop .k)
     (c .before .loop .inv .0) (c .loop-test .left) (c .before .loop .inv .1)
 
 pub look-around-spec : {M : Type 1} → statement M

@@ -7,9 +7,8 @@ use lib.ListN.{take}
 use borrow.Author.Needs.{needs}
 use borrow.Author.Tests.{not-true}
 use Rattle.grid.specs.Side.{sized}
-use Rattle.grid.proofs.SideLaws.{area}
+use Rattle.grid.proofs.SideLaws.{area, sized-size}
 use Rattle.kinds.specs.Inside.{puzzleWith}
-use Rattle.units.proofs.Checks.{sized-size}
 use Rattle.paths.proofs.Found.{crossing-ends, crossing-found, crossing-none}
 use Rattle.paths.proofs.Quick.{quiet-2, arrowed-given}
 use Rattle.paths.proofs.check_blocks.Statement.{statement}

@@ -7,10 +7,10 @@ use lib.ListN.{take}
 use borrow.Author.Needs.{needs}
 use borrow.Author.Tests.{not-true}
 use Rattle.grid.specs.Side.{sized}
-use Rattle.grid.proofs.SideLaws.{area}
+use Rattle.grid.proofs.SideLaws.{area, sized-size}
 use Rattle.kinds.specs.Inside.{puzzleWith}
 use Rattle.units.specs.Arrays.{boundaryOf}
-use Rattle.units.proofs.Checks.{named-found, nobody-found, sized-size}
+use Rattle.units.proofs.Checks.{named-found, nobody-found}
 use Rattle.units.proofs.Quick.{quiet-1}
 use Rattle.units.proofs.check_potential_groups.Statement.{statement}
 use Rattle.units.proofs.check_potential_groups.Tie as tie
