@@ -2,13 +2,19 @@
 use board::Board;
 use board::Decided;
 use record::Problem;
+ghost use mathlib.Core.Bool.{true, false};
 ghost use mathlib.Core.Path.{_≡_};
 ghost use Rattle.board.specs.Decide.{decideOf, undoOf};
 
-// Whether two arrays differ.
-fn words_differ(a: &[u16; 1024], b: &[u16; 1024]) -> bool {
+// Whether two lists of numbers differ.
+fn words_differ(a: &[u16], b: &[u16]) -> bool
+    ensures { λ r. ⌜ (r ≡ false → now (a .entry) ≡ now (b .entry)) × (r ≡ true → now (a .entry) ≡ now (b .entry) → ⊥) ⌝ }
+{
+    if a.len() != b.len() {
+        return true;
+    }
     let mut i = 0;
-    while i < 1024 {
+    while i < a.len() {
         if a[i] != b[i] {
             return true;
         }
@@ -17,7 +23,10 @@ fn words_differ(a: &[u16; 1024], b: &[u16; 1024]) -> bool {
     false
 }
 
-fn problems_differ(p: Problem, q: Problem) -> bool {
+// Whether two puzzles differ in some field.
+fn problems_differ(p: Problem, q: Problem) -> bool
+    ensures { λ r. ⌜ (r ≡ false → p ≡ q) × (r ≡ true → p ≡ q → ⊥) ⌝ }
+{
     if p.height != q.height || p.width != q.width || p.count != q.count {
         return true;
     }
@@ -36,7 +45,10 @@ fn problems_differ(p: Problem, q: Problem) -> bool {
     words_differ(&a, &b)
 }
 
-pub fn boards_differ(x: Board, y: Board) -> bool {
+// Whether two boards differ in some field.
+pub fn boards_differ(x: Board, y: Board) -> bool
+    ensures { λ r. ⌜ (r ≡ false → x ≡ y) × (r ≡ true → x ≡ y → ⊥) ⌝ }
+{
     let p = x.problem;
     let q = y.problem;
     if problems_differ(p, q) || x.decided != y.decided {

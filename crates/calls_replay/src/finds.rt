@@ -2,11 +2,17 @@
 // by a refused one.
 use board::Board;
 use literals::Finding;
+ghost use mathlib.Core.Bool.{true, false};
+ghost use mathlib.Core.Path.{_≡_};
 ghost use Prim.Native.Nat.{_≤_};
 ghost use lib.ListN.{length};
+ghost use Rattle.replay.specs.Lists.{numberIn};
+ghost use Rattle.calls_replay.specs.Finds.{findingOf, FindsSo};
 
 // Whether an answer is not this refusal, or, where that is 0, not the one for this many literals, 0 for no reason.
-fn finding_differs(found: Finding, refusal: usize, count: usize) -> bool {
+fn finding_differs(found: Finding, refusal: usize, count: usize) -> bool
+    ensures { λ r. ⌜ (r ≡ false → found ≡ findingOf refusal count) × (r ≡ true → found ≡ findingOf refusal count → ⊥) ⌝ }
+{
     match found {
         Finding::Nothing => refusal != 0 || count != 0,
         Finding::Reason(n) => refusal != 0 || n == 0 || n != count,
@@ -24,6 +30,8 @@ pub fn find_differs(
     refusal: usize,
 ) -> bool
     requires { ⌜ (at ≤ length (now list)) × (size ≤ 4096) ⌝ }
+    ensures { λ r. ⌜ (r ≡ false → FindsSo board size refusal count (numberIn (now (list .entry)) at count 65535))
+        × (r ≡ true → FindsSo board size refusal count (numberIn (now (list .entry)) at count 65535) → ⊥) ⌝ }
 {
     let mut buffer = replay::fresh_buffer();
     let found = reasons::find(board, &mut buffer[..size]);

@@ -1,9 +1,14 @@
--- `calls_replay::finds::find_differs` is safe: the lent part is as long as is said.
+-- `calls_replay::finds::find_differs` holds the answer and then the whole buffer against what the list says.
 -- Assumes nothing.
 use borrow.Author.Needs.{needs}
-use mathlib.Core.Path.{sym}
+use Prim.Native.Nat.{ℕ}
+use mathlib.Core.Path.{sym, ap, _∙_}
+use mathlib.Core.List.{List, _++_}
 use native.Mathlib.Omega.{arith}
+use lib.ListN.{drop}
 use lib.Seq.{length-take-le}
+use Rattle.replay.specs.Lists.{numberIn, differs}
+use Rattle.calls_replay.proofs.FindLaws.{other-answer, this-answer}
 use Rattle.calls_replay.proofs.finds.find_differs.Statement.{statement}
 use Rattle.calls_replay.proofs.finds.find_differs.Tie as tie
 
@@ -27,10 +32,23 @@ literals-differ-requires : tie.Need-literals-differ-requires
 literals-differ-requires c κs = search needs
 
 returns : tie.Need-returns
-returns c = search needs
+returns c =
+    let d = c .before .finding-differs in
+    let f = c .before .before .before .find in
+    let n = c .before .before .before .before .before .fresh-buffer in
+    let a = c .before .before .before .before .before .before .before .args in
+    other-answer (a .board) (a .size) (a .refusal) (a .count) (numberIn (a .list .now) (a .at) (a .count) 65535)
+    (n .result) (n .ensures) (f .result) (f .ensures .0) (d .result) (d .ensures) (c .if1 .taken)
 
 returns-2 : tie.Need-returns-2
-returns-2 c = search needs
+returns-2 c =
+    let d = c .before .before .before .finding-differs in
+    let f = c .before .before .before .before .before .find in
+    let n = c .before .before .before .before .before .before .before .fresh-buffer in
+    let a = c .before .before .before .before .before .before .before .before .before .args in
+    let said = numberIn (a .list .now) (a .at) (a .count) 65535 in
+    this-answer (a .board) (a .size) (a .refusal) (a .count) said (n .result) (n .ensures) (f .result) (f .ensures .0) (d .result) (d .ensures) (c .before .before .if1 .left) (c .literals-differ .result)
+    (c .literals-differ .ensures ∙ ap (λ (l : List ℕ). differs (l ++ drop (a .size) (n .result)) said 0) (f .ensures .1))
 
 pub find-differs-spec : {M : Type 1} → statement M
 find-differs-spec =

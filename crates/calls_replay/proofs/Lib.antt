@@ -1,0 +1,3 @@
+mod ArrayLaws
+mod BoardLaws
+mod FindLaws

@@ -1,0 +1,88 @@
+-- `calls_replay::boards::boards_differ` compares each field.
+-- Assumes nothing.
+use borrow.Author.Needs.{needs}
+use mathlib.Core.Path.{_≡_, sym, ap}
+use mathlib.Core.Logic.{⊎-elim}
+use lib.ListN.{length}
+use borrow.Author.Tests.{eqb-true, eqb-false, not-true, not-false}
+use Rattle.board.specs.declared.Board.{Board}
+use Rattle.calls_replay.proofs.ArrayLaws.{Told, told-apart, cells-told}
+use Rattle.calls_replay.proofs.BoardLaws.{board-same}
+use Rattle.calls_replay.proofs.boards.boards_differ.Statement.{statement}
+use Rattle.calls_replay.proofs.boards.boards_differ.Tie as tie
+
+-- the start of the code, where the puzzles and the counts were found equal
+abbrev start : tie.Else2 → tie.Start
+start c = c .before .before .before .before .before .before .before
+
+-- the place where the puzzles and the counts were found equal, after the comparison of the cells
+abbrev counts : tie.After-cells-differ → tie.Else2
+counts c = c .before .before .before .before .before
+
+long-cells : (c : tie.Start) → (length (c .args .x .cells) ≡ 1024) × (length (c .args .y .cells) ≡ 1024)
+long-cells c = (search needs, search needs)
+
+long-order : (c : tie.Start) → (length (c .args .x .order) ≡ 1024) × (length (c .args .y .order) ≡ 1024)
+long-order c = (search needs, search needs)
+
+told-cells : (c : tie.After-cells-differ) → Told (c .cells-differ .result) (start (counts c) .args .x .cells) (start (counts c) .args .y .cells)
+told-cells c =
+    let s = start (counts c) in
+    cells-told (s .args .x .cells) (s .args .y .cells) (long-cells s .0) (long-cells s .1) (c .cells-differ .result) (c .cells-differ .ensures)
+
+problems-differ-requires : tie.Need-problems-differ-requires
+problems-differ-requires c κs = search needs
+
+returns : tie.Need-returns
+returns c = told-apart (λ e.
+    ⊎-elim
+    (λ w. c .before .problems-differ .ensures .1 (w .taken) (ap (λ (b : Board). b .problem) e))
+    (λ w. eqb-false _ _ (not-true _ (w .3 .taken)) (ap (λ (b : Board). b .decided) e))
+    (c .if1 .came))
+
+slice-aggregate-cells-differ : tie.Need-slice-aggregate-cells-differ
+slice-aggregate-cells-differ c = search needs
+
+cells-differ-requires : tie.Need-cells-differ-requires
+cells-differ-requires c κs = search needs
+
+returns-2 : tie.Need-returns-2
+returns-2 c = told-apart (λ e. told-cells (c .before) .1 (c .if3 .taken) (ap (λ (b : Board). b .cells) e))
+
+slice-aggregate-words-differ : tie.Need-slice-aggregate-words-differ
+slice-aggregate-words-differ c = sym (long-order (start (counts (c .before .before .before .before))) .0)
+
+slice-aggregate-words-differ-2 : tie.Need-slice-aggregate-words-differ-2
+slice-aggregate-words-differ-2 c = sym (long-order (start (counts (c .before .before .before .before .before))) .1)
+
+words-differ-requires : tie.Need-words-differ-requires
+words-differ-requires c κs = search needs
+
+returns-3 : tie.Need-returns-3
+returns-3 c =
+    let w = c .before .before .before .before .before in
+    let n = counts (w .before) in
+    let s = start n in
+    let orders = c .words-differ .ensures in (
+      λ f. board-same
+          {x = s .args .x} {y = s .args .y}
+          (n .before .before .before .before .problems-differ .ensures .0 (n .before .before .before .if1 .left))
+          (told-cells (w .before) .0 (w .if3 .left))
+          (orders .0 f)
+          (eqb-true _ _ (not-false _ (n .if2 .left))),
+      λ t e. orders .1 t (ap (λ (b : Board). b .order) e),
+    )
+
+pub boards-differ-spec : {M : Type 1} → statement M
+boards-differ-spec =
+    tie.close
+    (tie.spec
+    problems-differ-requires
+    returns
+    slice-aggregate-cells-differ
+    cells-differ-requires
+    returns-2
+    slice-aggregate-words-differ
+    slice-aggregate-words-differ-2
+    words-differ-requires
+    returns-3)
