@@ -49,8 +49,12 @@ write-digits-same-length t c = search needs
 
 write-digits-returns-2 : (t : ℕ) → write-digits-lts.Need-returns-2 (claims t) (write-digits-at t) write-digits.Post
 write-digits-returns-2 t c =
-    let s = c .before .before .before .before .before .before .before .before in
-    one-digit (s .args .places) (s .args .n) (c .before .before .before .before .before .before .if1 .left) (c .before .before .before .before .before .if2 .taken) (c .before .before .before .last-digit .ensures) (c .before .before .put .ensures)
+    let put = c .before .before in
+    let digit = put .before in
+    let low = digit .before .before in
+    let some = low .before in
+    let s = some .before .before in
+    one-digit (s .args .places) (s .args .n) (some .if1 .left) (low .if2 .taken) (digit .last-digit .ensures) (put .put .ensures)
 
 write-digits-sub-write-digits : (t : ℕ) → write-digits-lts.Need-sub-write-digits (claims t) (write-digits-at t) write-digits.Post
 write-digits-sub-write-digits t c = search needs
@@ -66,16 +70,23 @@ write-digits-last-digit-requires-2 t c κs = search needs
 
 write-digits-put-requires-2 : (t : ℕ) → write-digits-lts.Need-put-requires-2 (claims t) (write-digits-at t) write-digits.Post
 write-digits-put-requires-2 t c κs =
-    let s = c .before .before .before .before .before .before .before .before .before in
-    last-place (s .args .places) (s .args .n) (c .before .before .before .before .before .before .before .if1 .left) (s .pre .1) (c .before .before .before .before .write-digits .ensures)
+    let front = c .before .before .before .before in
+    let some = front .before .before .before in
+    let s = some .before .before in
+    last-place (s .args .places) (s .args .n) (some .if1 .left) (s .pre .1) (front .write-digits .ensures)
 
 write-digits-same-length-2 : (t : ℕ) → write-digits-lts.Need-same-length-2 (claims t) (write-digits-at t) write-digits.Post
 write-digits-same-length-2 t c = search needs
 
 write-digits-returns-3 : (t : ℕ) → write-digits-lts.Need-returns-3 (claims t) (write-digits-at t) write-digits.Post
 write-digits-returns-3 t c =
-    let s = c .before .before .before .before .before .before .before .before .before .before .before .before in
-    last-digit (s .args .places) (s .args .n) (c .before .before .before .before .before .before .before .before .before .before .if1 .left) (s .pre .1) (c .before .before .before .before .before .before .before .write-digits .ensures) (c .before .before .before .before .before .before .before .before .before .if2 .left) (c .before .before .before .last-digit2 .ensures) (c .before .before .put2 .ensures)
+    let put = c .before .before in
+    let digit = put .before in
+    let front = digit .before .before .before .before in
+    let high = front .before .before in
+    let some = high .before in
+    let s = some .before .before in
+    last-digit (s .args .places) (s .args .n) (some .if1 .left) (s .pre .1) (front .write-digits .ensures) (high .if2 .left) (digit .last-digit2 .ensures) (put .put2 .ensures)
 
 pub +write-digits-spec : {M : Type 1} → statement M
 +write-digits-spec = close μ-write-digits λ t. write-digits-lts.spec (claims t)

@@ -5,6 +5,13 @@ use Rattle.text.proofs.Lines.{newline-place, head-written}
 use Rattle.text.proofs.write_head.Statement.{statement}
 use Rattle.text.proofs.write_head.Tie as tie
 
+-- the places passed: the start, seen from behind the word, and the word, seen from behind the digits
+abbrev start : tie.After-write-text → tie.Start
+start c = c .before .before .before .before
+
+abbrev worded : tie.After-write-digits → tie.After-write-text
+worded c = c .before .before .before .before
+
 write-text-requires : tie.Need-write-text-requires
 write-text-requires c κs = search needs
 
@@ -13,16 +20,21 @@ write-digits-requires c κs = search needs
 
 put-requires : tie.Need-put-requires
 put-requires c κs =
-    let s = c .before .before .before .before .before .before .before .before .before .before .before in
-    newline-place (s .args .n) (s .pre) (c .before .before .before .before .before .before .before .write-text .ensures) (c .before .before .before .write-digits .ensures)
+    let digits = c .before .before .before in
+    let word = worded digits in
+    let s = start word in
+    newline-place (s .args .n) (s .pre) (word .write-text .ensures) (digits .write-digits .ensures)
 
 same-length : tie.Need-same-length
 same-length c = search needs
 
 returns : tie.Need-returns
 returns c =
-    let s = c .before .before .before .before .before .before .before .before .before .before .before .before .before .before in
-    head-written (s .args .n) (s .pre) (c .before .before .before .before .before .before .before .before .before .before .write-text .ensures) (c .before .before .before .before .before .before .write-digits .ensures) (c .before .before .put .ensures)
+    let newline = c .before .before in
+    let digits = newline .before .before .before .before in
+    let word = worded digits in
+    let s = start word in
+    head-written (s .args .n) (s .pre) (word .write-text .ensures) (digits .write-digits .ensures) (newline .put .ensures)
 
 pub write-head-spec : {M : Type 1} → statement M
 write-head-spec =
