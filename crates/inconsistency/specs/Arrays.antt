@@ -9,7 +9,7 @@ use Rattle.record.specs.Problem.{arrowCells}
 use Rattle.kinds.specs.Inside.{puzzleWith, Given}
 use Rattle.groups.specs.Arrays.{linesOf, Drawn}
 
--- the arrays hold the arrows of a board of n cells, which have `total` cells together
+-- the arrays hold the arrows of a board of n cells; together the arrows have `total` cells, which stand first in the array
 pub record ArrowArrays (n : ℕ) (arrows ends : List ℕ) (number total : ℕ) : Type 0 where
   pub drawn : Drawn n arrows ends number
   pub within : total ≤ 1024
