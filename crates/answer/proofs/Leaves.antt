@@ -18,15 +18,12 @@ use Rattle.paths.specs.Paths.{appended, breadthFirst, parent, path, reason2At, 
 use Rattle.growth.specs.Growth.{mostApart, blockName, reasonGrow, reason3At, gap, reasonShrink, reason4At, reason4aAt, reason4bAt, reason34}
 use Rattle.reasons.specs.Reasons.{findReason, findOn}
 use Rattle.host.specs.Host.{acceptOr, decideBytes, hostFinds}
+use Rattle.host.proofs.Leaves.{S}
 use Rattle.text.specs.Text.{digitsWithin, digits, line, noneText, reasonText, refusedText, twoWords, literalLine}
 use Rattle.answer.specs.Program.{textOf, outputLimit, answerOf, inputAnswer, programFinds, printed}
 
--- strip S of document 01, with its last byte
-S : ℕ → List ℕ
-S z = 0x00 ∷ 0x80 ∷ 0x08 ∷ 0x00 ∷ 0x00 ∷ 0x05 ∷ z ∷ []
-
 -- the program's example, `none`, and the refusals that it tests itself
-prints :
+pub prints :
     _≡_ {A = List (List ℕ)}
     (printed (0x00 ∷ 0x07 ∷ (S 0xE0 ++ (0x80 ∷ 0x00 ∷ 0x80 ∷ 0x02 ∷ [])))
     ∷ printed (0x00 ∷ 0x07 ∷ S 0xE0)
@@ -38,5 +35,5 @@ prints :
     ∷ (114 ∷ 101 ∷ 102 ∷ 117 ∷ 115 ∷ 101 ∷ 100 ∷ 32 ∷ 49 ∷ 10 ∷ [])
     ∷ (114 ∷ 101 ∷ 102 ∷ 117 ∷ 115 ∷ 101 ∷ 100 ∷ 32 ∷ 49 ∷ 10 ∷ [])
     ∷ [])
-unfolding S range upto filter any all last init tail flatMap member once size cellsOf row col only up down left right neighbours touches rename join joinAll edges labels group names _>>=_ unless bit number field cellCodes there stepFrom stepCells arrowAt filler arrowsAt readRecord valueAt cellsAfter empty square undecided potential decided after refusal afterAll isFloating isIn isNeighbour kindTouching onArrow arrowBlock blocksTouched kindAt kindsOf has viewWith view block floatNear inReach reach disturbing fenceAt fence orElse reasonIf firstOf each reason1At reason1 appended breadthFirst parent path reason2At reason2 pairsFrom pairs fits mostApart blockName reasonGrow reason3At gap reasonShrink reason4At reason4aAt reason4bAt reason34 findReason findOn acceptOr decideBytes enough hostFinds digitsWithin digits line noneText reasonText refusedText twoWords literalLine textOf outputLimit answerOf inputAnswer programFinds printed
+unfolding range upto filter any all last init tail flatMap member once size cellsOf row col only up down left right neighbours touches rename join joinAll edges labels group names _>>=_ unless bit number field cellCodes there stepFrom stepCells arrowAt filler arrowsAt readRecord valueAt cellsAfter empty square undecided potential decided after refusal afterAll isFloating isIn isNeighbour kindTouching onArrow arrowBlock blocksTouched kindAt kindsOf has viewWith view block floatNear inReach reach disturbing fenceAt fence orElse reasonIf firstOf each reason1At reason1 appended breadthFirst parent path reason2At reason2 pairsFrom pairs fits mostApart blockName reasonGrow reason3At gap reasonShrink reason4At reason4aAt reason4bAt reason34 findReason findOn acceptOr decideBytes enough hostFinds digitsWithin digits line noneText reasonText refusedText twoWords literalLine textOf outputLimit answerOf inputAnswer programFinds printed
 prints = refl

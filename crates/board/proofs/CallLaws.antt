@@ -71,7 +71,7 @@ cells-more g ds i v l h =
 
 module _ (p : Puzzle) (v : Valid p) where
   -- one more decision on the board
-  placed-more : {ds : List Literal} → Standing (p .grid) ds → (i x : ℕ) → i < size (p .grid) → x ≤ 1 → decided ds i ≡ false → placed (boardOf p ds) i x ≡ boardOf p (ds ++ ((i, x) ∷ []))
+  pub placed-more : {ds : List Literal} → Standing (p .grid) ds → (i x : ℕ) → i < size (p .grid) → x ≤ 1 → decided ds i ≡ false → placed (boardOf p ds) i x ≡ boardOf p (ds ++ ((i, x) ∷ []))
   unfolding placed boardOf
   placed-more {ds} s i x l k h =
       let room : length ds < 1024 = omega (arith, standing-length (more s l k h), length-append ds ((i, x) ∷ []), valid-size v) in

@@ -112,7 +112,7 @@ NextAt S at i j = (i < j) × S (at i) × S (at j) × ((k : ℕ) → i < k → k 
 
 module _ (cells arrow : List ℕ) (p : Pair) (q : Parted cells arrow p) where
   -- the cell at a position
-  abbrev at : ℕ → ℕ
+  abbrev pub at : ℕ → ℕ
   at k = getD arrow k 0
 
   -- the cells at the two positions, and between them

@@ -20,33 +20,33 @@ use Rattle.growth.specs.Growth.{mostApart, blockName, reasonGrow, reason3At, ga
 use Rattle.reasons.specs.Reasons.{findReason}
 
 -- a row of nine plain cells with two arrows
-nine : List ℕ → List ℕ → Puzzle
+abbrev pub nine : List ℕ → List ℕ → Puzzle
 nine a b = record { grid = record { height = 1; width = 9 }; given = replicate 9 0; arrows = a ∷ b ∷ [] }
 
 -- one from cell 0 to cell 2, one from cell 6 to cell 8
-front : List ℕ
+abbrev pub front : List ℕ
 front = 0 ∷ 1 ∷ 2 ∷ []
 
-back : List ℕ
+abbrev pub back : List ℕ
 back = 6 ∷ 7 ∷ 8 ∷ []
 
 -- 0, 2, 3, 4, 6 and 8 square, the others empty: (b) applies to the first pair, (a) to the second, and 3 to neither
-blocks : List ℕ
+abbrev pub blocks : List ℕ
 blocks = 1 ∷ 0 ∷ 1 ∷ 1 ∷ 1 ∷ 0 ∷ 1 ∷ 0 ∷ 1 ∷ []
 
 -- another reading: (a) for every pair, and then (b) for every pair
-aThenB : View → Found
+abbrev pub aThenB : View → Found
 aThenB v =
     let ps = flatMap (pairs (v .cells)) (v .arrows) in
     orElse (firstOf (reason4aAt v) ps) (firstOf (reason4bAt v) ps)
 
 -- find gives (b) of the first pair, where the other reading gives (a) of the second; with the arrows in the other order find gives that one too
-pair-by-pair :
+pub pair-by-pair :
     _≡_ {A = List Found}
     (findReason (nine front back) blocks ∷ aThenB (view (nine front back) blocks) ∷ findReason (nine back front) blocks ∷ [])
     (some ((2, 1) ∷ (3, 1) ∷ (4, 1) ∷ (0, 1) ∷ (1, 0) ∷ [])
     ∷ some ((6, 1) ∷ (8, 1) ∷ (7, 0) ∷ [])
     ∷ some ((6, 1) ∷ (8, 1) ∷ (7, 0) ∷ [])
     ∷ [])
-unfolding nine front back blocks aThenB range upto filter any all last init tail flatMap member once size cellsOf row col only up down left right neighbours touches rename join joinAll edges labels group names empty square undecided potential isFloating isIn isNeighbour kindTouching onArrow arrowBlock blocksTouched kindAt kindsOf has viewWith view block floatNear inReach reach disturbing fenceAt fence orElse reasonIf firstOf each reason1At reason1 appended breadthFirst parent path reason2At reason2 pairsFrom pairs fits mostApart blockName reasonGrow reason3At gap reasonShrink reason4At reason4aAt reason4bAt reason34 findReason
+unfolding range upto filter any all last init tail flatMap member once size cellsOf row col only up down left right neighbours touches rename join joinAll edges labels group names empty square undecided potential isFloating isIn isNeighbour kindTouching onArrow arrowBlock blocksTouched kindAt kindsOf has viewWith view block floatNear inReach reach disturbing fenceAt fence orElse reasonIf firstOf each reason1At reason1 appended breadthFirst parent path reason2At reason2 pairsFrom pairs fits mostApart blockName reasonGrow reason3At gap reasonShrink reason4At reason4aAt reason4bAt reason34 findReason
 pair-by-pair = refl

@@ -72,10 +72,10 @@ vacant-of false false a m (x ∷ y ∷ l) h = absurd (let z : _≡_ {A = ℕ} 0 
 module _ (set : Setting) where
   open Setting set using (puzzle, cells, valid)
 
-  abbrev grid : Grid
+  abbrev pub grid : Grid
   grid = puzzle .grid
 
-  abbrev arrows : List (List ℕ)
+  abbrev pub arrows : List (List ℕ)
   arrows = puzzle .arrows
 
   -- squares and undecided cells lie on the grid

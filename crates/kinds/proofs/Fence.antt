@@ -32,11 +32,11 @@ module _ (set : Setting) where
   abbrev grid : Grid
   grid = puzzle .grid
 
-  abbrev arrows : List (List ℕ)
+  abbrev pub arrows : List (List ℕ)
   arrows = puzzle .arrows
 
   -- the board as Confine takes it
-  abbrev B : PartialBoard
+  abbrev pub B : PartialBoard
   B = partialOf set
 
   -- the view of the board

@@ -26,7 +26,7 @@ use Rattle.kinds.proofs.BlockArrays.{kind-get}
 use Rattle.kinds.proofs.Fence.{v, in-reach, reach-in, kind-empty, kind-in}
 
 -- a literal's index
-abbrev indexOf : Literal → ℕ
+abbrev pub indexOf : Literal → ℕ
 indexOf d = d .0
 
 -- nothing, or one literal with this index
@@ -84,7 +84,7 @@ module _ (set : Setting) where
   arrows = puzzle .arrows
 
   -- the board in terms of Meaning
-  abbrev B : PartialBoard
+  abbrev pub B : PartialBoard
   B = partialOf set
 
   module _ (a : ℕ) where

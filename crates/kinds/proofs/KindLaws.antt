@@ -46,7 +46,7 @@ two-barrier (f ∷ e ∷ es) x y m n d = refl
 module _ (set : Setting) where
   open Setting set using (puzzle, cells)
 
-  abbrev grid : Grid
+  abbrev pub grid : Grid
   grid = puzzle .grid
 
   -- the kind of a cell of the grid is barrier

@@ -82,7 +82,7 @@ parent-mem (c ∷ cs) x (p, m) = go (dec-so (eqb (c .0) x)) m (λ k. parent-mem 
 module _ (g : Grid) (cells : List ℕ)
     (sq< : (c : ℕ) → So (square cells c) → c < size g) (b : ℕ) (sb : So (square cells b)) where
   -- the breadth-first list from b, as it is computed
-  abbrev whole : List Entry
+  abbrev pub whole : List Entry
   whole = listFrom g cells b
 
   builds : (k : ℕ) (done todo : List Entry) → k + length done ≡ size g → Tree g cells sq< b sb (done ++ todo) → Builds g cells done todo (breadthFirst g cells k done todo)

@@ -71,7 +71,7 @@ module _ (p : Puzzle) (v : Valid p) {ds : List Literal} (s : Standing (p .grid) 
   -- every index of a reason is below 32,768
   module _ (low : (r : List Literal) → findOn p ds ≡ some r → (l : Literal) → List·Memᴰ l r → l .0 < 32768) where
     -- a long enough buffer gets the reason that applies, a shorter one is refused
-    long-answer : (a : List ℕ) → enough (p .grid) ≤ length a → answerOn (boardOf p ds) a ≡ ok (findOn p ds)
+    pub long-answer : (a : List ℕ) → enough (p .grid) ≤ length a → answerOn (boardOf p ds) a ≡ ok (findOn p ds)
     unfolding answerOn findOf bufferAfter
     long-answer a h = rw (accepted (length a) h, reason-on) (told-found (findOn p ds) a low)
 

@@ -43,7 +43,7 @@ use Rattle.growth.proofs.Gap.{most-full}
 module _ (set : Setting) where
   open Setting set using (puzzle, cells, valid)
 
-  abbrev grid : Grid
+  abbrev pub grid : Grid
   grid = puzzle .grid
 
   abbrev arrows : List (List ℕ)

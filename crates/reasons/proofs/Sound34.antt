@@ -38,14 +38,14 @@ use Rattle.reasons.proofs.Refute.{Arrows, Filling, reason-3, reason-4a,
 module _ (set : Setting) where
   open Setting set using (puzzle, lines, cells, valid)
 
-  abbrev grid : Grid
+  abbrev pub grid : Grid
   grid = puzzle .grid
 
-  abbrev arrows : List (List ℕ)
+  abbrev pub arrows : List (List ℕ)
   arrows = puzzle .arrows
 
   -- the board, as Confine takes it
-  abbrev B : PartialBoard
+  abbrev pub B : PartialBoard
   B = partialOf set
 
   -- the arrows as Refute takes them
