@@ -1,4 +1,6 @@
 // A board: a problem with its decided cells. It is opened from a record; decide adds a decision, undo removes the latest.
+use record::Answer;
+use record::Problem;
 ghost use mathlib.Core.Path.{_≡_};
 ghost use mathlib.Core.Bool.{true};
 ghost use Prim.Native.Nat.{ℕ, _≤_, _<_};
@@ -9,8 +11,6 @@ ghost use Rattle.board.specs.Kept.{openOf};
 ghost use Rattle.board.specs.Form.{wellFormed};
 ghost use Rattle.board.specs.Decide.{decideOf, undoOf, decideAllOf, placedFrom};
 ghost use Rattle.board.specs.Inside.{Placing, held, Held};
-use record::Answer;
-use record::Problem;
 
 // A problem with its decisions. `cells` has the state of each cell (0 empty, 1 square, 2 undecided), with 2 behind the grid;
 // `order` has the decided cells in the order decided, `decided` of them, with 0 behind.

@@ -44,6 +44,7 @@ fn accepted(b: Board) -> bool {
         || judged(finished::finished(b))
 }
 
+// The board with another problem.
 fn with_problem(b: Board, problem: Problem) -> Board {
     let cells = b.cells;
     let order = b.order;

@@ -1,4 +1,5 @@
 // The fence of an arrow block.
+use grid::Side;
 ghost use mathlib.Core.Path.{_≡_};
 ghost use Prim.Native.Nat.{ℕ, _*_, _≤_, _<_};
 ghost use mathlib.Core.Bool.{Bool, _&&_, _||_};
@@ -12,7 +13,6 @@ ghost use Rattle.kinds.specs.Kinds.{view};
 ghost use Rattle.kinds.specs.Arrays.{reachMask};
 ghost use Rattle.kinds.specs.Inside.{Limits, puzzleWith, Held, ofBlock};
 ghost use Rattle.fence.specs.Inside.{Place, Shifted, Inserted, Ordered, Room, Whole, inDisturbing, touched, adds, Fenced};
-use grid::Side;
 
 // The place of a literal among the first count of the part, which stand by rising index.
 fn place(part: &[u16], count: usize, lit: u16) -> usize

@@ -1,4 +1,5 @@
 // Reason 4 for two squares of an arrow with none between: (a) and (b).
+use literals::Finding;
 ghost use mathlib.Core.Path.{_≡_};
 ghost use mathlib.Core.List.{List};
 ghost use Prim.Native.Nat.{ℕ, _+_, _*_};
@@ -6,7 +7,6 @@ ghost use lib.ListN.{length};
 ghost use Rattle.literals.specs.Buffer.{FoundAs, Fit};
 ghost use Rattle.growth.specs.Pairs.{pairAt, viewOn, Scene, Grouped, Squares};
 ghost use Rattle.growth.specs.Growth.{reason4aAt, reason4bAt};
-use literals::Finding;
 
 // Reason 4 (a) for the squares at two places of an arrow.
 pub fn check_growth(

@@ -1,6 +1,7 @@
 // Groups: blocks, potential groups and arrow cells of a grid of at most 32 by 32 cells. A group is
 // named by its first cell in row order; cells are 0 empty, 1 square, 2 undecided. The arrays are
 // lent by the caller.
+use grid::Side;
 ghost use mathlib.Core.Path.{_≡_};
 ghost use Prim.Native.Nat.{ℕ, _+_, _*_, _≤_, _<_};
 ghost use mathlib.Core.Bool.{Bool, cond};
@@ -10,7 +11,6 @@ ghost use Rattle.grid.specs.Marks.{Marks};
 ghost use Rattle.grid.specs.Side.{InGrid, InPlace, sized, besideOf};
 ghost use Rattle.groups.specs.Arrays.{Line, labelArray, noGroup, counts};
 ghost use Rattle.groups.specs.Flood.{unlabelled, free, Marked, Offerable, Offered, OfferedSide, Ready, Spread, Sofar};
-use grid::Side;
 
 // The label of a cell that is in no group.
 pub const NO_GROUP: u16 = 1024;

@@ -2,12 +2,14 @@
 ghost use mathlib.Core.Path.{_≡_};
 ghost use lib.ListN.{replicate};
 
+// No cell is marked.
 pub fn no_marks() -> [u8; 1024]
     ensures { λ r. ⌜ r ≡ replicate 1024 0 ⌝ }
 {
     [0; 1024]
 }
 
+// No name is computed yet.
 pub fn no_names() -> [u16; 1024]
     ensures { λ r. ⌜ r ≡ replicate 1024 0 ⌝ }
 {

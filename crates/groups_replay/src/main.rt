@@ -20,7 +20,8 @@ ghost use mathlib.Core.Path.{_≡_};
 ghost use Prim.Native.Nat.{_+_, _*_, _≤_, _<_};
 ghost use lib.ListN.{length};
 
-// Whether the names of the potential groups differ from those that the list has at `at`.
+// Whether the names of the potential groups differ from those that the list has at `at`. A list that says no rounds differs: nothing would be
+// computed.
 fn potential_groups_differ(
     list: &[u8],
     rounds: Rounds,

@@ -16,6 +16,7 @@ const BEFORE: u8 = 170;
 // So many places of the array are before the output.
 const GUARD: usize = 64;
 
+// The array that a call's output is a part of.
 fn fresh_array() -> [u8; 8192]
     ensures { λ r. ⌜ 8192 ≡ length r ⌝ }
 {

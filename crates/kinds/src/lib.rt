@@ -1,4 +1,5 @@
 // The kinds of a board's cells.
+use grid::Side;
 ghost use mathlib.Core.Path.{_≡_};
 ghost use Prim.Native.Nat.{ℕ, _*_, _<_};
 ghost use mathlib.Core.Bool.{Bool, cond, _&&_, _||_};
@@ -12,7 +13,6 @@ ghost use Rattle.groups.specs.Arrays.{Line};
 ghost use Rattle.kinds.specs.Kinds.{view};
 ghost use Rattle.kinds.specs.Arrays.{kindCode, ownerBy};
 ghost use Rattle.kinds.specs.Inside.{Limits, puzzleWith, Given, Held, nameAmong, nameTwice, Met, kindFrom, meetOf, Owned, arrowBlockAt, arrowBlocksAt, kindIn, codesIn, ownersIn, unnamed, OnlyUnnamed, Walked, Walkable, Unnamed, Sofar};
-use grid::Side;
 
 // No mark is set.
 pub fn clear(marks: &mut [u8; 1024])

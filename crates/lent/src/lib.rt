@@ -1,8 +1,8 @@
 // Decide and undo on one board lent by the caller.
-ghost use mathlib.Core.Path.{_≡_};
-ghost use Rattle.board.specs.Decide.{decideOf, undoOf};
 use board::Board;
 use record::Answer;
+ghost use mathlib.Core.Path.{_≡_};
+ghost use Rattle.board.specs.Decide.{decideOf, undoOf};
 
 // `decide` on a lent board.
 pub fn decide_in(board: &mut Board, index: usize, value: u8) -> Answer

@@ -1,5 +1,6 @@
 // The reach of a block from its own cells: a walk over the block's chain finds the floating groups near it, and the sizes of
 // the groups give the size of the reach, without a pass over the grid.
+use grid::Side;
 ghost use mathlib.Core.Path.{_≡_};
 ghost use mathlib.Core.Bool.{Bool, _&&_, _||_};
 ghost use mathlib.Core.List.{List, [], _∷_};
@@ -13,7 +14,6 @@ ghost use Rattle.reach.specs.Chains.{Chains};
 ghost use Rattle.kinds.specs.Inside.{Limits, puzzleWith, Held};
 ghost use Rattle.reach.specs.Inside.{reachesAt};
 ghost use Rattle.reach.specs.Near.{Sizes, Listed, Listing, floatAmong, NearFloats, Names};
-use grid::Side;
 
 // Counts cell i for its owner. Without one the size that is read is written back, so that there is no branch to predict.
 fn count_cell(owners: &[u16; 1024], i: usize, sizes: &mut [u16; 1024])

@@ -1,4 +1,5 @@
 // Reasons 3 and 4: the search for them along the arrows.
+use literals::Finding;
 ghost use mathlib.Core.List.{List};
 ghost use Prim.Native.Nat.{ℕ, _+_, _*_, _≤_};
 ghost use lib.ListN.{take};
@@ -12,7 +13,6 @@ ghost use Rattle.growth.specs.Pairs.{reasonAt, pairAt, NextSquare, viewOn, Scen
 ghost use Rattle.growth.specs.Growth.{reason3At, reason34};
 ghost use Rattle.literals.specs.Literals.{firstOf};
 ghost use Rattle.shift.specs.Shift.{Work};
-use literals::Finding;
 
 // The first place from `from` on that holds a square, or `to` if there is none.
 fn next_square(cells: &[u8; 1024], arrows: &[u16; 1024], from: usize, to: usize) -> usize

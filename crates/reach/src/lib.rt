@@ -1,4 +1,5 @@
 // The reach of an arrow block as marks, and the cells of each owner in chains.
+use grid::Side;
 ghost use mathlib.Core.Path.{_≡_};
 ghost use Prim.Native.Nat.{ℕ, _+_, _*_, _≤_, _<_};
 ghost use mathlib.Core.Bool.{Bool, _||_};
@@ -11,7 +12,6 @@ ghost use Rattle.kinds.specs.Kinds.{view};
 ghost use Rattle.reach.specs.Chains.{ChainsFrom, Chains};
 ghost use Rattle.kinds.specs.Inside.{Limits, puzzleWith, Held};
 ghost use Rattle.reach.specs.Inside.{nearAt, nearAmong, reaches, Counted, Reached, Reach};
-use grid::Side;
 
 // Puts cell i in front of the chain of its owner, if it has one. Without one the places are written with what they hold.
 fn chain_cell(owners: &[u16; 1024], i: usize, head: &mut [u16; 1024], next: &mut [u16; 1024])

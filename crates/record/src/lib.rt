@@ -1,4 +1,7 @@
 // The record of a puzzle: its fields in turn, read from a byte slice.
+use fields::Field;
+use fields::Place;
+use fields::Start;
 ghost use mathlib.Core.Path.{_≡_};
 ghost use mathlib.Core.Bool.{not};
 ghost use mathlib.Core.List.{List, [], _∷_, _++_};
@@ -10,9 +13,6 @@ ghost use Rattle.record.specs.Record.{cellCodes, stepCells, arrowsAt};
 ghost use Rattle.record.specs.Problem.{arrowCells, endsFrom, reading, readOf};
 ghost use Rattle.record.specs.Inside.{Answered, Kept, StepTaken, ArrowRead};
 ghost use Rattle.grid.specs.Side.{sized};
-use fields::Field;
-use fields::Place;
-use fields::Start;
 
 // What an accepted record says. `cells` has a code for each cell (0 plain, 1 black, 2 given square), `arrows` the cells of the
 // arrows, one arrow after another, `ends` for each of the `count` arrows the place in `arrows` where it ends. 0 stands behind each.

@@ -1,4 +1,5 @@
 // The shift test of reason 3: whether some shift of one arrow block lies wholly in the reach of another.
+use grid::Side;
 ghost use mathlib.Core.Path.{_≡_};
 ghost use mathlib.Core.Bool.{cond};
 ghost use mathlib.Core.List.{List};
@@ -14,7 +15,6 @@ ghost use Rattle.reach.specs.Inside.{reachesAt};
 ghost use Rattle.reach.specs.Near.{NearFloats, Names};
 ghost use Rattle.shift.specs.Fits.{shiftFits};
 ghost use Rattle.shift.specs.Shift.{blockIn, Chained, Gathered, Places, BlockPlaces, landsIn, allLand, fitsAt, Work};
-use grid::Side;
 
 // Writes the row and the column of cell i behind `count` others if `yes` says so; the new count.
 fn keep_place(

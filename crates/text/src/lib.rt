@@ -112,7 +112,7 @@ pub fn read_code(code: i32) -> Told
     Told::Literals(count)
 }
 
-// Writes the count and the lines of a reason whose literals stand in the first of the bytes found.
+// Writes the count and the lines of a reason whose literals stand in the first of the bytes found; where the text ends.
 fn write_reason(out: &mut [u8], found: &[u8], count: usize) -> usize
     requires { ⌜ (count ≤ 3073) × (2 * count ≤ length (now found)) × (21523 ≤ length (now out)) ⌝ }
     ensures { λ r. ⌜ Written (now (out .entry)) 0 (toldText (Told.Literals count) (now (found .entry))) (now (out .exit)) r ⌝ }
@@ -121,7 +121,7 @@ fn write_reason(out: &mut [u8], found: &[u8], count: usize) -> usize
     write_literals(out, lines, found, count)
 }
 
-// Writes the text for what the host call says, with the bytes that it left.
+// Writes the text for what the host call says, with the bytes that it left; where it ends.
 pub fn write_told(out: &mut [u8], told: Told, found: &[u8]) -> usize
     requires { ⌜ (countOf told ≤ 3073) × (6146 ≤ length (now found)) × (21523 ≤ length (now out)) ⌝ }
     ensures { λ r. ⌜ Written (now (out .entry)) 0 (toldText told (now (found .entry))) (now (out .exit)) r ⌝ }
