@@ -4,7 +4,7 @@ ghost use mathlib.Core.Path.{_≡_};
 ghost use mathlib.Core.List.{List};
 ghost use Prim.Native.Nat.{ℕ, _+_, _*_};
 ghost use lib.ListN.{length};
-ghost use Rattle.literals.specs.Buffer.{FoundAs, Fit};
+ghost use Rattle.literals.specs.Inside.{FoundAs, Fit};
 ghost use Rattle.growth.specs.Pairs.{pairAt, viewOn, Scene, Grouped, Squares};
 ghost use Rattle.growth.specs.Growth.{reason4aAt, reason4bAt};
 

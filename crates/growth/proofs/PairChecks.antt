@@ -19,7 +19,7 @@ use Rattle.groups.specs.Arrows.{Pair}
 use Rattle.kinds.specs.Kinds.{View, view, viewWith, block, reach, fence}
 use Rattle.kinds.specs.Inside.{Held}
 use Rattle.fence.specs.Inside.{Fenced}
-use Rattle.literals.specs.Buffer.{Wrote}
+use Rattle.literals.specs.Inside.{Wrote}
 use Rattle.growth.specs.Pairs.{pairAt, viewOn}
 use Rattle.growth.specs.Growth.{reason4aAt, reason4bAt, mostApart, blockName, blockCellFence, reasonGrow, reason3At, gap, reasonShrink}
 use Rattle.literals.specs.Literals.{reasonIf, each}

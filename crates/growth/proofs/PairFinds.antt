@@ -13,7 +13,7 @@ use Rattle.grid.specs.Cells.{empty, square}
 use Rattle.groups.specs.Arrows.{Pair}
 use Rattle.groups.specs.Arrays.{CellArray}
 use Rattle.kinds.specs.Kinds.{View, view, viewWith, block, reach}
-use Rattle.literals.specs.Buffer.{Wrote, FoundAs}
+use Rattle.literals.specs.Inside.{Wrote, FoundAs}
 use Rattle.growth.specs.Pairs.{pairAt, viewOn, Scene}
 use Rattle.growth.specs.Growth.{reason4aAt, reason4bAt, mostApart, blockCellFence, gap, reason3At}
 use Rattle.literals.specs.Literals.{each}

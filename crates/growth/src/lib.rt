@@ -11,7 +11,7 @@ ghost use Rattle.kinds.specs.Kinds.{View, block, view, reach};
 ghost use Rattle.kinds.specs.Arrays.{reachMask};
 ghost use Rattle.literals.specs.Literals.{each};
 ghost use Rattle.growth.specs.Growth.{mostApart, blockCellFence};
-ghost use Rattle.literals.specs.Buffer.{Wrote, Fit};
+ghost use Rattle.literals.specs.Inside.{Wrote, Fit};
 ghost use Rattle.groups.specs.Arrays.{CellArray};
 ghost use Rattle.kinds.specs.Inside.{Held, Limits, puzzleWith, ofBlock};
 ghost use mathlib.Core.List.{List};

@@ -17,7 +17,8 @@ use Rattle.literals.specs.Literals.{Found}
 use Rattle.reasons.specs.Reasons.{findReason}
 use Rattle.groups.specs.Arrays.{linesOf}
 use Rattle.inconsistency.specs.Arrays.{ArrowArrays}
-use Rattle.literals.specs.Buffer.{FoundAs, findingBy, bufferBy}
+use Rattle.literals.specs.Buffer.{findingBy, bufferBy}
+use Rattle.literals.specs.Inside.{FoundAs}
 use Rattle.literals.specs.declared.Finding.the-variants.{Reason}
 use Rattle.reasons.proofs.ReasonLaws.{reason-length}
 use Rattle.host.specs.Host.{bytesOf, returned, outputAfter}

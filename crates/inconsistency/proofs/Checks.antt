@@ -31,7 +31,7 @@ use Rattle.inconsistency.specs.Reasons.{findReason}
 use Rattle.units.specs.Arrays.{PotentialArrays, Listed}
 use Rattle.paths.specs.Ends.{BlockArrays}
 use Rattle.inconsistency.specs.Arrays.{ArrowArrays}
-use Rattle.literals.specs.Buffer.{FoundAs, Fit}
+use Rattle.literals.specs.Inside.{FoundAs, Fit}
 use Rattle.literals.proofs.Findings.{nothing-found, not-refused, found-first, found-next}
 
 pub last-taken : (l : List ℕ) (k : ℕ) → k < length l → last 0 (take (suc k) l) ≡ getD l k 0

@@ -9,7 +9,7 @@ ghost use Rattle.growth.specs.Growth.{reason34};
 ghost use Rattle.inconsistency.specs.Reasons.{findReason};
 ghost use Rattle.groups.specs.Arrays.{linesOf};
 ghost use Rattle.inconsistency.specs.Arrays.{ArrowArrays, Ready};
-ghost use Rattle.literals.specs.Buffer.{Fit, FoundAs};
+ghost use Rattle.literals.specs.Inside.{Fit, FoundAs};
 ghost use Rattle.growth.specs.Pairs.{viewOn};
 ghost use Rattle.kinds.specs.Inside.{puzzleWith};
 

@@ -8,7 +8,7 @@ use mathlib.Core.List.{List, [], _∷_, _++_, map, append-assoc, map-append}
 use lib.ListN.{length, getD, set, drop, length-append, length-map, length-drop}
 use lib.Seq.{drop-cons, set-at}
 use Rattle.grid.specs.Cells.{Literal, word}
-use Rattle.literals.specs.Buffer.{Wrote}
+use Rattle.literals.specs.Inside.{Wrote}
 
 -- nothing is written yet
 pub wrote-none : (b : List ℕ) → Wrote [] b b 0

@@ -9,7 +9,8 @@ use lib.ListN.{length, take, drop, length-append, length-map, length-drop, drop-
 use lib.Seq.{take-all, take-at, drop-at, drop-drop}
 use borrow.Rule.Slice.PartMut.{putMid}
 use Rattle.grid.specs.Cells.{Literal, word}
-use Rattle.literals.specs.Buffer.{Wrote, findingBy, bufferBy, FoundAs}
+use Rattle.literals.specs.Buffer.{findingBy, bufferBy}
+use Rattle.literals.specs.Inside.{Wrote, FoundAs}
 use Rattle.literals.specs.Literals.{Found, orElse, firstOf}
 use Rattle.literals.specs.declared.Finding.{Finding}
 use Rattle.literals.specs.declared.Finding.the-variants.{Nothing, Reason, Refused}

@@ -11,7 +11,7 @@ use Rattle.grid.proofs.ListLaws.{filter-length}
 use Rattle.grid.proofs.AppendLaws.{upto-more, filter-more, upto-length}
 use Rattle.grid.specs.Cells.{Literal, word}
 use Rattle.literals.specs.Literals.{each}
-use Rattle.literals.specs.Buffer.{Wrote}
+use Rattle.literals.specs.Inside.{Wrote}
 use Rattle.literals.proofs.BufferLaws.{wrote-none, wrote-more}
 
 -- literals of one value

@@ -18,7 +18,7 @@ use Rattle.record.specs.Problem.{arrowsFrom}
 use Rattle.groups.specs.Arrows.{onArrow, Pair, pairs}
 use Rattle.groups.specs.Arrays.{linesOf}
 use Rattle.growth.specs.Pairs.{reasonAt, pairAt, NextSquare, viewOn, Scene, Line, Whole}
-use Rattle.literals.specs.Buffer.{FoundAs}
+use Rattle.literals.specs.Inside.{FoundAs}
 use Rattle.literals.specs.Literals.{Found, orElse, firstOf}
 use Rattle.literals.specs.declared.Finding.the-variants.{Nothing, Reason}
 use Rattle.literals.proofs.Findings.{nothing-found, found-first, first-append}

@@ -8,7 +8,7 @@ ghost use Rattle.grid.specs.Lists.{flatMap};
 ghost use Rattle.groups.specs.Arrows.{pairs};
 ghost use Rattle.groups.specs.Arrays.{CellArray, linesOf};
 ghost use Rattle.reach.specs.Chains.{Chains};
-ghost use Rattle.literals.specs.Buffer.{FoundAs, Fit};
+ghost use Rattle.literals.specs.Inside.{FoundAs, Fit};
 ghost use Rattle.growth.specs.Pairs.{reasonAt, pairAt, NextSquare, viewOn, Scene, Grouped, Line, Squares, Whole};
 ghost use Rattle.growth.specs.Growth.{reason3At, reason34};
 ghost use Rattle.literals.specs.Literals.{firstOf};

@@ -6,7 +6,7 @@ use mathlib.Core.List.{List}
 use Rattle.grid.specs.Side.{sized}
 use Rattle.kinds.specs.Inside.{puzzleWith}
 use Rattle.literals.specs.Literals.{each}
-use Rattle.literals.specs.Buffer.{Wrote, FoundAs}
+use Rattle.literals.specs.Inside.{Wrote, FoundAs}
 use Rattle.literals.specs.declared.Finding.the-variants.{Nothing, Reason}
 use Rattle.literals.proofs.Findings.{found-none, wrote-found}
 use Rattle.paths.specs.Paths.{way, reason2}

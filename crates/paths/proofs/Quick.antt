@@ -25,7 +25,7 @@ use Rattle.kinds.proofs.ArrowMarks.{on-listed, arrow-mask, met-twice}
 use Rattle.paths.specs.Paths.{reason2, reason2At}
 use Rattle.units.specs.Arrays.{Listed}
 use Rattle.paths.specs.Ends.{BlockArrays}
-use Rattle.literals.specs.Buffer.{FoundAs}
+use Rattle.literals.specs.Inside.{FoundAs}
 use Rattle.literals.specs.declared.Finding.the-variants.{Nothing}
 use Rattle.groups.proofs.LabelLaws.{label-test}
 use Rattle.literals.proofs.Findings.{found-none}

@@ -12,7 +12,7 @@ use Rattle.groups.specs.Groups.{Joined}
 use Rattle.grid.proofs.LinkLaws.{linked-start}
 use Rattle.paths.specs.Paths.{Entry, listFrom, parent, path}
 use Rattle.literals.specs.Literals.{each}
-use Rattle.literals.specs.Buffer.{Wrote}
+use Rattle.literals.specs.Inside.{Wrote}
 use Rattle.paths.specs.Search.{Listing}
 use Rattle.literals.proofs.BufferLaws.{wrote-none, wrote-more}
 use Rattle.paths.specs.BreadthFirst.{Listed}

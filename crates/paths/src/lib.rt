@@ -13,7 +13,7 @@ ghost use Rattle.grid.specs.Side.{InGrid, sized};
 ghost use Rattle.record.specs.Record.{Puzzle};
 ghost use Rattle.literals.specs.Literals.{each};
 ghost use Rattle.paths.specs.Paths.{listFrom, way, reason2};
-ghost use Rattle.literals.specs.Buffer.{Wrote, Fit, FoundAs};
+ghost use Rattle.literals.specs.Inside.{Wrote, Fit, FoundAs};
 ghost use Rattle.units.specs.Arrays.{Listed, firstName};
 ghost use Rattle.paths.specs.Ends.{BlockArrays, Kept, Firsts, Crossing, Blocked};
 ghost use Rattle.kinds.specs.Inside.{puzzleWith, Given};

@@ -37,7 +37,8 @@ use Rattle.paths.specs.Paths.{reason2}
 use Rattle.reasons.specs.Reasons.{findReason}
 use Rattle.groups.specs.Arrays.{linesOf}
 use Rattle.inconsistency.specs.Arrays.{ArrowArrays}
-use Rattle.literals.specs.Buffer.{FoundAs, findingBy, bufferBy}
+use Rattle.literals.specs.Buffer.{findingBy, bufferBy}
+use Rattle.literals.specs.Inside.{FoundAs}
 use Rattle.reasons.specs.Find.{cellsOn, reasonOn, findRefusal, findOf, bufferAfter}
 use Rattle.board.specs.Board.{enough}
 

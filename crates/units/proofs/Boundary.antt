@@ -22,7 +22,7 @@ use Rattle.groups.specs.Groups.{labels, group}
 use Rattle.groups.specs.Arrays.{labelArray}
 use Rattle.groups.proofs.LabelLaws.{label-test, label-group}
 use Rattle.literals.specs.Literals.{each}
-use Rattle.literals.specs.Buffer.{Wrote}
+use Rattle.literals.specs.Inside.{Wrote}
 use Rattle.units.specs.Arrays.{boundaryOf}
 use Rattle.literals.proofs.BufferLaws.{wrote-more}
 

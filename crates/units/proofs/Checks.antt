@@ -8,7 +8,7 @@ use Rattle.units.specs.declared.Name.{Name}
 use Rattle.units.specs.declared.Name.the-variants.{At, Nobody}
 use Rattle.literals.specs.declared.Finding.the-variants.{Nothing, Reason}
 use Rattle.literals.specs.Literals.{Found}
-use Rattle.literals.specs.Buffer.{Wrote, FoundAs}
+use Rattle.literals.specs.Inside.{Wrote, FoundAs}
 use Rattle.units.specs.Arrays.{foundAt}
 use Rattle.literals.proofs.Findings.{found-none, wrote-found}
 

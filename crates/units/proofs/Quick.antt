@@ -28,7 +28,7 @@ use Rattle.kinds.proofs.ArrowMarks.{listed-on}
 use Rattle.literals.specs.Literals.{Found, orElse, reasonIf, firstOf}
 use Rattle.units.specs.Units.{reason1, reason1At}
 use Rattle.units.specs.Arrays.{PotentialArrays, Listed, strandedAt}
-use Rattle.literals.specs.Buffer.{FoundAs}
+use Rattle.literals.specs.Inside.{FoundAs}
 use Rattle.literals.specs.declared.Finding.the-variants.{Nothing}
 use Rattle.groups.proofs.LabelLaws.{label-test}
 use Rattle.literals.proofs.Findings.{found-none}

@@ -14,7 +14,7 @@ ghost use Rattle.record.specs.Record.{Puzzle};
 ghost use Rattle.grid.specs.Cells.{potential};
 ghost use Rattle.groups.specs.Arrays.{labelArray};
 ghost use Rattle.units.specs.Units.{reason1};
-ghost use Rattle.literals.specs.Buffer.{Wrote, Fit, FoundAs};
+ghost use Rattle.literals.specs.Inside.{Wrote, Fit, FoundAs};
 ghost use Rattle.units.specs.Arrays.{PotentialArrays, Listed, rankAt, Ranked, firstName, foundAt, boundaryOf, strandedAt};
 ghost use Rattle.kinds.specs.Inside.{puzzleWith};
 

@@ -7,7 +7,7 @@ use native.Mathlib.Omega.{arith}
 use borrow.Author.Needs.{needs}
 use Rattle.grid.specs.Lists.{filter, upto}
 use Rattle.literals.specs.Literals.{each}
-use Rattle.literals.specs.Buffer.{Wrote}
+use Rattle.literals.specs.Inside.{Wrote}
 use Rattle.literals.proofs.BufferLaws.{wrote-length}
 use Rattle.literals.proofs.Pass.{cells-none, cells-count, cells-more}
 use Rattle.kinds.proofs.BlockArrays.{block-by}

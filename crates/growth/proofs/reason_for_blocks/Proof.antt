@@ -7,7 +7,7 @@ use mathlib.Core.List.{List, [], _∷_, _++_}
 use lib.ListN.{length, length-drop}
 use Rattle.grid.proofs.SideLaws.{area}
 use Rattle.kinds.specs.Kinds.{block}
-use Rattle.literals.specs.Buffer.{Wrote}
+use Rattle.literals.specs.Inside.{Wrote}
 use Rattle.growth.specs.Pairs.{viewOn}
 use Rattle.literals.specs.Literals.{each}
 use Rattle.literals.proofs.BufferLaws.{wrote-length}

@@ -11,7 +11,7 @@ use Rattle.grid.specs.Lists.{filter}
 use Rattle.grid.proofs.SliceLaws.{slice-more, slice-none, slice-all, slice-short}
 use Rattle.grid.specs.Cells.{empty}
 use Rattle.literals.specs.Literals.{each}
-use Rattle.literals.specs.Buffer.{Wrote}
+use Rattle.literals.specs.Inside.{Wrote}
 use Rattle.literals.proofs.BufferLaws.{wrote-length}
 use Rattle.literals.proofs.Pass.{pass-none, pass-count, pass-more}
 use Rattle.growth.proofs.reason_for_gap.Statement.{statement}

@@ -10,7 +10,7 @@ use Rattle.kinds.specs.Inside.{puzzleWith}
 use Rattle.units.specs.Units.{reason1}
 use Rattle.paths.specs.Paths.{reason2}
 use Rattle.groups.specs.Arrays.{linesOf}
-use Rattle.literals.specs.Buffer.{FoundAs}
+use Rattle.literals.specs.Inside.{FoundAs}
 use Rattle.literals.specs.declared.Finding.the-variants.{Nothing}
 use Rattle.paths.specs.Ends.{BlockArrays}
 use Rattle.inconsistency.specs.Arrays.{ArrowArrays}

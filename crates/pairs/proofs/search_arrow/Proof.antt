@@ -11,7 +11,7 @@ use Rattle.grid.specs.Cells.{square}
 use Rattle.kinds.specs.Kinds.{View}
 use Rattle.growth.specs.Pairs.{reasonAt, pairAt, viewOn, Scene}
 use Rattle.shift.specs.Shift.{Work}
-use Rattle.literals.specs.Buffer.{FoundAs}
+use Rattle.literals.specs.Inside.{FoundAs}
 use Rattle.literals.specs.declared.Finding.{Finding}
 use Rattle.literals.proofs.Findings.{found-none, nothing-found, not-refused}
 use Rattle.growth.proofs.PairNames.{scene-part}

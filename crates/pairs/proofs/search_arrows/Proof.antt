@@ -12,7 +12,7 @@ use Rattle.groups.specs.Arrays.{linesOf}
 use Rattle.growth.specs.Pairs.{reasonAt, viewOn}
 use Rattle.shift.specs.Shift.{Work}
 use Rattle.literals.specs.Literals.{Found, firstOf}
-use Rattle.literals.specs.Buffer.{FoundAs}
+use Rattle.literals.specs.Inside.{FoundAs}
 use Rattle.literals.specs.declared.Finding.{Finding}
 use Rattle.literals.proofs.Findings.{found-none, nothing-found, not-refused}
 use Rattle.pairs.proofs.PairSearch.{linesFrom, restOf, rest-end, rest-more, rest-found, sub-more, next-scene, next-line}

@@ -12,7 +12,7 @@ use Rattle.grid.specs.Grid.{Grid, size, neighbours}
 use Rattle.grid.specs.Side.{sized}
 use Rattle.grid.proofs.SideLaws.{area}
 use Rattle.literals.specs.Literals.{each}
-use Rattle.literals.specs.Buffer.{Wrote}
+use Rattle.literals.specs.Inside.{Wrote}
 use Rattle.literals.proofs.BufferLaws.{wrote-length}
 use Rattle.literals.proofs.Pass.{cells-none, cells-count, cells-more}
 use Rattle.units.proofs.Boundary.{last-cell, boundary-are}
