@@ -9,7 +9,9 @@ use Rattle.grid.specs.Grid.{Grid, cellsOf}
 use Rattle.grid.specs.Lists.{arrayOf}
 use Rattle.grid.specs.Cells.{square, potential}
 use Rattle.record.specs.Problem.{arrowsFrom}
+use Rattle.record.specs.Record.{Puzzle}
 use Rattle.groups.specs.Groups.{labels}
+use Rattle.groups.specs.Arrows.{onArrow}
 
 -- the number that stands for no group
 abbrev pub noGroup : ℕ
@@ -30,6 +32,11 @@ counts isPotential cells i = cond isPotential (potential cells i) (square cells 
 -- 1 for each cell that passes the test and 0 for each other, in an array
 unfoldable pub maskOf : Grid → (ℕ → Bool) → List ℕ
 maskOf g p = arrayOf 0 (map (λ i. cond (p i) 1 0) (cellsOf g))
+
+-- the groups of the cells that pass a test, and the arrow cells
+pub record GroupArrays (p : Puzzle) (test : ℕ → Bool) (groups onarrow : List ℕ) : Type 0 where
+  pub groups-are : groups ≡ labelArray (p .grid) test
+  pub arrows-are : onarrow ≡ maskOf (p .grid) (onArrow (p .arrows))
 
 -- the cells of all arrows stand in the first places of an array
 pub record Line (line : List ℕ) (total : ℕ) : Type 0 where

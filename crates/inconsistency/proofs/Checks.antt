@@ -72,7 +72,7 @@ module _ (h w : ℕ) (tall : h ≤ 32) (wide : w ≤ 32) {arrows ends : List ℕ
   pub blocks-held : (cells : List ℕ) {labels onarrow : List ℕ} → labels ≡ labelArray (sized h w) (counts false (take (h * w) cells)) → Marks onarrow (λ i. member i (take total arrows))
       → BlockArrays (puzzleWith (sized h w) (linesOf arrows ends number)) (take (h * w) cells) labels onarrow
   blocks-held cells l m = record {
-    blocks-are = l ∙ labels-blocks (sized h w) (take (h * w) cells) (rw (← sized-size h w) (area h w tall wide));
+    groups-are = l ∙ labels-blocks (sized h w) (take (h * w) cells) (rw (← sized-size h w) (area h w tall wide));
     arrows-are = marks-are m;
   }
 

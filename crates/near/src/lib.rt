@@ -12,8 +12,8 @@ ghost use Rattle.grid.specs.Side.{sized, towards, InGrid, InPlace};
 ghost use Rattle.kinds.specs.Kinds.{view, reach};
 ghost use Rattle.reach.specs.Chains.{Chains};
 ghost use Rattle.kinds.specs.Inside.{Limits, puzzleWith, Held};
-ghost use Rattle.reach.specs.Inside.{reachesAt};
-ghost use Rattle.reach.specs.Near.{Sizes, Listed, Listing, floatAmong, NearFloats, Names};
+ghost use Rattle.reach.specs.Inside.{reachesAt, floatAmong};
+ghost use Rattle.reach.specs.Near.{Sizes, Listed, Listing, NearFloats, Names};
 
 // Counts cell i for its owner. Without one the size that is read is written back, so that there is no branch to predict.
 fn count_cell(owners: &[u16; 1024], i: usize, sizes: &mut [u16; 1024])

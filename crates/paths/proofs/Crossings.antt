@@ -225,13 +225,13 @@ crossing-is puzzle cells blocks onarrow n first second s e B F =
     q i = p i && eqb (getD (labels g p) i 0) i
 
     own : (f : ℕ) → f < size g → eqb (getD blocks f 0) f ≡ q f
-    own f h = ap (λ (l : List ℕ). eqb (getD l f 0) f) (B .blocks-are) ∙ label-test g p f f h (omega arith)
+    own f h = ap (λ (l : List ℕ). eqb (getD l f 0) f) (B .groups-are) ∙ label-test g p f f h (omega arith)
 
     list : (f : ℕ) → f < 1024 → arrowsOf blocks onarrow n f ≡ L f
     list f h =
         ap (λ (m : ℕ). arrowsOf blocks onarrow m f) e
         ∙ filter-upto _ _ (size g) (λ i l. ap (λ (m : List ℕ). eqb (getD m i 0) 1 && eqb (getD blocks i 0) f) (B .arrows-are)
-        ∙ ap (λ (m : List ℕ). eqb (getD (maskOf g (onArrow arrows)) i 0) 1 && eqb (getD m i 0) f) (B .blocks-are)
+        ∙ ap (λ (m : List ℕ). eqb (getD (maskOf g (onArrow arrows)) i 0) 1 && eqb (getD m i 0) f) (B .groups-are)
         ∙ ap (λ (t : Bool). t && eqb (getD (labelArray g p) i 0) f) (mask-test g (onArrow arrows) i l) ∙ and-comm (onArrow arrows i) (eqb (getD (labelArray g p) i 0) f))
         ∙ sym (filter-filter (onArrow arrows) (λ i. eqb (getD (labelArray g p) i 0) f) (upto (size g)))
         ∙ ap (filter (onArrow arrows)) (label-group g p f h)

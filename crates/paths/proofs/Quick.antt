@@ -56,7 +56,7 @@ none-twice p cells blocks onarrow arrows total small B L none-is = all-none _ (n
         let q = filter-mem (onArrow (p .arrows)) (group g t (labels g t) f) m in
         let r = group-mem g t (labels g t) f a (q .0) in
         let k = on-listed g (p .arrows) (L .line) (L .marks) (B .arrows-are) a (r .0) (omega arith) (q .1) in
-        let own : getD blocks a 0 ≡ f = eqb-true _ _ (ap (λ (l : List ℕ). eqb (getD l a 0) f) (B .blocks-are) ∙ label-test g t a f (r .0) (omega arith) ∙ true-and (r .1) (eq-eqb _ _ (r .2))) in
+        let own : getD blocks a 0 ≡ f = eqb-true _ _ (ap (λ (l : List ℕ). eqb (getD l a 0) f) (B .groups-are) ∙ label-test g t a f (r .0) (omega arith) ∙ true-and (r .1) (eq-eqb _ _ (r .2))) in
         (k .0, k .1, k .2, ap (λ (i : ℕ). getD blocks i 0) (k .2) ∙ own)
 
     few : (f : ℕ) → f < size g → (l : List ℕ) → l ≡ A f → reason2At g cells l ≡ none
@@ -80,6 +80,6 @@ module _ (h w : ℕ) (tall : h ≤ 32) (wide : w ≤ 32) (lines : List (List ℕ
   -- the marks are those of the arrow blocks
   pub arrowed-given : {marks : List ℕ} → Marks marks (nameAmong blocks arrows total) → Given (puzzleWith (sized h w) lines) (take (h * w) cells) blocks marks
   arrowed-given M = record {
-    named = B .blocks-are;
-    marked = arrow-mask (puzzleWith (sized h w) lines) (size-most (sized h w) tall wide) (take (h * w) cells) (B .blocks-are) (L .line) (L .marks) (B .arrows-are) M;
+    named = B .groups-are;
+    marked = arrow-mask (puzzleWith (sized h w) lines) (size-most (sized h w) tall wide) (take (h * w) cells) (B .groups-are) (L .line) (L .marks) (B .arrows-are) M;
   }

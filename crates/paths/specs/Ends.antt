@@ -13,8 +13,7 @@ use Rattle.grid.specs.Side.{sized}
 use Rattle.record.specs.Record.{Puzzle}
 use Rattle.grid.specs.Cells.{square}
 use Rattle.groups.specs.Groups.{Joined}
-use Rattle.groups.specs.Arrays.{labelArray, maskOf}
-use Rattle.groups.specs.Arrows.{onArrow}
+use Rattle.groups.specs.Arrays.{GroupArrays}
 use Rattle.literals.specs.Literals.{Found, each}
 use Rattle.paths.specs.Paths.{way, reason2}
 use Rattle.paths.specs.declared.Ends.{Ends}
@@ -22,9 +21,8 @@ use Rattle.kinds.specs.Inside.{puzzleWith}
 use Rattle.paths.specs.declared.Ends.the-variants.{Between, Nowhere}
 
 -- the blocks of the cells, and the arrow cells
-pub record BlockArrays (p : Puzzle) (cells blocks onarrow : List ℕ) : Type 0 where
-  pub blocks-are : blocks ≡ labelArray (p .grid) (square cells)
-  pub arrows-are : onarrow ≡ maskOf (p .grid) (onArrow (p .arrows))
+abbrev pub BlockArrays : Puzzle → List ℕ → List ℕ → List ℕ → Type 0
+BlockArrays p cells = GroupArrays p (square cells)
 
 -- cell i was kept as the first or the second arrow cell of its block
 pub record Kept (blocks onarrow : List ℕ) (i : ℕ) (first second first′ second′ : List ℕ) : Type 0 where

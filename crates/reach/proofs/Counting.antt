@@ -15,7 +15,7 @@ use Rattle.grid.proofs.ListLaws.{length-range, filter-length}
 use Rattle.grid.proofs.AppendLaws.{any-append, any-more, count-hit, count-miss}
 use Rattle.grid.proofs.FilledLaws.{filled-none, filled-more, filled-skip}
 use Rattle.grid.proofs.MarkLaws.{marks-same}
-use Rattle.reach.specs.Inside.{nearAt, nearAmong, reaches, reachesAt, Counted, miss, hit, Reached}
+use Rattle.reach.specs.Inside.{nearAt, nearAmong, reaches, reachesAt, Counted, miss, hit, Reached, floatAmong}
 
 -- ---- the marks of floating groups near a block
 
@@ -26,18 +26,18 @@ module _ (kinds owners : List ℕ) (f : ℕ) where
   near-off t i js e k = marks-same t (λ m. t m || nearAt kinds owners f i js m) (λ m l. rw e (sym (or-false (t m)))) k
 
   -- a neighbour of f: none, one more and all of its neighbours are passed
-  pub near-none : {M : List ℕ} (t : ℕ → Bool) → Marks M t → Marks M (λ m. t m || any (λ j. eqb (getD kinds j 0) 4 && eqb (getD owners j 0) m) [])
+  pub near-none : {M : List ℕ} (t : ℕ → Bool) → Marks M t → Marks M (λ m. t m || floatAmong kinds owners [] m)
   unfolding any
   near-none t k = marks-same t (λ m. t m || false) (λ m l. sym (or-false (t m))) k
 
-  pub near-more : {M : List ℕ} (t : ℕ → Bool) (js : List ℕ) (j : ℕ) → Marks M (λ m. (t m || any (λ j. eqb (getD kinds j 0) 4 && eqb (getD owners j 0) m) js) || (eqb (getD kinds j 0) 4 && eqb (getD owners j 0) m))
-      → Marks M (λ m. t m || any (λ j. eqb (getD kinds j 0) 4 && eqb (getD owners j 0) m) (js ++ (j ∷ [])))
+  pub near-more : {M : List ℕ} (t : ℕ → Bool) (js : List ℕ) (j : ℕ) → Marks M (λ m. (t m || floatAmong kinds owners js m) || (eqb (getD kinds j 0) 4 && eqb (getD owners j 0) m))
+      → Marks M (λ m. t m || floatAmong kinds owners (js ++ (j ∷ [])) m)
   unfolding any
-  near-more t js j k = marks-same _ (λ m. t m || any (λ j. eqb (getD kinds j 0) 4 && eqb (getD owners j 0) m) (js ++ (j ∷ [])))
-      (λ m l. or-assoc (t m) (any (λ j. eqb (getD kinds j 0) 4 && eqb (getD owners j 0) m) js) (eqb (getD kinds j 0) 4 && eqb (getD owners j 0) m)
-      ∙ ap (λ (b : Bool). t m || b) (ap (λ (b : Bool). any (λ j. eqb (getD kinds j 0) 4 && eqb (getD owners j 0) m) js || b) (sym (or-false _)) ∙ sym (any-append (λ j. eqb (getD kinds j 0) 4 && eqb (getD owners j 0) m) js (j ∷ [])))) k
+  near-more t js j k = marks-same _ (λ m. t m || floatAmong kinds owners (js ++ (j ∷ [])) m)
+      (λ m l. or-assoc (t m) (floatAmong kinds owners js m) (eqb (getD kinds j 0) 4 && eqb (getD owners j 0) m)
+      ∙ ap (λ (b : Bool). t m || b) (ap (λ (b : Bool). floatAmong kinds owners js m || b) (sym (or-false _)) ∙ sym (any-append (λ j. eqb (getD kinds j 0) 4 && eqb (getD owners j 0) m) js (j ∷ [])))) k
 
-  pub near-all : {M : List ℕ} (t : ℕ → Bool) (i : ℕ) (js : List ℕ) → getD kinds i 0 ≡ 2 → getD owners i 0 ≡ f → Marks M (λ m. t m || any (λ j. eqb (getD kinds j 0) 4 && eqb (getD owners j 0) m) js) → Marks M (λ m. t m || nearAt kinds owners f i js m)
+  pub near-all : {M : List ℕ} (t : ℕ → Bool) (i : ℕ) (js : List ℕ) → getD kinds i 0 ≡ 2 → getD owners i 0 ≡ f → Marks M (λ m. t m || floatAmong kinds owners js m) → Marks M (λ m. t m || nearAt kinds owners f i js m)
   unfolding nearAt
   near-all t i js e q k = marks-same _ (λ m. t m || nearAt kinds owners f i js m) (λ m l. rw (eq-eqb (getD kinds i 0) 2 e, eq-eqb (getD owners i 0) f q)) k
 

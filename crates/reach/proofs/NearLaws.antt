@@ -21,9 +21,9 @@ use Rattle.grid.proofs.SideLaws.{beside-at, beside-off}
 use Rattle.grid.proofs.AroundLaws.{gathered, gathered-all}
 use Rattle.grid.proofs.AppendLaws.{count-hit, count-miss, any-append, any-agree}
 use Rattle.grid.proofs.MarkLaws.{marks-none, marks-same, marks-set, mark-on, mark-off}
-use Rattle.reach.specs.Inside.{nearAt, nearAmong}
+use Rattle.reach.specs.Inside.{nearAt, nearAmong, floatAmong}
 use Rattle.reach.specs.Chains.{ownedBy, cellsFrom, Chains}
-use Rattle.reach.specs.Near.{Sizes, Listed, Listing, floatAmong, Names}
+use Rattle.reach.specs.Near.{Sizes, Listed, Listing, Names}
 use Rattle.reach.proofs.ChainWalks.{Walk, walk-start, walk-more, walk-end}
 
 -- ---- the cells of each owner are counted
@@ -159,7 +159,7 @@ module _ {t : ℕ → Bool} {near groups : List ℕ} {c : ℕ} (L : Listed t nea
 module _ (kinds owners : List ℕ) {t : ℕ → Bool} {near groups : List ℕ} {c : ℕ} (L : Listed t near groups c) where
   -- no cell
   pub float-none : Listed (λ m. t m || floatAmong kinds owners [] m) near groups c
-  unfolding floatAmong any
+  unfolding any
   float-none = listed-same L _ (λ m h. sym (or-false (t m)))
 
   module _ (j : ℕ) where
@@ -168,17 +168,17 @@ module _ (kinds owners : List ℕ) {t : ℕ → Bool} {near groups : List ℕ} {
 
     -- the cell is not floating
     pub float-off : (getD kinds j 0 ≡ 4 → ⊥) → Listed then near groups c
-    unfolding floatAmong any
+    unfolding any
     float-off ne = listed-same L then (λ m h. rw (ne-eqb (getD kinds j 0) 4 ne) (sym (or-false (t m))))
 
     -- it has no name
     pub float-unnamed : 1024 ≤ getD owners j 0 → Listed then near groups c
-    unfolding floatAmong any
+    unfolding any
     float-unnamed l = listed-same L then (λ m h. simp (ne-eqb (getD owners j 0) m (λ q. omega (arith, q)), and-false, or-false))
 
     -- its group is listed already
     pub float-old : getD owners j 0 < 1024 → getD near (getD owners j 0) 0 ≡ 1 → Listed then near groups c
-    unfolding floatAmong any
+    unfolding any
     float-old l e = listed-same L then (λ m h. go m (t m) refl (ℕ-discrete (getD owners j 0) m))
       where
         go : (m : ℕ) (b : Bool) → t m ≡ b → Dec (getD owners j 0 ≡ m) → b ≡ (b || ((eqb (getD kinds j 0) 4 && eqb (getD owners j 0) m) || false))
@@ -188,7 +188,7 @@ module _ (kinds owners : List ℕ) {t : ℕ → Bool} {near groups : List ℕ} {
 
     -- its group is new
     pub float-new : getD kinds j 0 ≡ 4 → getD owners j 0 < 1024 → (getD near (getD owners j 0) 0 ≡ 1 → ⊥) → Listed then (set near (getD owners j 0) 1) (set groups c (getD owners j 0)) (c + 1)
-    unfolding floatAmong any
+    unfolding any
     float-new e l ne = listed-same (listed-more L (getD owners j 0) l (mark-off (L .marked) (getD owners j 0) l ne)) then (λ m h. rw (eq-eqb (getD kinds j 0) 4 e) (ap (λ (b : Bool). t m || b) (sym (or-false (eqb (getD owners j 0) m)))))
 
 -- a group that is not marked has room
@@ -211,7 +211,7 @@ module _ (kinds owners : List ℕ) (g : Grid) {near groups : List ℕ} {c : ℕ}
   sides-none i L = float-none kinds owners L
 
   pub sides-more : (i k : ℕ) → Listed (λ m. (t m || floatAmong kinds owners (gathered g i k) m) || floatAmong kinds owners (towards g i k) m) near groups c → Listed (λ m. t m || floatAmong kinds owners (gathered g i (k + 1)) m) near groups c
-  unfolding gathered floatAmong
+  unfolding gathered
   sides-more i k L = listed-same L _ (λ m h. or-assoc (t m) _ _ ∙ ap (λ (b : Bool). t m || b) (sym (any-append (λ j. eqb (getD kinds j 0) 4 && eqb (getD owners j 0) m) (gathered g i k) (towards g i k)) ∙ ap (λ (x : ℕ). floatAmong kinds owners (gathered g i x) m) (sym (add-one k))))
 
   pub sides-all : (i : ℕ) → getD kinds i 0 ≡ 2 → Listed (λ m. t m || floatAmong kinds owners (gathered g i 4) m) near groups c → Listed (λ m. t m || (eqb (getD kinds i 0) 2 && floatAmong kinds owners (neighbours g i) m)) near groups c
@@ -261,7 +261,7 @@ module _ (kinds : List ℕ) {owners head next : List ℕ} (g : Grid) {n : ℕ} (
 
     -- all cells are passed
     pub nearby-end : 1024 ≤ i → Listed (nearAmong kinds owners g f n) near groups c
-    unfolding nearIn nearAmong nearAt floatAmong ownedBy
+    unfolding nearIn nearAmong nearAt ownedBy
     nearby-end h = listed-same (W .so-far) _ (λ m _.
         ap (λ (l : List ℕ). nearIn kinds owners g l m) (walk-end C f small (W .walk) h ∙ cells-are owners n f)
         ∙ any-filter (λ i. eqb (getD kinds i 0) 2 && floatAmong kinds owners (neighbours g i) m) (ownedBy owners f) (upto n)

@@ -14,9 +14,13 @@ use Rattle.kinds.specs.Arrays.{reachMask}
 
 -- ---- reach
 
+-- one of the cells js is in the floating group m
+abbrev pub floatAmong : List ℕ → List ℕ → List ℕ → ℕ → Bool
+floatAmong kinds owners js m = any (λ j. eqb (getD kinds j 0) 4 && eqb (getD owners j 0) m) js
+
 -- cell i is a neighbour of f, and one of the cells js is in the floating group m
 unfoldable pub nearAt : List ℕ → List ℕ → ℕ → ℕ → List ℕ → ℕ → Bool
-nearAt kinds owners f i js m = eqb (getD kinds i 0) 2 && eqb (getD owners i 0) f && any (λ j. eqb (getD kinds j 0) 4 && eqb (getD owners j 0) m) js
+nearAt kinds owners f i js m = eqb (getD kinds i 0) 2 && eqb (getD owners i 0) f && floatAmong kinds owners js m
 
 -- among the first k cells a neighbour of f touches the floating group m
 unfoldable pub nearAmong : List ℕ → List ℕ → Grid → ℕ → ℕ → ℕ → Bool

@@ -3,11 +3,10 @@
 use Prim.Native.Nat.{ℕ, _≤_, _<_}
 use mathlib.Core.Logic.{_↔_}
 use mathlib.Core.Path.{_≡_}
-use mathlib.Core.Bool.{Bool, true, _&&_}
+use mathlib.Core.Bool.{Bool, true}
 use mathlib.Core.List.{List, List·Memᴰ}
-use lib.Dec.{eqb}
 use lib.ListN.{length, getD, take}
-use Rattle.grid.specs.Lists.{any, Distinct}
+use Rattle.grid.specs.Lists.{Distinct}
 use Rattle.grid.specs.Marks.{Marks}
 use Rattle.groups.specs.Arrays.{maskOf}
 use Rattle.kinds.specs.Kinds.{View, floatNear}
@@ -30,10 +29,6 @@ pub record Listed (test : ℕ → Bool) (near groups : List ℕ) (c : ℕ) : Typ
 pub record Listing (near groups : List ℕ) (c : ℕ) : Type 0 where
   pub test : ℕ → Bool
   pub so-far : Listed test near groups c
-
--- one of the cells js is in the floating group m
-unfoldable pub floatAmong : List ℕ → List ℕ → List ℕ → ℕ → Bool
-floatAmong kinds owners js m = any (λ j. eqb (getD kinds j 0) 4 && eqb (getD owners j 0) m) js
 
 -- the floating groups that touch a neighbour of f: marked by name, and listed once each
 pub record NearFloats (v : View) (f : ℕ) (near groups : List ℕ) (r : ℕ) : Type 0 where

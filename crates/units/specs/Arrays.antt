@@ -13,17 +13,15 @@ use Rattle.grid.specs.Grid.{Grid}
 use Rattle.record.specs.Record.{Puzzle}
 use Rattle.grid.specs.Cells.{Literal, potential}
 use Rattle.groups.specs.Groups.{labels, group}
-use Rattle.groups.specs.Arrows.{onArrow}
-use Rattle.groups.specs.Arrays.{Line, labelArray, maskOf}
+use Rattle.groups.specs.Arrays.{Line, GroupArrays}
 use Rattle.literals.specs.Literals.{Found}
 use Rattle.units.specs.Units.{boundary}
 use Rattle.units.specs.declared.Name.{Name}
 use Rattle.units.specs.declared.Name.the-variants.{At, Nobody}
 
 -- the potential groups of the cells, and the arrow cells
-pub record PotentialArrays (p : Puzzle) (cells groups onarrow : List ℕ) : Type 0 where
-  pub groups-are : groups ≡ labelArray (p .grid) (potential cells)
-  pub arrows-are : onarrow ≡ maskOf (p .grid) (onArrow (p .arrows))
+abbrev pub PotentialArrays : Puzzle → List ℕ → List ℕ → List ℕ → Type 0
+PotentialArrays p cells = GroupArrays p (potential cells)
 
 -- the first `total` cells of an array are those that are marked
 pub record Listed (arrows : List ℕ) (total : ℕ) (onarrow : List ℕ) : Type 0 where

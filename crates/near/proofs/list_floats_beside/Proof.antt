@@ -8,8 +8,9 @@ use mathlib.Core.Bool.{Bool, _||_}
 use Rattle.grid.specs.Side.{sized}
 use Rattle.grid.proofs.SideLaws.{cell-small, in-place}
 use Rattle.grid.proofs.AroundLaws.{gathered}
-use Rattle.reach.specs.Near.{Listed, floatAmong}
+use Rattle.reach.specs.Near.{Listed}
 use Rattle.reach.proofs.NearLaws.{sides-none, sides-more, sides-all, sides-off}
+use Rattle.reach.specs.Inside.{floatAmong}
 use Rattle.near.proofs.list_floats_beside.Statement.{statement}
 use Rattle.near.proofs.list_floats_beside.Tie as tie
 

@@ -2,14 +2,12 @@
 -- Assumes nothing.
 use Prim.Native.Nat.{ℕ, _≤_, _-_}
 use mathlib.Core.Logic.{⊎-elim}
-use mathlib.Core.Bool.{Bool, _&&_, _||_}
+use mathlib.Core.Bool.{Bool, _||_}
 use mathlib.Core.List.{List}
 use native.Mathlib.Omega.{arith}
 use borrow.Author.Needs.{needs}
-use lib.Dec.{eqb}
-use lib.ListN.{getD}
 use borrow.Author.Tests.{ne-eqb}
-use Rattle.grid.specs.Lists.{any}
+use Rattle.reach.specs.Inside.{floatAmong}
 use Rattle.grid.specs.Marks.{Marks}
 use Rattle.grid.specs.Side.{sized}
 use Rattle.grid.proofs.SideLaws.{in-place, cell-small, some-wide}
@@ -20,7 +18,7 @@ use Rattle.reach.proofs.mark_floats_beside.Tie as tie
 
 -- the floating groups of the cells js are marked too
 abbrev Near : List ℕ → List ℕ → List ℕ → List ℕ → (ℕ → Bool) → List ℕ → Type 0
-Near kinds owners near₀ near t js = Marks near₀ t → Marks near (λ m. t m || any (λ j. eqb (getD kinds j 0) 4 && eqb (getD owners j 0) m) js)
+Near kinds owners near₀ near t js = Marks near₀ t → Marks near (λ m. t m || floatAmong kinds owners js m)
 
 abbrev Inv-loop : tie.InvT-loop
 Inv-loop kinds owners h w f i near₀ y x k₀ near k = (k ≤ 4) × ((t : ℕ → Bool) → Near kinds owners near₀ near t (gathered (sized h w) i k))
