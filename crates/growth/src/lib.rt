@@ -62,7 +62,7 @@ pub fn reason_for_gap(
 }
 
 // Whether cell i is in the arrow block named f.
-fn in_block(kinds: &[u8; 1024], owners: &[u16; 1024], i: usize, f: u16) -> bool
+fn in_block(kinds: &[u8; 1024], owners: &[u16; 1024], f: u16, i: usize) -> bool
     requires { ⌜ i < 1024 ⌝ }
     ensures { λ r. ⌜ r ≡ ofBlock (now (kinds .entry)) (now (owners .entry)) f i ⌝ }
 {
@@ -87,7 +87,7 @@ fn reason_for_arrow_block(
     let mut count = 0;
     let mut i = 0;
     while i < n {
-        count = literals::push(buffer, count, i, 1, in_block(kinds, owners, i, f));
+        count = literals::push(buffer, count, i, 1, in_block(kinds, owners, f, i));
         i += 1;
     }
     count

@@ -110,10 +110,10 @@ fn touches_toward(
     groups: &[u16; 1024],
     h: usize,
     w: usize,
+    f: u16,
     y: usize,
     x: usize,
     k: usize,
-    f: u16,
 ) -> bool
     requires { ⌜ InPlace h w y x × (k < 4) ⌝ }
     ensures { λ r. ⌜ r ≡ any (λ j. eqb (getD (now (groups .entry)) j 0) f) (towards (sized h w) (y * w + x) k) ⌝ }
@@ -126,14 +126,14 @@ fn touches_toward(
 }
 
 // Whether cell i touches the group named f.
-fn touches_group(groups: &[u16; 1024], h: usize, w: usize, i: usize, f: u16) -> bool
+fn touches_group(groups: &[u16; 1024], h: usize, w: usize, f: u16, i: usize) -> bool
     requires { ⌜ InGrid h w i ⌝ }
     ensures { λ r. ⌜ r ≡ any (λ j. eqb (getD (now (groups .entry)) j 0) f) (neighbours (sized h w) i) ⌝ }
 {
     let y = i / w;
     let x = i % w;
     for k in 0..4 {
-        if touches_toward(groups, h, w, y, x, k, f) {
+        if touches_toward(groups, h, w, f, y, x, k) {
             return true;
         }
     }
@@ -146,8 +146,8 @@ fn on_boundary(
     groups: &[u16; 1024],
     h: usize,
     w: usize,
-    i: usize,
     f: u16,
+    i: usize,
 ) -> bool
     requires { ⌜ InGrid h w i ⌝ }
     ensures { λ r. ⌜ r ≡ (eqb (getD (now (cells .entry)) i 0) 0 && any (λ j. eqb (getD (now (groups .entry)) j 0) f) (neighbours (sized h w) i)) ⌝ }
@@ -155,11 +155,11 @@ fn on_boundary(
     if cells[i] != 0 {
         return false;
     }
-    touches_group(groups, h, w, i, f)
+    touches_group(groups, h, w, f, i)
 }
 
 // Whether cell i is a square of the group named f.
-fn is_square_of(cells: &[u8; 1024], groups: &[u16; 1024], i: usize, f: u16) -> bool
+fn is_square_of(cells: &[u8; 1024], groups: &[u16; 1024], f: u16, i: usize) -> bool
     requires { ⌜ i < 1024 ⌝ }
     ensures { λ r. ⌜ r ≡ (eqb (getD (now (groups .entry)) i 0) f && eqb (getD (now (cells .entry)) i 0) 1) ⌝ }
 {
@@ -177,7 +177,7 @@ fn last_square(cells: &[u8; 1024], groups: &[u16; 1024], n: usize, f: u16) -> us
     let mut i = n;
     while 0 < i {
         i -= 1;
-        if is_square_of(cells, groups, i, f) {
+        if is_square_of(cells, groups, f, i) {
             return i;
         }
     }
@@ -201,7 +201,7 @@ fn reason_for_potential_unit_boundary(
     let mut count = 0;
     let mut i = 0;
     while i < n {
-        count = literals::push(buffer, count, i, 0, on_boundary(cells, groups, h, w, i, f));
+        count = literals::push(buffer, count, i, 0, on_boundary(cells, groups, h, w, f, i));
         i += 1;
     }
     buffer[count] = literals::literal(last_square(cells, groups, n, f), 1);

@@ -23,10 +23,10 @@ abbrev test : List ℕ → ℕ → ℕ → Bool
 test groups f j = eqb (getD groups j 0) f
 
 abbrev Inv-loop : tie.InvT-loop
-Inv-loop groups h w i f y x k₀ k = (k ≤ 4) × (any (λ m. any (test groups f) (towards (sized h w) (y * w + x) m)) (upto k) ≡ false)
+Inv-loop groups h w f i y x k₀ k = (k ≤ 4) × (any (λ m. any (test groups f) (towards (sized h w) (y * w + x) m)) (upto k) ≡ false)
 
 abbrev μ-loop : tie.MeasureT-loop
-μ-loop groups h w i f y x k₀ k = 4 - k
+μ-loop groups h w f i y x k₀ k = 4 - k
 
 div-y : tie.Need-div-y Inv-loop μ-loop
 div-y c = omega (arith, in-place (c .pre))
