@@ -1,32 +1,43 @@
 -- `pairs::check_pair` meets its contract: reason 3, or reason 4 (a) and then (b).
 -- Assumes nothing.
 use Prim.Native.Nat.{ℕ}
+use mathlib.Core.Path.{subst}
 use mathlib.Core.List.{List}
 use borrow.Author.Tests.{not-true, not-false}
 use Rattle.growth.specs.Pairs.{reasonAt, pairAt, viewOn}
 use Rattle.growth.specs.Growth.{reason4aAt, reason4bAt, reason4At}
 use Rattle.literals.specs.Literals.{Found}
+use Rattle.literals.specs.Inside.{FoundAs}
 use Rattle.literals.proofs.Findings.{found-first, found-next, not-refused}
 use borrow.Author.Needs.{needs}
 use Rattle.pairs.proofs.check_pair.Statement.{statement}
 use Rattle.pairs.proofs.check_pair.Tie as tie
 
--- the places passed: the start, seen from where reason 4 is asked for; that place, from behind the check of (a)
-abbrev start : tie.Else1 → tie.Start
-start c = c .before .before
+-- where reason 3 is asked for, seen from before its check
+abbrev asked-3 : tie.After-check-shift-arg5 → tie.Then1
+asked-3 c = c .before .before .before .before .before
 
-abbrev asked : tie.After-check-growth → tie.Else1
-asked c = c .before .before .before .before
+-- where reason 4 is asked for, seen from before the check of (a)
+abbrev asked-4 : tie.After-check-growth-arg3 → tie.Else1
+asked-4 c = c .before .before .before
 
--- (a) and (b) for the pair, on the board whose arrows are these lines
-abbrev part-a : tie.Start → List (List ℕ) → Found
-part-a s lines = reason4aAt (viewOn (s .args .h) (s .args .w) lines (s .args .cells .now)) (pairAt (s .args .arrows .now) (s .args .last) (s .args .cur))
+-- the check of (a), seen from behind it
+abbrev checked : tie.After-slice-known3 → tie.After-check-growth
+checked c = c .before .before
 
-abbrev part-b : tie.Start → List (List ℕ) → Found
-part-b s lines = reason4bAt (viewOn (s .args .h) (s .args .w) lines (s .args .cells .now)) (pairAt (s .args .arrows .now) (s .args .last) (s .args .cur))
+-- where it found nothing, seen from before the check of (b)
+abbrev passed : tie.After-check-gap-arg3 → tie.After-enum-told
+passed c = c .before .before .before
+
+-- reason 4 (a) and (b) on the board whose arrows are these lines
+abbrev growth : tie.Start → List (List ℕ) → Found
+growth s lines = let a = s .args in reason4aAt (viewOn (a .h) (a .w) lines (a .cells .now)) (pairAt (a .arrows .now) (a .last) (a .cur))
+
+abbrev gap : tie.Start → List (List ℕ) → Found
+gap s lines = let a = s .args in reason4bAt (viewOn (a .h) (a .w) lines (a .cells .now)) (pairAt (a .arrows .now) (a .last) (a .cur))
 
 check-shift-requires : tie.Need-check-shift-requires
-check-shift-requires c κs = let p = c .before .before .before .before .before .before .before .pre in (p .0, p .1, p .2 .chains, p .3)
+check-shift-requires c κs = let p = asked-3 c .before .before .pre in (p .0, p .1, p .2 .chains, p .3)
 
 same-length : tie.Need-same-length
 same-length c = search needs
@@ -34,21 +45,21 @@ same-length c = search needs
 returns : tie.Need-returns
 unfolding reasonAt
 returns c =
-    let check = c .before .before in
-    let third = check .before .before .before .before .before .before in
-    ((λ lines k. rw (not-true (third .before .before .args .fourth) (third .if1 .taken)) (check .check-shift .ensures .0 lines k)), check .check-shift .ensures .1)
+    let t = asked-3 (c .before .before .before) in
+    let check = c .before .before .check-shift .ensures in
+    ((λ lines k. rw (not-true (t .before .before .args .fourth) (t .if1 .taken)) (check .0 lines k)), check .1)
 
 check-growth-requires : tie.Need-check-growth-requires
-check-growth-requires c κs = let p = start (c .before .before .before) .pre in (p .0, p .1, p .2, p .3 .groups-long)
+check-growth-requires c κs = let p = asked-4 c .before .before .pre in (p .0, p .1, p .2, p .3 .groups-long)
 
 enum-told : tie.Need-enum-told
 enum-told c = search needs
 
 check-gap-requires : tie.Need-check-gap-requires
 check-gap-requires c κs =
-    let growth = c .before .before .before .before .before .before .before in
-    let p = start (asked growth) .pre in
-    (record { tall = p .0 .tall; wide = p .0 .wide; room = search needs }, p .1, p .2, growth .check-growth .ensures .1)
+    let a = checked (passed c .before .before) in
+    let p = asked-4 (a .before) .before .before .pre in
+    (record { tall = p .0 .tall; wide = p .0 .wide; room = search needs }, p .1, p .2, a .check-growth .ensures .1)
 
 enum-known-finding : tie.Need-enum-known-finding
 enum-known-finding c = search needs
@@ -62,13 +73,14 @@ same-length-2 c = search needs
 returns-2 : tie.Need-returns-2
 unfolding reasonAt reason4At reason4aAt reason4bAt
 returns-2 c =
-    let gap = c .before .before in
-    let none = gap .before .before .before .before in
-    let growth = none .before .before .before .before in
-    let e = asked growth in
-    let s = start e in (
-      (λ lines k. rw (not-false (s .args .fourth) (e .if1 .left)) (found-next (part-a s lines) (part-b s lines) (rw (none .enum-told .given .1) at (growth .check-growth .ensures .0 lines k)) (gap .check-gap .ensures .0 lines k))),
-      record { groups-long = gap .check-gap .ensures .1; rows-long = s .pre .3 .rows-long; columns-long = s .pre .3 .columns-long },
+    let none = passed (c .before .before .before) in
+    let a = checked (none .before .before) in
+    let b = c .before .before .check-gap .ensures in
+    let e = asked-4 (a .before) in
+    let s = e .before .before in (
+      (λ lines k. rw (not-false (s .args .fourth) (e .if1 .left))
+          (found-next (growth s lines) (gap s lines) (subst (FoundAs _ _ _) (none .enum-told .given .1) (a .check-growth .ensures .0 lines k)) (b .0 lines k))),
+      record { groups-long = b .1; rows-long = s .pre .3 .rows-long; columns-long = s .pre .3 .columns-long },
     )
 
 same-length-3 : tie.Need-same-length-3
@@ -77,11 +89,11 @@ same-length-3 c = search needs
 returns-3 : tie.Need-returns-3
 unfolding reasonAt reason4At reason4aAt reason4bAt
 returns-3 c =
-    let growth = c .before .before .before .before .before in
-    let e = asked growth in
-    let s = start e in (
-      (λ lines k. rw (not-false (s .args .fourth) (e .if1 .left)) (found-first (part-a s lines) (part-b s lines) (rw (c .before .finding .given .1) at (growth .check-growth .ensures .0 lines k)))),
-      record { groups-long = growth .check-growth .ensures .1; rows-long = s .pre .3 .rows-long; columns-long = s .pre .3 .columns-long },
+    let a = checked (c .before .before .before) in
+    let e = asked-4 (a .before) in
+    let s = e .before .before in (
+      (λ lines k. rw (not-false (s .args .fourth) (e .if1 .left)) (found-first (growth s lines) (gap s lines) (subst (FoundAs _ _ _) (c .before .finding .given .1) (a .check-growth .ensures .0 lines k)))),
+      record { groups-long = a .check-growth .ensures .1; rows-long = s .pre .3 .rows-long; columns-long = s .pre .3 .columns-long },
     )
 
 same-length-4 : tie.Need-same-length-4
@@ -89,10 +101,10 @@ same-length-4 c = search needs
 
 returns-4 : tie.Need-returns-4
 returns-4 c =
-    let growth = c .before .before .before .before .before in
-    let s = start (asked growth) in (
-      (λ lines k. absurd (not-refused (part-a s lines) (rw (c .before .finding2 .given .1) at (growth .check-growth .ensures .0 lines k)))),
-      record { groups-long = growth .check-growth .ensures .1; rows-long = s .pre .3 .rows-long; columns-long = s .pre .3 .columns-long },
+    let a = checked (c .before .before .before) in
+    let s = asked-4 (a .before) .before .before in (
+      (λ lines k. absurd (not-refused (growth s lines) (subst (FoundAs _ _ _) (c .before .finding2 .given .1) (a .check-growth .ensures .0 lines k)))),
+      record { groups-long = a .check-growth .ensures .1; rows-long = s .pre .3 .rows-long; columns-long = s .pre .3 .columns-long },
     )
 
 pub check-pair-spec : {M : Type 1} → statement M

@@ -14,6 +14,10 @@ use Rattle.pairs.proofs.check_shift.Tie as tie
 small : (c : tie.Start) → c .args .h * c .args .w ≤ 1024
 small c = area (c .args .h) (c .args .w) (c .pre .0 .tall) (c .pre .0 .wide)
 
+-- the start, seen from before the test of the shifts
+abbrev start : tie.After-shift-fits-arg4 → tie.Start
+start c = c .before .before .before .before .before .before .before .before .before
+
 mul-last-block : tie.Need-mul-last-block
 mul-last-block c = search needs
 
@@ -46,13 +50,13 @@ element-copy-out-block c = omega (arith, cur-cell (c .before .before .before .be
 
 shift-fits-requires : tie.Need-shift-fits-requires
 shift-fits-requires c κs =
-    let s = c .before .before .before .before .before .before .before .before .before in
+    let s = start c in
     let p = s .pre in
     (record { tall = p .0 .tall; wide = p .0 .wide }, p .2, last-name (s .pre .1), omega (arith, cur-name (s .pre .1), small s), p .3)
 
 returns : tie.Need-returns
 returns c =
-    let s = c .before .before .before .before .before .before .before .before .before .before .before in
+    let s = start (c .before .before) in
     let a = s .args in
     let p = s .pre .1 in
     let fits = c .before .shift-fits .ensures in (
@@ -63,7 +67,7 @@ returns c =
 
 reason-for-pair-requires : tie.Need-reason-for-pair-requires
 reason-for-pair-requires c κs =
-    let s = c .before .before .before .before .before .before .before .before .before .before .before .before in
+    let s = start (c .before .before .before) in
     let p = s .pre .1 in
     (s .pre .0, record { lines = p .line .lines; held = p .line .scene .held }, p .line .scene .inside (s .args .cur) (omega (arith, p .order)) (omega arith))
 
@@ -72,12 +76,13 @@ same-length c = search needs
 
 returns-2 : tie.Need-returns-2
 returns-2 c =
-    let s = c .before .before .before .before .before .before .before .before .before .before .before .before .before .before .before in
+    let e = c .before .before .before .before in
+    let s = start (e .before .before) in
     let a = s .args in
     let p = s .pre .1 in
-    let fits = c .before .before .before .before .before .shift-fits .ensures in (
+    let fits = e .before .shift-fits .ensures in (
       (λ lines k. shift-found k (p .order) (p .first) (p .second) _ _ refl refl
-          (sym (fits .0 lines (take (a .h * a .w) (a .cells .now)) (k .held) (scene-kind k (a .cur) (omega (arith, p .order)) (omega arith) (p .second))) ∙ c .before .before .before .before .if1 .left)
+          (sym (fits .0 lines (take (a .h * a .w) (a .cells .now)) (k .held) (scene-kind k (a .cur) (omega (arith, p .order)) (omega arith) (p .second))) ∙ e .if1 .left)
           (c .before .before .reason-for-pair .ensures lines (k .held))),
       fits .1,
     )

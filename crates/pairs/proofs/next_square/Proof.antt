@@ -43,8 +43,9 @@ element-copy-out-if1 c = omega (arith, c .wide .ensures .0, c .before .before .b
 returns : tie.Need-returns Inv-loop μ-loop
 unfolding square
 returns c =
-    let a = c .before .before .before .before .before .before .args in
-    let s = c .before .before .before .before .before .loop in
+    let i = c .before .before .before .before in
+    let a = i .before .before .args in
+    let s = i .before .loop in
     record {
       low = s .inv .low;
       high = s .inv .high;
@@ -61,11 +62,12 @@ loop-less c = search needs
 loop-again : tie.Need-loop-again Inv-loop μ-loop
 unfolding square
 loop-again c =
-    let a = c .before .before .before .before .before .before .args in
-    let s = c .before .before .before .before .before .loop in
+    let i = c .before .before .before .before in
+    let a = i .before .before .args in
+    let s = i .before .loop in
     record {
       low = omega (arith, s .inv .low);
-      high = omega (arith, c .before .before .before .before .loop-test .taken);
+      high = omega (arith, i .loop-test .taken);
       passed = below-more _ (s .k) (s .inv .passed) (λ _. ne-eqb (getD (a .cells .now) (getD (a .arrows .now) (s .k) 0) 0) 1 (rw (← c .before .before .wide .ensures .0) (c .if1 .left)));
     }
 

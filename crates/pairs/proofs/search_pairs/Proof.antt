@@ -1,40 +1,55 @@
 -- `pairs::search_pairs` meets its contract: reason 3 for every pair, and only where none meets it reason 4.
 -- Assumes nothing.
-use mathlib.Core.Path.{refl}
+use mathlib.Core.Path.{refl, subst}
 use Rattle.grid.specs.Lists.{flatMap}
-use Rattle.groups.specs.Arrows.{Pair, pairs}
+use Rattle.groups.specs.Arrows.{pairs}
 use Rattle.groups.specs.Arrays.{linesOf}
 use Rattle.kinds.specs.Kinds.{View, view, viewWith}
 use Rattle.growth.specs.Pairs.{reasonAt, viewOn}
 use Rattle.literals.specs.Literals.{Found, firstOf}
 use Rattle.growth.specs.Growth.{reason3At, reason4At, reason34}
+use Rattle.literals.specs.Inside.{FoundAs}
 use Rattle.literals.proofs.Findings.{found-first, found-next, not-refused}
 use borrow.Author.Needs.{needs}
 use Rattle.pairs.proofs.search_pairs.Statement.{statement}
 use Rattle.pairs.proofs.search_pairs.Tie as tie
 
--- the start, seen from behind the search for reason 3
-abbrev start : tie.After-search-arrows → tie.Start
-start c = c .before .before .before .before .before .before .before
+-- the start, seen from before the search for reason 3
+abbrev start : tie.After-search-arrows-arg → tie.Start
+start c = c .before .before .before .before .before .before
 
--- the board, and the first reason of a kind among its pairs
+-- that search, seen from behind it
+abbrev searched : tie.After-slice-known2 → tie.After-search-arrows
+searched c = c .before .before
+
+-- where it found nothing, seen from before the search for reason 4
+abbrev passed : tie.After-search-arrows-arg2 → tie.After-enum-told
+passed c = c .before .before .before .before .before
+
+-- the board that the arrays hold
 abbrev board : tie.Start → View
-board s = viewOn (s .args .h) (s .args .w) (linesOf (s .args .arrows .now) (s .args .ends .now) (s .args .number)) (s .args .cells .now)
+board s =
+    let a = s .args in
+    viewOn (a .h) (a .w) (linesOf (a .arrows .now) (a .ends .now) (a .number)) (a .cells .now)
 
-abbrev among : View → (Pair → Found) → Found
-among v f = firstOf f (flatMap (pairs (v .cells)) (v .arrows))
+-- the first reason 3 and the first reason 4 of its pairs
+abbrev third : tie.Start → Found
+third s = firstOf (reason3At (board s)) (flatMap (pairs (board s .cells)) (board s .arrows))
+
+abbrev fourth : tie.Start → Found
+fourth s = firstOf (reason4At (board s)) (flatMap (pairs (board s .cells)) (board s .arrows))
 
 search-arrows-requires : tie.Need-search-arrows-requires
-search-arrows-requires c κs = let p = c .before .before .before .before .before .before .pre in (p .0, p .1, p .2, record { groups-long = refl; rows-long = refl; columns-long = refl })
+search-arrows-requires c κs = let p = start c .pre in (p .0, p .1, p .2, record { groups-long = refl; rows-long = refl; columns-long = refl })
 
 enum-told : tie.Need-enum-told
 enum-told c = search needs
 
 search-arrows-requires-2 : tie.Need-search-arrows-requires-2
 search-arrows-requires-2 c κs =
-    let third = c .before .before .before .before .before .before .before .before .before in
-    let p = start third .pre in
-    (record { tall = p .0 .tall; wide = p .0 .wide; room = search needs }, p .1, p .2, third .search-arrows .ensures .1)
+    let found = searched (passed c .before .before) in
+    let p = start (found .before) .pre in
+    (record { tall = p .0 .tall; wide = p .0 .wide; room = search needs }, p .1, p .2, found .search-arrows .ensures .1)
 
 enum-known-finding : tie.Need-enum-known-finding
 enum-known-finding c = search needs
@@ -48,11 +63,10 @@ same-length c = search needs
 returns : tie.Need-returns
 unfolding reason34 reasonAt view viewWith
 returns c =
-    let fourth = c .before .before in
-    let none = fourth .before .before .before .before .before .before in
-    let third = none .before .before .before .before in
-    let v = board (start third) in
-    found-next (among v (reason3At v)) (among v (reason4At v)) (rw (none .enum-told .given .1) at (third .search-arrows .ensures .0)) (fourth .search-arrows2 .ensures .0)
+    let none = passed (c .before .before .before) in
+    let found = searched (none .before .before) in
+    let s = start (found .before) in
+    found-next (third s) (fourth s) (subst (FoundAs _ _ _) (none .enum-told .given .1) (found .search-arrows .ensures .0)) (c .before .before .search-arrows2 .ensures .0)
 
 same-length-2 : tie.Need-same-length-2
 same-length-2 c = search needs
@@ -60,15 +74,15 @@ same-length-2 c = search needs
 returns-2 : tie.Need-returns-2
 unfolding reason34 reasonAt view viewWith
 returns-2 c =
-    let third = c .before .before .before .before .before in
-    let v = board (start third) in
-    found-first (among v (reason3At v)) (among v (reason4At v)) (rw (c .before .finding .given .1) at (third .search-arrows .ensures .0))
+    let found = searched (c .before .before .before) in
+    let s = start (found .before) in
+    found-first (third s) (fourth s) (subst (FoundAs _ _ _) (c .before .finding .given .1) (found .search-arrows .ensures .0))
 
 same-length-3 : tie.Need-same-length-3
 same-length-3 c = search needs
 
 returns-3 : tie.Need-returns-3
-returns-3 c = absurd (not-refused _ (rw (c .before .finding2 .given .1) at (c .before .before .before .before .before .search-arrows .ensures .0)))
+returns-3 c = absurd (not-refused _ (subst (FoundAs _ _ _) (c .before .finding2 .given .1) (searched (c .before .before .before) .search-arrows .ensures .0)))
 
 pub search-pairs-spec : {M : Type 1} → statement M
 search-pairs-spec =
