@@ -27,9 +27,13 @@ use Rattle.fourth.proofs.check_gap.Tie as tie
 small : (c : tie.Start) → c .args .h * c .args .w ≤ 1024
 small c = area (c .args .h) (c .args .w) (c .pre .0 .tall) (c .pre .0 .wide)
 
--- the start, seen from behind the count of the reach
+-- the start, seen from before the count of the reach
+abbrev begun : tie.After-count-reach-arg2 → tie.Start
+begun c = c .before .before .before .before .before .before .before
+
+-- .. and from behind it
 abbrev start : tie.After-count-reach → tie.Start
-start c = c .before .before .before .before .before .before .before .before
+start c = begun (c .before)
 
 -- the count of the reach, seen from behind the count of the block
 abbrev reach-counted : tie.After-count-block → tie.After-count-reach
@@ -38,6 +42,10 @@ reach-counted c = c .before .before
 -- the count of the block, seen from behind the first parts of the reason
 abbrev block-counted : tie.After-reason-for-pair → tie.After-count-block
 block-counted c = c .before .before .before
+
+-- those parts, seen from behind the gap
+abbrev parted : tie.After-slice-known3 → tie.After-reason-for-pair
+parted c = c .before .before .before .before .before .before
 
 -- the board whose arrows are these lines
 abbrev board : tie.Start → List (List ℕ) → View
@@ -121,7 +129,7 @@ element-copy-out-block-2 c = omega (arith, cur-cell (c .before .before .before .
 
 count-reach-requires : tie.Need-count-reach-requires
 count-reach-requires c κs =
-    let s = c .before .before .before .before .before .before .before in
+    let s = begun c in
     let p = s .pre in
     (record { tall = p .0 .tall; wide = p .0 .wide }, p .2 .chains, omega (arith, last-name (s .pre .1), small s), p .3)
 
@@ -199,7 +207,7 @@ reason-for-gap-requires c κs =
 
 add-t31 : tie.Need-add-t31
 add-t31 c =
-    let r = c .before .before .before .before .before .before in
+    let r = parted c in
     let s = start (reach-counted (block-counted r)) in
     let a = s .args in
     let l = slice (a .last + 2) (a .cur - 1) (a .arrows .now) in
@@ -210,7 +218,7 @@ same-length c = search needs
 
 returns-2 : tie.Need-returns-2
 returns-2 c =
-    let r = c .before .before .before .before .before .before in
+    let r = parted c in
     let counted = reach-counted (block-counted r) in
     let p = start counted .pre .1 in (
       (λ lines k. gap-found k (p .order) (p .first) (p .second) _ _ refl refl (p .line .places) (p .line .short)

@@ -1,6 +1,6 @@
 -- `fourth::check_growth` meets its contract: the sizes are compared, and the reason is the three parts.
 -- Assumes nothing.
-use Prim.Native.Nat.{_*_, _≤_}
+use Prim.Native.Nat.{ℕ, _*_, _≤_}
 use native.Mathlib.Omega.{arith}
 use mathlib.Core.Path.{refl, ap, _∙_}
 use lib.ListN.{length, getD, take}
@@ -15,6 +15,14 @@ use Rattle.fourth.proofs.check_growth.Tie as tie
 
 small : (c : tie.Start) → c .args .h * c .args .w ≤ 1024
 small c = area (c .args .h) (c .args .w) (c .pre .0 .tall) (c .pre .0 .wide)
+
+-- the start, seen from before the count of the reach
+abbrev start : tie.After-count-reach-arg2 → tie.Start
+start c = c .before .before .before .before .before .before .before
+
+-- the name of the last square's block
+abbrev lastBlock : tie.Start → ℕ
+lastBlock s = getD (s .args .owners .now) (getD (s .args .arrows .now) (s .args .last) 0) 0
 
 mul-last-block : tie.Need-mul-last-block
 mul-last-block c = search needs
@@ -48,25 +56,25 @@ element-copy-out-block c = omega (arith, cur-cell (c .before .before .before .be
 
 count-reach-requires : tie.Need-count-reach-requires
 count-reach-requires c κs =
-    let s = c .before .before .before .before .before .before .before in
+    let s = start c in
     let p = s .pre in
     (record { tall = p .0 .tall; wide = p .0 .wide }, p .2 .chains, omega (arith, cur-name (s .pre .1), small s), p .3)
 
 count-block-requires : tie.Need-count-block-requires
 count-block-requires c κs =
-    let s = c .before .before .before .before .before .before .before .before in
+    let s = start (c .before) in
     let a = s .args in
     (record { owners = a .owners .now; size = a .h * a .w; chains = s .pre .2 .chains }, omega (arith, last-name (s .pre .1), small s))
 
 add-if1 : tie.Need-add-if1
 add-if1 c =
-    let s = c .before .before .before .before .before .before .before .before .before in
+    let s = start (c .before .before) in
     let a = s .args in
-    omega (arith, c .count-block .ensures (a .owners .now) (a .h * a .w) (s .pre .2 .chains), in-few (a .kinds .now) (a .owners .now) (getD (a .owners .now) (getD (a .arrows .now) (a .last) 0) 0) (a .h * a .w), small s)
+    omega (arith, c .count-block .ensures (a .owners .now) (a .h * a .w) (s .pre .2 .chains), in-few (a .kinds .now) (a .owners .now) (lastBlock s) (a .h * a .w), small s)
 
 returns : tie.Need-returns
 returns c =
-    let s = c .before .before .before .before .before .before .before .before .before .before in
+    let s = start (c .before .before .before) in
     let a = s .args in
     let p = s .pre .1 in
     let reach = c .before .before .count-reach .ensures in
@@ -75,7 +83,7 @@ returns c =
           (omega (
             arith,
             c .if1 .taken,
-            size ∙ ap length (block-in (a .h) (a .w) lines (a .cells .now) (k .held) (getD (a .owners .now) (getD (a .arrows .now) (a .last) 0) 0)),
+            size ∙ ap length (block-in (a .h) (a .w) lines (a .cells .now) (k .held) (lastBlock s)),
             reach .0 lines (take (a .h * a .w) (a .cells .now)) (k .held) (s .pre .2 .counts) (scene-kind k (a .cur) (omega (arith, p .order)) (omega arith) (p .second)),
           ))),
       reach .1,
@@ -83,7 +91,7 @@ returns c =
 
 reason-for-pair-requires : tie.Need-reason-for-pair-requires
 reason-for-pair-requires c κs =
-    let s = c .before .before .before .before .before .before .before .before .before .before .before in
+    let s = start (c .before .before .before .before) in
     let p = s .pre .1 in
     (s .pre .0, record { lines = p .line .lines; held = p .line .scene .held }, p .line .scene .inside (s .args .cur) (omega (arith, p .order)) (omega arith))
 
@@ -92,16 +100,17 @@ same-length c = search needs
 
 returns-2 : tie.Need-returns-2
 returns-2 c =
-    let s = c .before .before .before .before .before .before .before .before .before .before .before .before .before .before in
+    let e = c .before .before .before .before in
+    let s = start (e .before .before .before) in
     let a = s .args in
     let p = s .pre .1 in
-    let reach = c .before .before .before .before .before .before .count-reach .ensures in
-    let size = c .before .before .before .before .before .count-block .ensures (a .owners .now) (a .h * a .w) (s .pre .2 .chains) in (
+    let reach = e .before .before .count-reach .ensures in
+    let size = e .before .count-block .ensures (a .owners .now) (a .h * a .w) (s .pre .2 .chains) in (
       (λ lines k. growth-found k (p .order) (p .first) (p .second) _ _ refl refl
           (omega (
             arith,
-            c .before .before .before .before .if1 .left,
-            size ∙ ap length (block-in (a .h) (a .w) lines (a .cells .now) (k .held) (getD (a .owners .now) (getD (a .arrows .now) (a .last) 0) 0)),
+            e .if1 .left,
+            size ∙ ap length (block-in (a .h) (a .w) lines (a .cells .now) (k .held) (lastBlock s)),
             reach .0 lines (take (a .h * a .w) (a .cells .now)) (k .held) (s .pre .2 .counts) (scene-kind k (a .cur) (omega (arith, p .order)) (omega arith) (p .second)),
           ))
           (c .before .before .reason-for-pair .ensures lines (k .held))),
