@@ -16,17 +16,17 @@ use Rattle.grid.proofs.ListLaws.{place-in}
 
 module _ (cells : List ℕ) (i : ℕ) where
   -- a cell is one of three
-  pub sq-not-em : So (square cells i) → ¬ So (empty cells i)
+  pub square-not-empty : So (square cells i) → ¬ So (empty cells i)
   unfolding square empty
-  sq-not-em s z = omega (arith, eqb-true)
+  square-not-empty s z = omega (arith, eqb-true)
 
-  pub sq-not-un : So (square cells i) → ¬ So (undecided cells i)
+  pub square-not-undecided : So (square cells i) → ¬ So (undecided cells i)
   unfolding square undecided
-  sq-not-un s z = omega (arith, eqb-true)
+  square-not-undecided s z = omega (arith, eqb-true)
 
-  pub un-not-em : So (undecided cells i) → ¬ So (empty cells i)
+  pub undecided-not-empty : So (undecided cells i) → ¬ So (empty cells i)
   unfolding empty undecided
-  un-not-em s z = omega (arith, eqb-true)
+  undecided-not-empty s z = omega (arith, eqb-true)
 
   pub cell-cases : getD cells i 0 ≤ 2 → So (empty cells i) ⊎ So (square cells i) ⊎ So (undecided cells i)
   unfolding empty square undecided
@@ -38,13 +38,13 @@ module _ (cells : List ℕ) (i : ℕ) where
       go (no h₀) (no h₁) = inr (inr (eq-eqb (getD cells i 0) 2 (omega arith)))
 
   -- squares and undecided cells lie on the board
-  pub sq-below : So (square cells i) → i < length cells
+  pub square-below : So (square cells i) → i < length cells
   unfolding square
-  sq-below s = place-in cells i (omega (arith, eqb-true (getD cells i 0) 1 s))
+  square-below s = place-in cells i (omega (arith, eqb-true (getD cells i 0) 1 s))
 
-  pub un-below : So (undecided cells i) → i < length cells
+  pub undecided-below : So (undecided cells i) → i < length cells
   unfolding undecided
-  un-below s = place-in cells i (omega (arith, eqb-true (getD cells i 0) 2 s))
+  undecided-below s = place-in cells i (omega (arith, eqb-true (getD cells i 0) 2 s))
 
 -- a cell among the first n, by them and by all
 module _ (cells : List ℕ) (n i : ℕ) (h : i < n) where

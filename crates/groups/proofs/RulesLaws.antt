@@ -18,7 +18,7 @@ use Rattle.grid.proofs.LinkLaws.{linked-end}
 use Rattle.grid.specs.Lists.{upto, filter, any, all, flatMap}
 use Rattle.record.specs.Record.{Puzzle}
 use Rattle.grid.specs.Cells.{square}
-use Rattle.grid.proofs.CellLaws.{sq-below}
+use Rattle.grid.proofs.CellLaws.{square-below}
 use Rattle.groups.proofs.GroupLaws.{group-distinct, label-own, group-linked, linked-group, names-own, own-names}
 use Rattle.groups.proofs.Shift.{contains-map, contains-fits, fits-contains, grown-size, size-grown}
 use Rattle.groups.specs.Groups.{labels, group, names}
@@ -34,7 +34,7 @@ module _ (p : Puzzle) (cells : List ℕ) (n : length cells ≡ size (p .grid)) w
   arrows = p .arrows
 
   on-board : (i : ℕ) → So (square cells i) → i < size g
-  on-board i h = omega (arith, sq-below cells i h)
+  on-board i h = omega (arith, square-below cells i h)
 
   -- it is decided whether two cells are in one block
   pub dec-block : (i j : ℕ) → Dec (SameBlock g cells i j)

@@ -13,7 +13,7 @@ ghost use Rattle.groups.specs.Arrays.{Line, labelArray, noGroup, counts}
 ghost use Rattle.groups.specs.Flood.{unlabelled, free, Marked, Offerable, Offered, OfferedSide, Ready, Spread, Sofar};
 
 // The label of a cell that is in no group.
-pub const NO_GROUP: u16 = 1024;
+const NO_GROUP: u16 = 1024;
 
 // Stands for the label of a cell that is in a group and has no label yet.
 const UNLABELLED: u16 = 1025;

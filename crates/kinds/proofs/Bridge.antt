@@ -15,7 +15,7 @@ use Rattle.grid.proofs.GridLaws.{dec-adjacent, adj-sym}
 use Rattle.grid.specs.Lists.{filter}
 use Rattle.grid.specs.Grid.{Grid, size, cellsOf, neighbours}
 use Rattle.grid.proofs.LinkLaws.{linked-end, linked-start, linked-trans}
-use Rattle.grid.proofs.CellLaws.{un-not-em, sq-not-un, sq-not-em, un-below, sq-below, cell-cases}
+use Rattle.grid.proofs.CellLaws.{undecided-not-empty, square-not-undecided, square-not-empty, undecided-below, square-below, cell-cases}
 use Rattle.grid.specs.Cells.{empty, square, undecided}
 use Rattle.groups.specs.Groups.{labels, Labels}
 use Rattle.groups.specs.Arrows.{OnArrow}
@@ -80,10 +80,10 @@ module _ (set : Setting) where
 
   -- squares and undecided cells lie on the grid
   pub sq< : (c : ℕ) → So (square cells c) → c < size grid
-  sq< c s = omega (arith, sq-below cells c s, valid .long)
+  sq< c s = omega (arith, square-below cells c s, valid .long)
 
   pub un< : (c : ℕ) → So (undecided cells c) → c < size grid
-  un< c s = omega (arith, un-below cells c s, valid .long)
+  un< c s = omega (arith, undecided-below cells c s, valid .long)
 
   -- the name of the block of a square
   abbrev pub blockName : ℕ → ℕ
@@ -194,7 +194,7 @@ module _ (set : Setting) where
   pub blk-in : (a i : ℕ) → OnArrow arrows a → Block (partialOf set) a i → So (has (isIn (blockName a)) kinds i)
   unfolding kindAt isIn
   blk-in a i ar l = so-has (isIn (blockName a)) i (sq< i (linked-end l))
-      (rw (so-false (empty cells i) (sq-not-em cells i (linked-end l)), linked-end l, in-arrowed i (a, ar, l)) (eq-eqb _ _ (sym (block-labels .linked a i l))))
+      (rw (so-false (empty cells i) (square-not-empty cells i (linked-end l)), linked-end l, in-arrowed i (a, ar, l)) (eq-eqb _ _ (sym (block-labels .linked a i l))))
 
   pub listed-mem : (i f : ℕ) → List·Memᴰ f (listed i) → List·Memᴰ f (around i)
   unfolding blocksTouched
@@ -213,10 +213,10 @@ module _ (set : Setting) where
       go (inr (inr z)) = z
 
   pub un-sq-false : (i : ℕ) → So (undecided cells i) → square cells i ≡ false
-  un-sq-false i u = so-false (square cells i) (λ z. sq-not-un cells i z u)
+  un-sq-false i u = so-false (square cells i) (λ z. square-not-undecided cells i z u)
 
   pub un-em-false : (i : ℕ) → So (undecided cells i) → empty cells i ≡ false
-  un-em-false i u = so-false (empty cells i) (un-not-em cells i u)
+  un-em-false i u = so-false (empty cells i) (undecided-not-empty cells i u)
 
   -- beside the arrow block of a only
   pub beside-nbr : (a i : ℕ) → So (square cells a) → So (has (isNeighbour (blockName a)) kinds i) → Neighbour (partialOf set) a i
@@ -264,7 +264,7 @@ module _ (set : Setting) where
   pub so-floating : (i : ℕ) → Floating (partialOf set) i → So (has isFloating kinds i)
   unfolding kindAt isFloating blocksTouched kindTouching
   so-floating i (inl (s, n)) = so-has isFloating i (sq< i s)
-      (rw (so-false (empty cells i) (sq-not-em cells i s), s, so-false (arrowed (blockName i)) (λ z. n (arrowed-in i s z))))
+      (rw (so-false (empty cells i) (square-not-empty cells i s), s, so-false (arrowed (blockName i)) (λ z. n (arrowed-in i s z))))
   so-floating i (inr (u, n)) = so-has isFloating i (un< i u)
       (rw (un-em-false i u, un-sq-false i u, once-nil (around i) (λ x m. let w = around-so i x (un< i u) m in n (w .0, w .1, w .2))))
 

@@ -17,7 +17,7 @@ use Rattle.grid.proofs.LinkLaws.{linked-end, linked-start, linked-map}
 use Rattle.grid.specs.Count.{count}
 use Rattle.grid.proofs.Count.{length-filter}
 use Rattle.grid.specs.Cells.{Agrees, empty, square, undecided}
-use Rattle.grid.proofs.CellLaws.{sq-not-em}
+use Rattle.grid.proofs.CellLaws.{square-not-empty}
 use Rattle.groups.specs.Groups.{labels}
 use Rattle.groups.specs.Arrows.{OnArrow}
 use Rattle.kinds.proofs.Bridge.{block-labels, float-labels, decisions, sq<, un<, blockName, kinds, kind, in-blk, blk-in, beside-nbr, nbr-beside, floating-so, so-floating, in-arrowed}
@@ -127,7 +127,7 @@ module _ (set : Setting) where
 
   pub kind-in : (i : ℕ) → InArrow B i → kind set i ≡ inBlock (blockName set i)
   unfolding kindAt
-  kind-in i w = rw (so-false (empty cells i) (sq-not-em cells i (linked-end (w .2))), linked-end (w .2), in-arrowed set i w)
+  kind-in i w = rw (so-false (empty cells i) (square-not-empty cells i (linked-end (w .2))), linked-end (w .2), in-arrowed set i w)
 
   -- a board that agrees with the fence
   pub fenced : (full : List ℕ) (a : ℕ) → OnArrow arrows a → So (square cells a) → Agrees full (fence v (blockName set a)) → Fenced B (λ c. So (square full c)) a

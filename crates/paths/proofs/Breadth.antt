@@ -96,9 +96,9 @@ module _ (g : Grid) (cells : List ℕ) where
       whole = ap (λ (l : List Entry). take t cs ++ l) (sym (drop-cons cs t (0, 0) h)) ∙ take-append-drop t cs
 
 -- only cells of the grid are squares
-pub square-below : (g : Grid) (cells : List ℕ) (c : ℕ) → So (square (take (size g) cells) c) → c < size g
+pub square-inside : (g : Grid) (cells : List ℕ) (c : ℕ) → So (square (take (size g) cells) c) → c < size g
 unfolding square
-square-below g cells c h = go (decLt c (size g))
+square-inside g cells c h = go (decLt c (size g))
   where
     go : Dec (c < size g) → c < size g
     go (yes l) = l
@@ -116,7 +116,7 @@ pub record Run (g : Grid) (cells : List ℕ) (b : ℕ) (order from : List ℕ) (
   pub listing : Listing (size g) order from count cs
   pub room : Room order from count
   pub start : So (square (take (size g) cells) b)
-  pub tree : Tree g (take (size g) cells) (square-below g cells) b start cs
+  pub tree : Tree g (take (size g) cells) (square-inside g cells) b start cs
   pub on : t ≤ count
   pub rest : breadthFirst g (take (size g) cells) (size g - t) (take t cs) (drop t cs) ≡ listFrom g (take (size g) cells) b
 
@@ -139,10 +139,10 @@ module _ (g : Grid) (cells : List ℕ) (b : ℕ) where
   module _ {order from : List ℕ} {count t : ℕ} (R : Run g cells b order from count t) (h : t < count) where
     -- the cell at place t
     pub run-cell : getD order t 0 < size g
-    run-cell = rw (order-at (R .listing) t h) (square-below g cells _ (tree-square g (take (size g) cells) (square-below g cells) b (R .start) (R .tree) _ (listed-at (R .cs) t (omega (arith, R .listing .many)))))
+    run-cell = rw (order-at (R .listing) t h) (square-inside g cells _ (tree-square g (take (size g) cells) (square-inside g cells) b (R .start) (R .tree) _ (listed-at (R .cs) t (omega (arith, R .listing .many)))))
 
     pub run-below : t < size g
-    run-below = omega (arith, h, R .listing .many, tree-length g (take (size g) cells) (square-below g cells) b (R .start) (R .tree))
+    run-below = omega (arith, h, R .listing .many, tree-length g (take (size g) cells) (square-inside g cells) b (R .start) (R .tree))
 
     -- it is taken
     pub run-more : {order′ from′ : List ℕ} {r : ℕ}
@@ -157,7 +157,7 @@ module _ (g : Grid) (cells : List ℕ) (b : ℕ) where
           listing = rw (← e) (f (R .cs) (R .listing));
           room = m;
           start = R .start;
-          tree = tree-step g (take (size g) cells) (square-below g cells) b (R .start) (R .cs) _ (R .tree) (listed-at (R .cs) t i);
+          tree = tree-step g (take (size g) cells) (square-inside g cells) b (R .start) (R .cs) _ (R .tree) (listed-at (R .cs) t i);
           on = omega (arith, h);
           rest = sym (breadth-more g (take (size g) cells) (size g - (t + 1)) t (R .cs) i) ∙ rw (← z) (R .rest);
         }

@@ -113,16 +113,13 @@ module _ (g : Grid) (cells : List ℕ)
   abbrev Closed : List Entry → List Entry → Type 0
   Closed done whole = (x : ℕ) → Listed done x → (y : ℕ) → Adjacent g x y → So (square cells y) → Listed whole y
 
-  bfs : ℕ → List Entry → List Entry → List Entry
-  bfs = breadthFirst g cells
-
-  bfs-tree : (k : ℕ) (done todo : List Entry) → k + length done ≡ size g → Tree (done ++ todo) → Closed done (done ++ todo) → Tree (bfs k done todo) × Closed (bfs k done todo) (bfs k done todo)
-  unfolding bfs breadthFirst appended
-  bfs-tree zero done [] e t c = (t, subst (λ z. Closed z (done ++ [])) (sym (append-nil done)) c)
-  bfs-tree zero done (x ∷ xs) e t c = absurd (omega (arith, tree-length t, length-append done (x ∷ xs)))
-  bfs-tree (suc k) done [] e t c = (subst Tree (append-nil done) t, subst (Closed done) (append-nil done) c)
-  bfs-tree (suc k) done (x ∷ todo) e t c =
-      bfs-tree k (done ++ (x ∷ [])) (todo ++ new) (omega (arith, length-append done (x ∷ []))) (subst Tree whole t′) (subst (Closed (done ++ (x ∷ []))) whole c′)
+  list-tree : (k : ℕ) (done todo : List Entry) → k + length done ≡ size g → Tree (done ++ todo) → Closed done (done ++ todo) → Tree (breadthFirst g cells k done todo) × Closed (breadthFirst g cells k done todo) (breadthFirst g cells k done todo)
+  unfolding breadthFirst appended
+  list-tree zero done [] e t c = (t, subst (λ z. Closed z (done ++ [])) (sym (append-nil done)) c)
+  list-tree zero done (x ∷ xs) e t c = absurd (omega (arith, tree-length t, length-append done (x ∷ xs)))
+  list-tree (suc k) done [] e t c = (subst Tree (append-nil done) t, subst (Closed done) (append-nil done) c)
+  list-tree (suc k) done (x ∷ todo) e t c =
+      list-tree k (done ++ (x ∷ [])) (todo ++ new) (omega (arith, length-append done (x ∷ []))) (subst Tree whole t′) (subst (Closed (done ++ (x ∷ []))) whole c′)
     where
       base : List Entry
       base = done ++ (x ∷ todo)
@@ -168,15 +165,13 @@ module _ (g : Grid) (cells : List ℕ)
 
   -- the whole breadth-first list
   pub whole-tree : Tree (listFrom g cells b)
-  unfolding bfs
-  whole-tree = bfs-tree (size g) [] ((b, b) ∷ []) (omega arith) root (λ x k. absurd (List·Memᴰ·not-nil (k .1))) .0
+  whole-tree = list-tree (size g) [] ((b, b) ∷ []) (omega arith) root (λ x k. absurd (List·Memᴰ·not-nil (k .1))) .0
 
   -- a cell of b's block is in it
   pub whole-listed : (a : ℕ) → Linked (Adjacent g) (λ c. So (square cells c)) b a → Listed (listFrom g cells b) a
-  unfolding bfs
   whole-listed a l =
-      let w = bfs-tree (size g) [] ((b, b) ∷ []) (omega arith) root (λ x k. absurd (List·Memᴰ·not-nil (k .1))) in
-      let R = bfs (size g) [] ((b, b) ∷ []) in
+      let w = list-tree (size g) [] ((b, b) ∷ []) (omega arith) root (λ x k. absurd (List·Memᴰ·not-nil (k .1))) in
+      let R = listFrom g cells b in
       linked-inside (Listed R) (tree-root (w .0)) (λ i j _ li ad s. w .1 i li j ad s) l
 
   -- x is listed among the first entries cs of the list, at most m of them
@@ -246,9 +241,8 @@ module _ (g : Grid) (cells : List ℕ)
     -- where all cells of the path satisfy F, a and b are linked by F
     pub path-linked : (a : ℕ) → Linked (Adjacent g) (λ c. So (square cells c)) b a
         → ((y : ℕ) → List·Memᴰ y (way g cells a b) → F y) → Linked (Adjacent g) F a b
-    unfolding bfs
     path-linked a l f =
-        let R = bfs (size g) [] ((b, b) ∷ []) in
+        let R = listFrom g cells b in
         way-linked whole-tree [] (size g) a (tree-length whole-tree) (whole-listed a l) (subst (λ z. (y : ℕ) → List·Memᴰ y (path (size g) z a b) → F y) (sym (append-nil R)) f)
 
   -- each cell of the way is listed
@@ -295,7 +289,6 @@ module _ (g : Grid) (cells : List ℕ)
   -- all cells of the path are squares
   pub path-square : (a : ℕ) → Linked (Adjacent g) (λ c. So (square cells c)) b a
       → (y : ℕ) → List·Memᴰ y (way g cells a b) → So (square cells y)
-  unfolding bfs
   path-square a l y m =
-      let R = bfs (size g) [] ((b, b) ∷ []) in
+      let R = listFrom g cells b in
       tree-square whole-tree y (way-in whole-tree [] (size g) a (whole-listed a l) y (subst (λ z. List·Memᴰ y (path (size g) z a b)) (sym (append-nil R)) m))

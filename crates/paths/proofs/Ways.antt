@@ -17,7 +17,7 @@ use Rattle.paths.specs.Search.{Listing}
 use Rattle.literals.proofs.BufferLaws.{wrote-none, wrote-more}
 use Rattle.paths.specs.BreadthFirst.{Listed}
 use Rattle.paths.proofs.Walk.{Early, tree-square, tree-length, whole-tree, whole-listed, parent-early, listed-left}
-use Rattle.paths.proofs.Breadth.{square-below, mark-parent, path-end, path-on}
+use Rattle.paths.proofs.Breadth.{square-inside, mark-parent, path-end, path-on}
 
 module _ (g : Grid) (cells : List ℕ) (b : ℕ) where
   -- the breadth-first list from b
@@ -30,7 +30,7 @@ module _ (g : Grid) (cells : List ℕ) (b : ℕ) where
     pub done : List Entry
     pub wrote : Wrote done before after k
     pub rest : each 1 (path (size g) whole a b) ≡ done ++ each 1 (path (size g - k) whole x b)
-    pub early : Early g (take (size g) cells) (square-below g cells) b start whole x (size g - k)
+    pub early : Early g (take (size g) cells) (square-inside g cells) b start whole x (size g - k)
 
   -- nothing is written
   pub way-first : (a : ℕ) (before : List ℕ) → Joined g (square (take (size g) cells)) b a → Way a before before a 0
@@ -45,10 +45,10 @@ module _ (g : Grid) (cells : List ℕ) (b : ℕ) where
         early = rw z (record {
           cs = whole;
           es = [];
-          tree = whole-tree g (take (size g) cells) (square-below g cells) b s;
+          tree = whole-tree g (take (size g) cells) (square-inside g cells) b s;
           parts = sym (append-nil whole);
-          few = tree-length g (take (size g) cells) (square-below g cells) b s (whole-tree g (take (size g) cells) (square-below g cells) b s);
-          listed = whole-listed g (take (size g) cells) (square-below g cells) b s a j;
+          few = tree-length g (take (size g) cells) (square-inside g cells) b s (whole-tree g (take (size g) cells) (square-inside g cells) b s);
+          listed = whole-listed g (take (size g) cells) (square-inside g cells) b s a j;
         });
       }
 
@@ -63,7 +63,7 @@ module _ (g : Grid) (cells : List ℕ) (b : ℕ) where
 
     -- the next cell is one of the grid
     pub way-cell : x < size g
-    way-cell = square-below g cells x (tree-square g (take (size g) cells) (square-below g cells) b (W .start) (W .early .tree) x (W .early .listed))
+    way-cell = square-inside g cells x (tree-square g (take (size g) cells) (square-inside g cells) b (W .start) (W .early .tree) x (W .early .listed))
 
     -- its mark is its parent
     pub way-mark : {order from : List ℕ} {count : ℕ} → Listing (size g) order from count whole → getD from x 0 ≡ parent whole x
@@ -80,7 +80,7 @@ module _ (g : Grid) (cells : List ℕ) (b : ℕ) where
           done = W .done ++ ((x, 1) ∷ []);
           wrote = wrote-more (W .wrote) (x, 1) h;
           rest = W .rest ∙ rw p (sym (append-assoc (W .done) ((x, 1) ∷ []) (each 1 (path (size g - (k + 1)) whole (parent whole x) b))));
-          early = rw (W .early .parts) (parent-early g (take (size g) cells) (square-below g cells) b (W .start) (W .early .tree) (W .early .es) x (size g - (k + 1)) (rw (← z) (W .early .few)) (W .early .listed) n);
+          early = rw (W .early .parts) (parent-early g (take (size g) cells) (square-inside g cells) b (W .start) (W .early .tree) (W .early .es) x (size g - (k + 1)) (rw (← z) (W .early .few)) (W .early .listed) n);
         }
 
     -- b is the last

@@ -19,7 +19,7 @@ use Rattle.grid.specs.Cells.{Literal, empty, square, potential}
 use Rattle.grid.proofs.ListLaws.{and-true, true-and, not-so, so-not, filter-mem, mem-filter, any-mem, mem-any, upto-mem, last-mem}
 use Rattle.grid.proofs.RisingLaws.{filter-rising, cells-rising, first-least, last-greatest, rising-same}
 use Rattle.grid.proofs.GridLaws.{adj-sym, adjacent-touches, touches-adjacent, in-cells}
-use Rattle.grid.proofs.CellLaws.{sq-below}
+use Rattle.grid.proofs.CellLaws.{square-below}
 use Rattle.record.specs.Record.{Puzzle}
 use Rattle.groups.specs.Groups.{Joined, labels, group, names}
 use Rattle.groups.specs.Arrows.{OnArrow, onArrow}
@@ -257,7 +257,7 @@ module _ (p : Puzzle) (cells : List ℕ) (long : length cells ≡ size (p .grid)
 
   -- squares lie on the grid
   square< : (c : ℕ) → So (square cells c) → c < size grid
-  square< c s = omega (arith, sq-below cells c s, long)
+  square< c s = omega (arith, square-below cells c s, long)
 
   -- the blocks' numbers
   abbrev blocks : List ℕ

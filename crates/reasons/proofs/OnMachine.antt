@@ -16,7 +16,7 @@ use Rattle.record.specs.Record.{Puzzle, ok, readRecord}
 use Rattle.record.proofs.RecordLaws.{record-valid}
 use Rattle.grid.specs.Cells.{Agrees, Literal, undecided}
 use Rattle.board.specs.Board.{Full, SameCells, SameDecisions, Call, cellsAfter, afterAll}
-use Rattle.grid.proofs.CellLaws.{un-below}
+use Rattle.grid.proofs.CellLaws.{undecided-below}
 use Rattle.board.proofs.Standing.{Standing, calls-standing, index, standing-distinct, same-board, cells-equal, cell-stands, cells-valid}
 use Rattle.groups.specs.Rules.{BlockRules}
 use Rattle.kinds.specs.Meaning.{Setting}
@@ -56,7 +56,7 @@ pub record OnMachine (p : Puzzle) (cs ds : List Call) : Type 0 where
 -- a cell of a fully decided board is not undecided
 decided-all : (g : Grid) (cells : List ℕ) → Full g cells → (c : ℕ) → ¬ So (undecided cells c)
 unfolding undecided
-decided-all g cells f c u = omega (arith, eqb-true (getD cells c 0) 2 u, f .each c (omega (arith, un-below cells c u, f .long)))
+decided-all g cells f c u = omega (arith, eqb-true (getD cells c 0) 2 u, f .each c (omega (arith, undecided-below cells c u, f .long)))
 
 -- it holds of every accepted record and all lists of calls, refused ones included
 pub on-machine : (s : List ℕ) (p : Puzzle) → readRecord s ≡ ok p → (cs ds : List Call) → OnMachine p cs ds

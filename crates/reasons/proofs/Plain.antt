@@ -14,7 +14,7 @@ use Rattle.grid.specs.Grid.{Grid, size, Adjacent}
 use Rattle.grid.proofs.LinkLaws.{linked-start, linked-trans, linked-sym}
 use Rattle.record.specs.Record.{Puzzle}
 use Rattle.grid.specs.Cells.{square}
-use Rattle.grid.proofs.CellLaws.{sq-below}
+use Rattle.grid.proofs.CellLaws.{square-below}
 use Rattle.groups.specs.Arrows.{OnArrow, Pair, Parted, posLast, posCur}
 use Rattle.groups.proofs.ArrowLaws.{NextAt, at-last, at-cur, pos-below, position, mid, tip, whole, mid-clear}
 use Rattle.groups.specs.Rules.{Next, BlockRules, Grown, SameBlock}
@@ -53,7 +53,7 @@ module _ (p : Puzzle) (full : List ℕ) (long : length full ≡ size (p .grid)) 
   S c = So (square full c)
 
   low : (c : ℕ) → S c → c < size g
-  low c s = omega (arith, sq-below full c s, long)
+  low c s = omega (arith, square-below full c s, long)
 
   -- from the rules as stated to positions
   pub plain-rules : BlockRules p full → RulesAt p full

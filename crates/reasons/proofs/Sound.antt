@@ -16,7 +16,7 @@ use Rattle.grid.specs.Link.{Linked, here}
 use Rattle.grid.proofs.LinkLaws.{linked-end, linked-map, linked-start}
 use Rattle.grid.specs.Count.{count}
 use Rattle.grid.specs.Cells.{Literal, empty, square, undecided, potential, Agrees}
-use Rattle.grid.proofs.CellLaws.{sq-not-em}
+use Rattle.grid.proofs.CellLaws.{square-not-empty}
 use Rattle.groups.proofs.GroupLaws.{mem-group, own-names, group-linked, linked-group}
 use Rattle.groups.specs.Groups.{labels, group, names}
 use Rattle.groups.specs.Arrows.{OnArrow, onArrow, pairs, Pair}
@@ -73,7 +73,7 @@ module _ (set : Setting) where
     quiet-1 : reason1 puzzle cells ≡ none → (s : ℕ) → So (square cells s) → ¬ ((c : ℕ) → Linked (Adjacent grid) (λ k. ¬ So (empty cells k)) s c → ¬ OnArrow arrows c)
     unfolding reason1 reason1At
     quiet-1 e s sq none-there =
-        let fs : So (potential cells s) = filled-so set s (sq-not-em cells s sq) in
+        let fs : So (potential cells s) = filled-so set s (square-not-empty cells s sq) in
         let s< = potential< set s fs in
         let c : List ℕ = group grid (potential cells) l (getD l s 0) in
         let k = first-none (λ f. reason1At puzzle cells (group grid (potential cells) l f)) (names grid (potential cells) l) e (own-names grid (potential cells) s s< fs) in

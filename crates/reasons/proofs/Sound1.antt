@@ -16,7 +16,7 @@ use Rattle.grid.specs.Grid.{Grid, size, cellsOf, touches, Adjacent}
 use Rattle.grid.specs.Link.{Linked}
 use Rattle.grid.proofs.LinkLaws.{linked-end, linked-map}
 use Rattle.grid.specs.Cells.{Literal, empty, square, undecided, potential, Agrees}
-use Rattle.grid.proofs.CellLaws.{sq-not-em, cell-cases}
+use Rattle.grid.proofs.CellLaws.{square-not-empty, cell-cases}
 use Rattle.groups.proofs.GroupLaws.{mem-group, group-mem, labelled}
 use Rattle.groups.specs.Groups.{labels, group, names, Labels}
 use Rattle.groups.specs.Arrows.{onArrow}
@@ -108,7 +108,7 @@ module _ (set : Setting) where
             fs = eq-eqb _ _ (agrees-each full 1 (s ∷ []) (agrees-right full (each 0 (bounds (pot f))) (each 1 (s ∷ [])) ag′) s (List·Memᴰ·head refl))
 
             sq-em : (c : ℕ) → So (square cells c) → ¬ So (empty cells c)
-            sq-em c a z = sq-not-em cells c a z
+            sq-em c a z = square-not-empty cells c a z
 
             mem-cell : (y : ℕ) → y < size grid → List·Memᴰ y (cellsOf grid)
             mem-cell y l = in-cells grid y l

@@ -15,7 +15,7 @@ use Rattle.grid.proofs.ListLaws.{mem-filter, flatMap-mem, dec-so, not-so, so-no
 use Rattle.grid.specs.Grid.{Grid, size}
 use Rattle.grid.specs.Count.{count}
 use Rattle.grid.specs.Cells.{Literal, empty, square, undecided, Agrees}
-use Rattle.grid.proofs.CellLaws.{sq-below}
+use Rattle.grid.proofs.CellLaws.{square-below}
 use Rattle.groups.proofs.GroupLaws.{label-own}
 use Rattle.groups.proofs.RulesLaws.{dec-block}
 use Rattle.groups.proofs.Shift.{contains-map, fits-contains, contains-fits}
@@ -155,7 +155,7 @@ module _ (set : Setting) where
       F c = So (square full c)
 
       low : (c : ℕ) → F c → c < size grid
-      low c s = omega (arith, sq-below full c s, long)
+      low c s = omega (arith, square-below full c s, long)
 
       -- the full board as Refute takes it
       abbrev fill : Filling B grid

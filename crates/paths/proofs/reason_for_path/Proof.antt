@@ -13,7 +13,7 @@ use Rattle.grid.proofs.LinkLaws.{linked-start}
 use Rattle.grid.specs.Cells.{square}
 use Rattle.grid.proofs.GridLaws.{size-most}
 use Rattle.literals.proofs.BufferLaws.{wrote-length}
-use Rattle.paths.proofs.Breadth.{square-below}
+use Rattle.paths.proofs.Breadth.{square-inside}
 use Rattle.paths.proofs.Ways.{Way, way-first, way-below, way-cell, way-mark, way-more, way-done}
 use Rattle.paths.proofs.reason_for_path.Statement.{statement}
 use Rattle.paths.proofs.reason_for_path.Tie as tie
@@ -53,7 +53,7 @@ breadth-first-requires c κs =
     let p = a .pre .0 in
     let g = sized (a .args .h) (a .args .w) in
     let sq = linked-start (p .joined) in
-    let on = square-below g (a .args .cells .now) (a .args .b) sq in
+    let on = square-inside g (a .args .cells .now) (a .args .b) sq in
     (record { tall = p .tall; wide = p .wide; within = on }, sym (getD-take (a .args .h * a .args .w) (a .args .cells .now) (a .args .b) 0 on) ∙ eqb-true _ _ sq, a .pre .1, a .pre .2)
 
 loop-holds : tie.Need-loop-holds Inv-loop μ-loop
