@@ -19,8 +19,11 @@ well-formed-requires c κs = search needs
 formed : (c : tie.Else1) → wellFormed (c .before .before .before .args .t1) ≡ true
 formed c = sym (c .before .well-formed .ensures) ∙ not-false _ (c .if1 .left)
 
-cells-few : (c : tie.Else1) → c .before .before .before .args .t1 .problem .height * c .before .before .before .args .t1 .problem .width ≤ 1024
-cells-few c = let z = board-sizes (c .before .before .before .args .t1) (formed c) in area (c .before .before .before .args .t1 .problem .height) (c .before .before .before .args .t1 .problem .width) (z .0) (z .1)
+cells-few : (c : tie.Else1) → let b = c .before .before .before .args .t1 in b .problem .height * b .problem .width ≤ 1024
+cells-few c =
+    let b = c .before .before .before .args .t1 in
+    let z = board-sizes b (formed c) in
+    area (b .problem .height) (b .problem .width) (z .0) (z .1)
 
 returns : tie.Need-returns
 returns c =
@@ -41,20 +44,26 @@ returns-2 c =
     let s = c .before .before .before .before in
     find-short (s .args .t1) (s .args .buffer .now) (formed (c .before)) (c .if2 .taken)
 
+-- where board and buffer have passed their tests, seen from before the search
+abbrev tested : tie.After-find-inconsistency-arg4 → tie.Else2
+tested c = c .before .before .before .before .before
+
 find-inconsistency-requires : tie.Need-find-inconsistency-requires
 find-inconsistency-requires c κs =
-    let s = c .before .before .before .before .before .before .before .before .before in
-    let h = formed (c .before .before .before .before .before .before) in
+    let e = tested c in
+    let s = e .before .before .before .before in
+    let h = formed (e .before) in
     let z = board-sizes (s .args .t1) h in
-    (record { tall = z .0; wide = z .1; room = c .before .before .before .before .before .if2 .left }, board-arrays (s .args .t1) h)
+    (record { tall = z .0; wide = z .1; room = e .if2 .left }, board-arrays (s .args .t1) h)
 
 same-length : tie.Need-same-length
 same-length c = search needs
 
 returns-3 : tie.Need-returns-3
 returns-3 c =
-    let s = c .before .before .before .before .before .before .before .before .before .before .before .before in
-    find-found (s .args .t1) (s .args .buffer .now) (formed (c .before .before .before .before .before .before .before .before .before)) (c .before .before .before .before .before .before .before .before .if2 .left) (c .before .before .find-inconsistency .ensures)
+    let e = tested (c .before .before .before) in
+    let s = e .before .before .before .before in
+    find-found (s .args .t1) (s .args .buffer .now) (formed (e .before)) (e .if2 .left) (c .before .before .find-inconsistency .ensures)
 
 pub find-spec : {M : Type 1} → statement M
 find-spec =
