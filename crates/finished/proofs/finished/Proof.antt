@@ -17,15 +17,26 @@ use borrow.Author.Needs.{needs}
 use Rattle.finished.proofs.finished.Statement.{statement}
 use Rattle.finished.proofs.finished.Tie as tie
 
+-- the well-formed board, seen from behind the test of its given cells
+abbrev tested : tie.After-all-keep-given → tie.Else1
+tested c = c .before .before .before .before
+
+-- the cells that keep what is given, seen from behind find
+abbrev kept : tie.After-find → tie.Else2
+kept c = c .before .before .before
+
 -- the board was found to be well formed
 formed : (c : tie.Else1) → wellFormed (c .before .before .args .t1) ≡ true
 formed c = sym (c .before .well-formed .ensures) ∙ not-false _ (c .if1 .left)
 
-cells-few : (c : tie.Else1) → c .before .before .args .t1 .problem .height * c .before .before .args .t1 .problem .width ≤ 1024
-cells-few c = let z = board-sizes (c .before .before .args .t1) (formed c) in area (c .before .before .args .t1 .problem .height) (c .before .before .args .t1 .problem .width) (z .0) (z .1)
+cells-few : (c : tie.Else1) → let b = c .before .before .args .t1 in b .problem .height * b .problem .width ≤ 1024
+cells-few c =
+    let b = c .before .before .args .t1 in
+    let z = board-sizes b (formed c) in
+    area (b .problem .height) (b .problem .width) (z .0) (z .1)
 
 -- every cell was found to keep what is given
-keeping : (c : tie.Else2) → keepsAll (size (gridOf (c .before .before .before .before .before .before .before .args .t1 .problem))) (c .before .before .before .before .before .before .before .args .t1 .problem .cells) (c .before .before .before .before .before .before .before .args .t1 .cells) ≡ true
+keeping : (c : tie.Else2) → let b = tested (c .before) .before .before .args .t1 in keepsAll (size (gridOf (b .problem))) (b .problem .cells) (b .cells) ≡ true
 unfolding size gridOf
 keeping c = sym (c .before .all-keep-given .ensures) ∙ not-false _ (c .if2 .left)
 
@@ -43,7 +54,9 @@ all-keep-given-requires c κs = cells-few (c .before .before .before)
 
 returns-2 : tie.Need-returns-2
 unfolding size gridOf
-returns-2 c = finished-open (c .before .before .before .before .before .before .before .args .t1) (formed (c .before .before .before .before .before)) (sym (c .before .all-keep-given .ensures) ∙ not-true _ (c .if2 .taken))
+returns-2 c =
+    let e = tested (c .before) in
+    finished-open (e .before .before .args .t1) (formed e) (sym (c .before .all-keep-given .ensures) ∙ not-true _ (c .if2 .taken))
 
 no-literals-requires : tie.Need-no-literals-requires
 no-literals-requires c κs = search needs
@@ -64,13 +77,25 @@ enum-known-finding : tie.Need-enum-known-finding
 enum-known-finding c = search needs
 
 returns-3 : tie.Need-returns-3
-returns-3 c = finished-yes (c .before .before .before .before .before .before .before .before .before .before .before .before .before .args .t1) (formed (c .before .before .before .before .before .before .before .before .before .before .before)) (keeping (c .before .before .before .before .before .before)) _ (room-length (c .before .before .before .before .before .no-literals .ensures)) (sym (c .before .before .before .find .ensures .0) ∙ c .enum-told .given .1)
+returns-3 c =
+    let f = c .before .before .before in
+    let k = kept f in
+    let e = tested (k .before) in
+    finished-yes (e .before .before .args .t1) (formed e) (keeping k) _ (room-length (f .before .before .no-literals .ensures)) (sym (f .find .ensures .0) ∙ c .enum-told .given .1)
 
 returns-4 : tie.Need-returns-4
-returns-4 c = finished-no (c .before .before .before .before .before .before .before .before .before .before .before .before .before .args .t1) (formed (c .before .before .before .before .before .before .before .before .before .before .before)) (keeping (c .before .before .before .before .before .before)) _ (room-length (c .before .before .before .before .before .no-literals .ensures)) (sym (c .before .before .before .find .ensures .0) ∙ c .enum-told2 .given .1)
+returns-4 c =
+    let f = c .before .before .before in
+    let k = kept f in
+    let e = tested (k .before) in
+    finished-no (e .before .before .args .t1) (formed e) (keeping k) _ (room-length (f .before .before .no-literals .ensures)) (sym (f .find .ensures .0) ∙ c .enum-told2 .given .1)
 
 returns-5 : tie.Need-returns-5
-returns-5 c = absurd (not-refused (c .before .before .before .before .before .before .before .before .before .before .before .before .before .before .args .t1) (formed (c .before .before .before .before .before .before .before .before .before .before .before .before)) (keeping (c .before .before .before .before .before .before .before)) _ (room-length (c .before .before .before .before .before .before .no-literals .ensures)) (sym (c .before .before .before .before .find .ensures .0) ∙ c .before .finding .given .1))
+returns-5 c =
+    let f = c .before .before .before .before in
+    let k = kept f in
+    let e = tested (k .before) in
+    absurd (not-refused (e .before .before .args .t1) (formed e) (keeping k) _ (room-length (f .before .before .no-literals .ensures)) (sym (f .find .ensures .0) ∙ c .before .finding .given .1))
 
 pub finished-spec : {M : Type 1} → statement M
 finished-spec =
