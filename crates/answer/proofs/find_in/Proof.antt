@@ -14,6 +14,14 @@ use Rattle.answer.proofs.Inputs.{too-long, too-short, cut-short, whole-
 use Rattle.answer.proofs.find_in.Statement.{statement}
 use Rattle.answer.proofs.find_in.Tie as tie
 
+-- where the input has a length that is taken, seen from behind the length of the record
+abbrev taken : tie.After-record-length → tie.Else2
+taken c = c .before .before .before
+
+-- where the record is whole, seen from behind the host call
+abbrev parted : tie.After-evolmino-find → tie.Else3
+parted c = c .before .before .before .before
+
 returns : tie.Need-returns
 returns c =
     let s = c .before .before .before in
@@ -38,8 +46,8 @@ add-decisions c = search needs
 
 returns-3 : tie.Need-returns-3
 returns-3 c =
-    let s = c .before .before .before .before .before .before .before .before in
-    let tests = c .before .before .before .before in
+    let tests = taken (c .before) in
+    let s = tests .before .before .before .before in
     refused-told (s .args .found .now)
     (cut-short (s .args .input .now) (tests .before .if1 .left) (tests .if2 .left) (omega (arith, c .if3 .taken, c .before .record-length .ensures .0)))
 
@@ -69,10 +77,11 @@ same-length c = search needs
 
 returns-4 : tie.Need-returns-4
 returns-4 c =
-    let s = c .before .before .before .before .before .before .before .before .before .before .before .before .before .before in
-    let n = c .before .before .before .before .before .before .before .record-length in
-    let tests = c .before .before .before .before .before .before .before .before .before .before in
-    let e = whole-parts (s .args .input .now) (tests .before .if1 .left) (n .result) (length (s .args .found .now)) (n .ensures .0) (s .pre) (c .before .before .before .before .before .before .if3 .left) in
+    let whole = parted (c .before .before) in
+    let n = whole .before .record-length in
+    let tests = taken (whole .before) in
+    let s = tests .before .before .before .before in
+    let e = whole-parts (s .args .input .now) (tests .before .if1 .left) (n .result) (length (s .args .found .now)) (n .ensures .0) (s .pre) (whole .if3 .left) in
     let f = c .before .before .evolmino-find in
     (toZ-ofZ w32 (f .result) (record { sfits = f .ok }) ∙ f .ensures .0 ∙ ap returned e, f .ensures .1 ∙ ap (λ (o : Outcome Found). outputAfter o (s .args .found .now)) e)
 
