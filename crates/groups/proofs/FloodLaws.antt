@@ -5,35 +5,26 @@ use native.Mathlib.Decide.{decLt}
 use native.Mathlib.Nat.{div-add-mod'}
 use native.Mathlib.Omega.{arith}
 use mathlib.Core.Path.{_≡_, refl, sym, ap, _∙_}
-use mathlib.Core.Bool.{Bool, true, false, So, cond, false≢true}
+use mathlib.Core.Bool.{Bool, true, false, So, cond}
 use mathlib.Core.Logic.{_⊎_, inl, inr}
 use mathlib.Core.List.{List, [], _∷_, List·Memᴰ, List·Memᴰ·head, List·Memᴰ·append-cases, List·Memᴰ·not-nil, List·Memᴰ·eq-of-singleton}
-use lib.ListN.{length, getD, set, length-set, replicate, length-replicate, getD-replicate, List·getD-eq-default}
+use lib.ListN.{length, getD, set, length-set, replicate, length-replicate, getD-replicate}
 use lib.Seq.{getD-set-same, getD-set-other}
 use Rattle.grid.specs.Link.{here, step}
-use Rattle.grid.proofs.LinkLaws.{linked-end}
-use Rattle.grid.specs.Grid.{Adjacent, Grid, size, neighbours}
+use Rattle.grid.specs.Grid.{Grid, size, cellsOf, neighbours}
 use Rattle.grid.specs.Side.{sized, besideOf, InPlace}
 use Rattle.grid.specs.declared.Side.the-variants.{At}
-use Rattle.grid.proofs.GridLaws.{adj-sym}
 use Rattle.grid.proofs.SideLaws.{area, in-place, in-grid, beside-at, beside-in, towards-mem}
 use Rattle.grid.proofs.AroundLaws.{gathered, gathered-next, gathered-same, gathered-all}
-use Rattle.grid.proofs.ListLaws.{place-in}
+use Rattle.grid.proofs.ListLaws.{split, so-false, place-in}
 use Rattle.grid.proofs.AppendLaws.{by-eq}
+use Rattle.grid.proofs.FilledLaws.{filled-is}
 use Rattle.grid.proofs.ArrayLaws.{Entry, hit, miss, entry-at, fewer-set, how-many-le}
 use Rattle.groups.specs.Groups.{Joined}
-use Rattle.groups.specs.Arrays.{noGroup}
-use Rattle.groups.specs.Flood.{unlabelled, free, Marked, Only, Offered, skip, take, OfferedSide, beyond, within, Kept, same, new, Shut, Flooding, Right, none, out, some, Sofar, Spread, Ready}
-use Rattle.groups.proofs.GroupLaws.{linked-size}
-use Rattle.groups.proofs.LabelLaws.{Components}
-
--- a label that is there stays
-set-stays : (L : List ℕ) (q s : ℕ) → s < 1024 → getD L q 0 ≡ unlabelled → (k : ℕ) → (getD L k 0 ≡ unlabelled → ⊥) → getD (set L q s) k 0 ≡ unlabelled → ⊥
-set-stays L q s small u k h = go (entry-at L q s k (place-in L q (omega arith)))
-  where
-    go : Entry L q s k → getD (set L q s) k 0 ≡ unlabelled → ⊥
-    go (hit e v) x = omega (arith, v, x)
-    go (miss ne v) x = h (sym v ∙ x)
+use Rattle.groups.specs.Arrays.{noGroup, labelAt, labelArray}
+use Rattle.groups.specs.Flood.{unlabelled, free, Only, Unlabelled, same, Shut, Walked, Sofar, Marked, Offered, skip, take, OfferedSide, beyond, within, Flooding, Spread, Ready}
+use Rattle.groups.proofs.GroupLaws.{label}
+use Rattle.groups.proofs.LabellingLaws.{set-still, kept-still, kept-set, kept-then, sofar-label}
 
 -- what one offer does
 module _ {q s : ℕ} {L st : List ℕ} {c : ℕ} {L′ st′ : List ℕ} {r : ℕ} (small : s < 1024) where
@@ -47,23 +38,23 @@ module _ {q s : ℕ} {L st : List ℕ} {c : ℕ} {L′ st′ : List ℕ} {r : �
 
   offered-stays : Offered q s L st c L′ st′ r → (k : ℕ) → (getD L k 0 ≡ unlabelled → ⊥) → getD L′ k 0 ≡ unlabelled → ⊥
   offered-stays (skip no-go l t e) k h = rw l h
-  offered-stays (take u l t e) k h = rw l (set-stays L q s small u k h)
+  offered-stays (take u l t e) k h = rw l (λ x. h (set-still L q s u k x))
 
   pub offered-labelled : Offered q s L st c L′ st′ r → getD L′ q 0 ≡ unlabelled → ⊥
   offered-labelled (skip no-go l t e) = rw l no-go
   offered-labelled (take u l t e) = rw l (λ x. omega (arith, x, getD-set-same L q s 0 (place-in L q (omega arith))))
 
-  pub offered-keeps :
+  offered-keeps :
       {g : Grid} {p : ℕ → Bool} {L₀ : List ℕ} {i : ℕ} → Offered q s L st c L′ st′ r → (So (p q) → Joined g p s q) → Flooding g p s L₀ i L st c
       → Flooding g p s L₀ i L′ st′ r
   offered-keeps {g} {p} {L₀} {i} (skip no-go l t e) linked F = rw (l, t, e) (record {
-    labels-long = F .labels-long;
+    long = F .long;
     stack-long = length-set st c q ∙ F .stack-long;
     room = F .room;
     only = F .only;
     kept = F .kept;
     waiting = λ t h. rw (getD-set-other st c t q 0 (λ f. omega (arith, f))) (F .waiting t h);
-    done = λ j h x gone. F .done j h x (λ t b y. gone t b (getD-set-other st c t q 0 (λ f. omega (arith, f)) ∙ y));
+    done = λ j was x gone. F .done j was x (λ t b y. gone t b (getD-set-other st c t q 0 (λ f. omega (arith, f)) ∙ y));
   })
   offered-keeps {g} {p} {L₀} {i} (take u l t e) linked F = rw (l, t, e) moved
     where
@@ -77,40 +68,26 @@ module _ {q s : ℕ} {L st : List ℕ} {c : ℕ} {L′ st′ : List ℕ} {r : �
       c-in = omega (arith, fewer-set L q s u apart (omega arith), F .room, F .stack-long)
 
       joined : Joined g p s q
-      joined = linked (F .only q u .1)
-
-      was : Kept g p s L₀ L q → getD L₀ q 0 ≡ unlabelled
-      was (same k) = sym k ∙ u
-      was (new k₀ k n) = k₀
-
-      kept′ : (j : ℕ) → Kept g p s L₀ L j → Entry L q s j → Kept g p s L₀ (set L q s) j
-      kept′ j k (hit e v) = new (rw e (was (F .kept q))) v (rw e joined)
-      kept′ j (same k) (miss ne v) = same (v ∙ k)
-      kept′ j (new k₀ k n) (miss ne v) = new k₀ (v ∙ k) n
-
-      only′ : (j : ℕ) → getD (set L q s) j 0 ≡ unlabelled → Entry L q s j → (j < size g) × So (p j)
-      only′ j x (hit e v) = absurd (omega (arith, x, v))
-      only′ j x (miss ne v) = F .only j (sym v ∙ x)
+      joined = linked (F .only q (kept-still (F .kept q) u))
 
       waiting′ : (t : ℕ) → t < c + 1 → Entry st c q t → Joined g p s (getD (set st c q) t 0)
       waiting′ t h (hit e v) = rw v joined
       waiting′ t h (miss ne v) = rw v (F .waiting t (omega (arith, ne)))
 
-      done′ : (j : ℕ) → j < size g → getD (set L q s) j 0 ≡ s → ((t : ℕ) → t < c + 1 → getD (set st c q) t 0 ≡ j → ⊥) → (j ≡ i → ⊥) → Entry L q s j → Shut g p (set L q s) j
-      done′ j h x gone ne (hit e v) k side o′ = absurd (gone c (omega arith) (getD-set-same st c q 0 c-in ∙ sym e))
-      done′ j h x gone ne (miss a v) k side o′ =
-          set-stays L q s small u k
-          (F .done j h (sym v ∙ x) (λ t b y. gone t (omega arith) (getD-set-other st c t q 0 (λ f. omega (arith, f)) ∙ y)) ne k side o′)
+      done′ : (j : ℕ) → getD L₀ j 0 ≡ unlabelled → getD (set L q s) j 0 ≡ s → ((t : ℕ) → t < c + 1 → getD (set st c q) t 0 ≡ j → ⊥) → (j ≡ i → ⊥) → Entry L q s j → Shut g p (set L q s) j
+      done′ j was x gone ne (hit e v) k side o′ y = absurd (gone c (omega arith) (getD-set-same st c q 0 c-in ∙ sym e))
+      done′ j was x gone ne (miss a v) k side o′ y =
+          F .done j was (sym v ∙ x) (λ t b z. gone t (omega arith) (getD-set-other st c t q 0 (λ f. omega (arith, f)) ∙ z)) ne k side o′ (set-still L q s u k y)
 
       moved : Flooding g p s L₀ i (set L q s) (set st c q) (c + 1)
       moved = record {
-        labels-long = length-set L q s ∙ F .labels-long;
+        long = length-set L q s ∙ F .long;
         stack-long = length-set st c q ∙ F .stack-long;
         room = omega (arith, fewer-set L q s u apart (omega arith), F .room);
-        only = λ j x. only′ j x (entry-at L q s j q-in);
-        kept = λ j. kept′ j (F .kept j) (entry-at L q s j q-in);
+        only = F .only;
+        kept = λ j. kept-then (F .kept j) (kept-set u joined j);
         waiting = λ t h. waiting′ t h (entry-at st c q t c-in);
-        done = λ j h x gone ne. done′ j h x gone ne (entry-at L q s j q-in);
+        done = λ j was x gone ne. done′ j was x gone ne (entry-at L q s j q-in);
       }
 
 -- a neighbour is an entry
@@ -165,24 +142,25 @@ module _ {g : Grid} {p : ℕ → Bool} {s i : ℕ} {L st : List ℕ} {c : ℕ} w
 module _ {g : Grid} {p : ℕ → Bool} {s : ℕ} {L₀ : List ℕ} (fits : size g ≤ 1024) where
   pop : {L st : List ℕ} {c : ℕ} → 0 < c → Flooding g p s L₀ 1024 L st c → Flooding g p s L₀ (getD st (c - 1) 0) L st (c - 1)
   pop {L} {st} {c} pos F = record {
-    labels-long = F .labels-long;
+    long = F .long;
     stack-long = F .stack-long;
     room = omega (arith, F .room);
     only = F .only;
     kept = F .kept;
     waiting = λ t h. F .waiting t (omega arith);
-    done = λ j h x gone ne. F .done j h x (λ t b y. by-eq t (c - 1) (λ e. ne (sym y ∙ ap (λ (m : ℕ). getD st m 0) e)) (λ e. gone t (omega arith) y)) (λ e. omega arith);
+    done = λ j was x gone ne k side.
+        F .done j was x (λ t b y. by-eq t (c - 1) (λ e. ne (sym y ∙ ap (λ (m : ℕ). getD st m 0) e)) (λ e. gone t (omega arith) y)) (λ e. omega (arith, side .0)) k side;
   }
 
   close : {L st : List ℕ} {c i : ℕ} → Shut g p L i → Flooding g p s L₀ i L st c → Flooding g p s L₀ 1024 L st c
   close {L} {st} {c} {i} shut F = record {
-    labels-long = F .labels-long;
+    long = F .long;
     stack-long = F .stack-long;
     room = F .room;
     only = F .only;
     kept = F .kept;
     waiting = F .waiting;
-    done = λ j h x gone ne. by-eq j i (λ e. rw e shut) (λ a. F .done j h x gone a);
+    done = λ j was x gone ne. by-eq j i (λ e. rw e shut) (λ a. F .done j was x gone a);
   }
 
   spread-keeps :
@@ -211,70 +189,32 @@ spread-does {h} {w} {i = i} ready at-top O = record {
   falls = omega (arith, ready .count, O .falls);
 }
 
--- the floods from the cells below s are done, and so is that from s
-module _ {g : Grid} {p : ℕ → Bool} {s : ℕ} {L₀ : List ℕ} (fits : size g ≤ 1024) (on : s < size g) (S : Sofar g p s L₀) where
-  no-seed-yet : (j : ℕ) → j < size g → getD L₀ j 0 ≡ s → ⊥
-  no-seed-yet j h x = go (S .right j (omega arith))
-    where
-      go : Right g p s L₀ j → ⊥
-      go (none e) = omega (arith, e, x)
-      go (out e never) = omega (arith, e, x)
-      go (some lt le n) = omega (arith, lt, x)
+-- before the first turn of a flood's loop: s has been offered
+pub flood-starts :
+    {g : Grid} {p : ℕ → Bool} {s : ℕ} {L₀ st₀ L st : List ℕ} {c : ℕ} → s < 1024 → (length L₀ ≡ 1024) × (length st₀ ≡ 1025)
+    → Offered s s L₀ st₀ 0 L st c → Only p L₀ → Flooding g p s L₀ 1024 L st c
+flood-starts {L₀ = L₀} small long o only = offered-keeps small o here (record {
+  long = refl;
+  stack-long = long .1;
+  room = omega (arith, how-many-le unlabelled L₀, long .0);
+  only = only;
+  kept = λ j. same refl;
+  waiting = λ t h. absurd (omega (arith, h));
+  done = λ j was x. absurd (omega (arith, was, x));
+})
 
-  pub flood-starts : (st : List ℕ) → length st ≡ 1025 → Flooding g p s L₀ 1024 L₀ st 0
-  flood-starts st long = record {
-    labels-long = S .labels-long;
-    stack-long = long;
-    room = omega (arith, how-many-le unlabelled L₀, S .labels-long);
-    only = S .only;
-    kept = λ j. same refl;
-    waiting = λ t h. absurd (omega (arith, h));
-    done = λ j h x gone ne. absurd (no-seed-yet j h x);
-  }
-
-  flood-ends :
-      {L : List ℕ} → length L ≡ 1024 → Only g p L → ((j : ℕ) → Kept g p s L₀ L j) → ((j : ℕ) → j < size g → getD L j 0 ≡ s → Shut g p L j)
-      → (So (p s) → getD L s 0 ≡ unlabelled → ⊥) → Sofar g p (s + 1) L
-  flood-ends {L} long only kept shut seed = record { labels-long = long; only = only; right = λ j h. right′ j (S .right j h) (kept j); full = full′; closed = closed′ }
-    where
-      first : (j : ℕ) → getD L₀ j 0 ≡ unlabelled → So (p j) → s ≤ j
-      first j u o = by-lt (decLt j s)
-        where
-          by-lt : Dec (j < s) → s ≤ j
-          by-lt (yes h) = absurd (S .full j h o u)
-          by-lt (no h) = omega (arith, h)
-
-      right′ : (j : ℕ) → Right g p s L₀ j → Kept g p s L₀ L j → Right g p (s + 1) L j
-      right′ j a (new u v n) = some (omega (arith, v)) (omega (arith, v, first j u (linked-end n))) (rw v n)
-      right′ j (none u) (same v) = none (v ∙ u)
-      right′ j (out u never) (same v) = out (v ∙ u) never
-      right′ j (some lt le n) (same v) = some (omega (arith, v, lt)) (omega (arith, v, le)) (rw v n)
-
-      stays : (j : ℕ) → (getD L₀ j 0 ≡ unlabelled → ⊥) → getD L j 0 ≡ getD L₀ j 0
-      stays j ne = go (kept j)
-        where
-          go : Kept g p s L₀ L j → getD L j 0 ≡ getD L₀ j 0
-          go (same v) = v
-          go (new u v n) = absurd (ne u)
-
-      full′ : (j : ℕ) → j < s + 1 → So (p j) → getD L j 0 ≡ unlabelled → ⊥
-      full′ j h o x = by-eq j s (λ q. seed (rw q at o) (rw q at x)) (λ ne. let old = S .full j (omega arith) o in old (sym (stays j old) ∙ x))
-
-      closed′ : (j k : ℕ) → Adjacent g j k → So (p j) → So (p k) → (getD L j 0 ≡ unlabelled → ⊥) → getD L k 0 ≡ getD L j 0
-      closed′ j k side oj ok lab = go (kept j) (kept k)
-        where
-          go : Kept g p s L₀ L j → Kept g p s L₀ L k → getD L k 0 ≡ getD L j 0
-          go (same v) b =
-              let lab₀ : getD L₀ j 0 ≡ unlabelled → ⊥ = λ x. lab (v ∙ x) in
-              let e₀ = S .closed j k side oj ok lab₀ in
-              stays k (λ x. lab₀ (sym e₀ ∙ x)) ∙ e₀ ∙ sym v
-          go (new u v n) (new u′ v′ n′) = v′ ∙ sym v
-          go (new u v n) (same v′) =
-              let lab₀ : getD L₀ k 0 ≡ unlabelled → ⊥ = λ x. shut j (side .0) v k side ok (v′ ∙ x) in
-              absurd (lab₀ (sym (S .closed k j (adj-sym g j k side) ok oj lab₀) ∙ u))
-
-  pub flooding-ends : {L st : List ℕ} {c : ℕ} → c ≡ 0 → Flooding g p s L₀ 1024 L st c → (So (p s) → getD L s 0 ≡ unlabelled → ⊥) → Sofar g p (s + 1) L
-  flooding-ends e F seed = flood-ends (F .labels-long) (F .only) (F .kept) (λ j h x. F .done j h x (λ t b y. omega arith) (λ q. omega arith)) seed
+-- after the last
+pub flood-ends :
+    {g : Grid} {p : ℕ → Bool} {s : ℕ} {L₀ L st : List ℕ} {c : ℕ} → size g ≤ 1024 → c ≡ 0 → Flooding g p s L₀ 1024 L st c
+    → (getD L s 0 ≡ unlabelled → ⊥) → Walked g p s s L₀ L
+flood-ends fits e F seed = record {
+  added = record {
+    long = F .long;
+    kept = F .kept;
+    done = λ j was x k side. F .done j was x (λ t b y. omega arith) (λ q. omega (arith, side .0)) k side;
+  };
+  seed = λ _. seed;
+}
 
 -- the cells are told one after the other
 pub marked-none : (p : ℕ → Bool) → Marked p 0 (replicate 1024 noGroup)
@@ -294,65 +234,29 @@ marked-more {p} {i} {v} {L} h e T = record { long = length-set L i v ∙ T .long
     behind′ j b l (hit q x) = absurd (omega (arith, q))
     behind′ j b l (miss ne x) = x ∙ T .behind j (omega arith) l
 
--- an entry that tells whether its cell passes
-marked-so : (b : Bool) → cond b unlabelled noGroup ≡ unlabelled → So b
-marked-so true e = refl
-marked-so false e = absurd (omega (arith, e))
-
--- before the first flood, and after the last
-module _ (g : Grid) {p : ℕ → Bool} {L : List ℕ} (fits : size g ≤ 1024) (T : Marked p (size g) L) where
-  marked-only : Only g p L
-  marked-only j e = go (decLt j (size g)) (decLt j 1024)
+-- before the first flood, and after the last. L₀ are the labels before the first, and only cells of the grid pass
+module _ (g : Grid) {p : ℕ → Bool} {L₀ : List ℕ} (fits : size g ≤ 1024) (on : (j : ℕ) → So (p j) → j < size g) (T : Marked p (size g) L₀) where
+  marked-out : (j : ℕ) → j < 1024 → p j ≡ false → getD L₀ j 0 ≡ noGroup
+  marked-out j h f = go (decLt j (size g))
     where
-      go : Dec (j < size g) → Dec (j < 1024) → (j < size g) × So (p j)
-      go (yes l) _ = (l, marked-so (p j) (sym (T .below j l) ∙ e))
-      go (no l) (yes h) = absurd (omega (arith, e, T .behind j (omega arith) h))
-      go (no l) (no h) = absurd (omega (arith, e, List·getD-eq-default L 0 {n = j} (omega (arith, T .long))))
+      go : Dec (j < size g) → getD L₀ j 0 ≡ noGroup
+      go (yes l) = T .below j l ∙ rw f
+      go (no l) = T .behind j (omega arith) h
 
-  marked-yet : (j : ℕ) → j < size g → So (p j) → getD L j 0 ≡ unlabelled
-  marked-yet j l o = T .below j l ∙ rw o
-
-  pub sofar-none : Sofar g p 0 L
-  sofar-none = record {
-    labels-long = T .long;
-    only = marked-only;
-    right = λ j h. right′ j h (decLt j (size g));
-    full = λ j h. absurd (omega (arith, h));
-    closed = λ j k side oj ok lab. absurd (lab (marked-yet j (side .0) oj));
-  }
+  pub marked-yet : Unlabelled p L₀
+  marked-yet = record { only = λ j e. only′ j e (split (p j)); all = λ j o. T .below j (on j o) ∙ rw o }
     where
-      by : (j : ℕ) → j < size g → (b : Bool) → p j ≡ b → Right g p 0 L j
-      by j l true e = none (marked-yet j l e)
-      by j l false e = out (T .below j l ∙ rw e) (λ q. false≢true (sym e ∙ q .1))
+      only′ : (j : ℕ) → getD L₀ j 0 ≡ unlabelled → (p j ≡ true) ⊎ (p j ≡ false) → So (p j)
+      only′ j e (inl o) = o
+      only′ j e (inr f) = absurd (omega (arith, e, marked-out j (omega (arith, place-in L₀ j (omega (arith, e)), T .long)) f))
 
-      right′ : (j : ℕ) → j < 1024 → Dec (j < size g) → Right g p 0 L j
-      right′ j h (yes l) = by j l (p j) refl
-      right′ j h (no l) = out (T .behind j (omega arith) h) (λ q. l (q .0))
+  pub flooded : {L : List ℕ} → Sofar g p L₀ (size g) L → L ≡ labelArray g p
+  unfolding labelArray labelAt cellsOf
+  flooded {L} S = filled-is noGroup (labelAt g p) (size g) L fits (S .long ∙ T .long) (λ i l. front i l (split (p i))) (λ i l h. out i h (so-false (p i) (λ o. omega (arith, on i o))))
+    where
+      out : (i : ℕ) → i < 1024 → p i ≡ false → getD L i 0 ≡ noGroup
+      out i h f = S .others i f ∙ marked-out i h f
 
-module _ {g : Grid} {p : ℕ → Bool} {L : List ℕ} (fits : size g ≤ 1024) (S : Sofar g p (size g) L) where
-  own′ : (i : ℕ) → i < size g → So (p i) → Right g p (size g) L i → Joined g p (getD L i 0) i
-  own′ i h o (none u) = absurd (S .full i h o u)
-  own′ i h o (out u never) = absurd (never (h, o))
-  own′ i h o (some lt le n) = n
-
-  alike : {i j : ℕ} → i < size g → Joined g p i j → getD L j 0 ≡ getD L i 0
-  alike h (here o) = refl
-  alike h (step {i = j} {j = k} n side o) = S .closed j k side (linked-end n) o (S .full j (side .0) (linked-end n)) ∙ alike h n
-
-  least′ : (j : ℕ) → j < size g → So (p j) → Right g p (size g) L j → getD L j 0 ≤ j
-  least′ j h o (none u) = absurd (S .full j h o u)
-  least′ j h o (out u never) = absurd (never (h, o))
-  least′ j h o (some lt le n) = le
-
-  none′ : (i : ℕ) → ((i < size g) × So (p i) → ⊥) → Right g p (size g) L i → getD L i 0 ≡ noGroup
-  none′ i ne (none u) = absurd (ne (S .only i u))
-  none′ i ne (out u never) = u
-  none′ i ne (some lt le n) = absurd (ne (linked-size g p lt n, linked-end n))
-
-  pub components : Components g p L
-  components = record {
-    long = S .labels-long;
-    own = λ i h o. own′ i h o (S .right i (omega arith));
-    least = λ i j h n. let k = linked-size g p h n in rw (← (alike h n)) (least′ j k (linked-end n) (S .right j (omega (arith, k))));
-    none = λ i h ne. none′ i ne (S .right i h);
-  }
+      front : (i : ℕ) → i < size g → (p i ≡ true) ⊎ (p i ≡ false) → getD L i 0 ≡ cond (p i) (label g p i) noGroup
+      front i l (inl o) = sofar-label on S i o ∙ rw o
+      front i l (inr f) = out i (omega arith) f ∙ rw f

@@ -10,7 +10,7 @@ ghost use Rattle.grid.specs.Lists.{member};
 ghost use Rattle.grid.specs.Marks.{Marks};
 ghost use Rattle.grid.specs.Side.{InGrid, InPlace, sized, besideOf};
 ghost use Rattle.groups.specs.Arrays.{Line, labelArray, noGroup, counts};
-ghost use Rattle.groups.specs.Flood.{unlabelled, free, Marked, Offerable, Offered, OfferedSide, Ready, Spread, Sofar};
+ghost use Rattle.groups.specs.Flood.{unlabelled, free, Only, Walked, Offerable, Marked, Offered, OfferedSide, Spread, Ready};
 
 // The label of a cell that is in no group.
 const NO_GROUP: u16 = 1024;
@@ -124,9 +124,8 @@ fn spread(
 // Labels the group of cell s with s, unless s is in no group or has a label.
 fn flood(labels: &mut [u16; 1024], stack: &mut [u16; 1025], h: usize, w: usize, s: usize)
     requires { ⌜ InGrid h w s ⌝ }
-    requires { ⌜ ((p : ℕ → Bool) × Sofar (sized h w) p s (now labels)) ⌝ }
-    requires { ⌜ length (now stack) ≡ 1025 ⌝ }
-    ensures { λ _. ⌜ ((p : ℕ → Bool) → Sofar (sized h w) p s (now (labels .entry)) → Sofar (sized h w) p (s + 1) (now (labels .exit))) ⌝ }
+    requires { ⌜ (length (now labels) ≡ 1024) × (length (now stack) ≡ 1025) ⌝ }
+    ensures { λ _. ⌜ ((p : ℕ → Bool) → Only p (now (labels .entry)) → Walked (sized h w) p s s (now (labels .entry)) (now (labels .exit))) ⌝ }
     ensures { λ _. ⌜ length (now (stack .exit)) ≡ 1025 ⌝ }
 {
     let seed = s as u16;

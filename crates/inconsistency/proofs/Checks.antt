@@ -2,7 +2,7 @@
 -- Assumes nothing.
 use Prim.Native.Nat.{ℕ, suc, _*_, _≤_, _<_}
 use mathlib.Core.Bool.{true, false}
-use mathlib.Core.Path.{_≡_, refl, subst, _∙_}
+use mathlib.Core.Path.{_≡_, refl, subst}
 use mathlib.Core.List.{List, List·Memᴰ}
 use lib.ListN.{length, getD, take}
 use lib.Seq.{take-suc}
@@ -18,7 +18,6 @@ use Rattle.record.specs.Problem.{arrowCells}
 use Rattle.groups.specs.Arrows.{onArrow}
 use Rattle.groups.specs.Arrays.{Line, linesOf, maskOf, labelArray, counts}
 use Rattle.groups.proofs.MarkLaws.{arrow-marks}
-use Rattle.groups.proofs.LabelLaws.{labels-potential, labels-blocks}
 use Rattle.kinds.specs.Inside.{puzzleWith}
 use Rattle.kinds.specs.Kinds.{view}
 use Rattle.literals.specs.declared.Finding.{Finding}
@@ -64,17 +63,13 @@ module _ (h w : ℕ) (tall : h ≤ 32) (wide : w ≤ 32) {arrows ends : List ℕ
   -- the potential groups and the blocks that were labelled
   pub potentials-held : (cells : List ℕ) {labels onarrow : List ℕ} → labels ≡ labelArray (sized h w) (counts true (take (h * w) cells)) → Marks onarrow (λ i. member i (take total arrows))
       → PotentialArrays (puzzleWith (sized h w) (linesOf arrows ends number)) (take (h * w) cells) labels onarrow
-  potentials-held cells l m = record {
-    groups-are = l ∙ labels-potential (sized h w) (take (h * w) cells) (rw (← sized-size h w) (area h w tall wide));
-    arrows-are = marks-are m;
-  }
+  unfolding counts
+  potentials-held cells l m = record { groups-are = l; arrows-are = marks-are m }
 
   pub blocks-held : (cells : List ℕ) {labels onarrow : List ℕ} → labels ≡ labelArray (sized h w) (counts false (take (h * w) cells)) → Marks onarrow (λ i. member i (take total arrows))
       → BlockArrays (puzzleWith (sized h w) (linesOf arrows ends number)) (take (h * w) cells) labels onarrow
-  blocks-held cells l m = record {
-    groups-are = l ∙ labels-blocks (sized h w) (take (h * w) cells) (rw (← sized-size h w) (area h w tall wide));
-    arrows-are = marks-are m;
-  }
+  unfolding counts
+  blocks-held cells l m = record { groups-are = l; arrows-are = marks-are m }
 
 -- ---- one search after another
 

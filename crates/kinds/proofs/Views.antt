@@ -4,7 +4,7 @@ use Prim.Native.Nat.{ℕ, _*_, _≤_, _<_}
 use native.Mathlib.Decide.{decLt}
 use native.Mathlib.Omega.{arith}
 use mathlib.Core.Logic.{_⊎_, inl, inr}
-use mathlib.Core.Path.{_≡_, refl, sym, ap, _∙_}
+use mathlib.Core.Path.{_≡_, refl, sym, ap, _∙_, fun-ext}
 use mathlib.Core.Bool.{Bool, true, false, So, cond, _&&_, false≢true}
 use mathlib.Core.List.{List, [], _∷_, map, List·Memᴰ, List·Memᴰ·head, List·Memᴰ·tail}
 use lib.Dec.{eqb, ltb}
@@ -22,15 +22,16 @@ use Rattle.record.specs.Record.{Puzzle}
 use Rattle.grid.specs.Cells.{empty, square}
 use Rattle.groups.specs.Groups.{labels}
 use Rattle.groups.specs.Arrays.{labelAt}
+use Rattle.groups.specs.Flood.{Unlabelled, Sofar}
 use Rattle.groups.proofs.GroupLaws.{label-least}
 use Rattle.groups.proofs.MarkLaws.{mask-test}
 use Rattle.groups.proofs.LabelLaws.{label-at}
+use Rattle.groups.proofs.LabellingLaws.{sofar-label}
 use Rattle.kinds.specs.Kinds.{Kind, vacant, barrier, floating, inBlock, neighbour, isFloating, kindTouching, arrowBlock, blocksTouched, kindAt, kindsOf, has, view, viewWith}
 use Rattle.kinds.specs.Arrays.{kindCode, ownerBy, kindArray, ownerArray}
-use Rattle.kinds.specs.Inside.{puzzleWith, arrowBlockAt, arrowBlocksAt, kindIn, codesIn, ownersIn, Given, Held, unnamed, Unnamed, Sofar}
+use Rattle.kinds.specs.Inside.{puzzleWith, arrowBlockAt, arrowBlocksAt, kindIn, codesIn, ownersIn, Given, Held, unnamed}
 use Rattle.kinds.proofs.Filled.{owners-length}
 use Rattle.kinds.proofs.BlockArrays.{kind-get, kind-past}
-use Rattle.kinds.proofs.Traversal.{sofar-labels}
 
 -- the number of the kind is that of floating cells
 unfoldable pub floats : List ℕ → ℕ → Bool
@@ -181,7 +182,7 @@ module _ (blocks A : List ℕ) (g : Grid) (values : List ℕ) (n : ℕ) (small :
       by (no l) (no m) = absurd (omega (arith, h, List·getD-eq-default (ownersIn blocks A g values n) 0 {n = i} (omega (arith, owners-length blocks A g values n small))))
 
   -- the floating cells, and no others, have no name
-  pub none-named : (K L : List ℕ) → K ≡ codesIn blocks A g values n → L ≡ ownersIn blocks A g values n → Unnamed (floats K) L
+  pub none-named : (K L : List ℕ) → K ≡ codesIn blocks A g values n → L ≡ ownersIn blocks A g values n → Unlabelled (floats K) L
   none-named K L e q = rw (e, q) (record { only = unnamed-floats; all = floats-unnamed })
 
 -- ---- the view, from the arrays of the kinds and owners of its cells. values is the array of the cells
@@ -279,7 +280,7 @@ module _ (p : Puzzle) (small : size (p .grid) ≤ 1024) (values blocks A : List 
       long = owners-length blocks A grid values (size grid) small
 
       by : (i : ℕ) → i < size grid → (floats K i ≡ true) ⊎ (floats K i ≡ false) → getD L i 0 ≡ ownerBy (getD (labels grid (has isFloating kinds)) i 0) (kind i)
-      by i l (inl h) = sofar-labels float-on S (has isFloating kinds) float-is i h ∙ owner-floating (kind i) _ (sym (float-in i l) ∙ h)
+      by i l (inl h) = sofar-label float-on S i h ∙ ap (λ (q : ℕ → Bool). getD (labels grid q) i 0) (fun-ext float-is) ∙ owner-floating (kind i) _ (sym (float-in i l) ∙ h)
       by i l (inr h) = S .others i h ∙ owner-at i l ∙ owner-other (kind i) _ (sym (float-in i l) ∙ h)
 
       front : (i : ℕ) → i < size grid → getD L i 0 ≡ ownerBy (getD (labels grid (has isFloating kinds)) i 0) (getD kinds i vacant)

@@ -2,19 +2,19 @@
 -- Assumes nothing.
 use Prim.Native.Nat.{ℕ, _≤_, _<_}
 use mathlib.Core.Path.{_≡_}
-use mathlib.Core.Bool.{Bool, true, false, So, cond, _&&_, _||_}
+use mathlib.Core.Bool.{Bool, true, false, cond, _&&_, _||_}
 use mathlib.Core.List.{List, [], map, List·Memᴰ}
 use lib.Dec.{eqb, ltb}
-use lib.ListN.{length, getD}
+use lib.ListN.{getD}
 use Rattle.grid.specs.Lists.{upto, any, filter, once, arrayOf}
 use Rattle.grid.specs.Marks.{Marks}
-use Rattle.grid.specs.Grid.{Grid, neighbours, Adjacent}
+use Rattle.grid.specs.Grid.{Grid, neighbours}
 use Rattle.grid.specs.Side.{InGrid}
 use Rattle.record.specs.Record.{Puzzle}
 use Rattle.grid.specs.Cells.{square}
-use Rattle.groups.specs.Groups.{Joined, labels}
+use Rattle.groups.specs.Groups.{labels}
 use Rattle.groups.specs.Arrays.{noGroup, labelArray, maskOf}
-use Rattle.groups.specs.Flood.{unlabelled, free}
+use Rattle.groups.specs.Flood.{unlabelled}
 use Rattle.kinds.specs.Kinds.{Kind, vacant, barrier, floating, inBlock, neighbour, kindTouching, arrowBlock, View}
 use Rattle.kinds.specs.Arrays.{kindCode, ownerBy, kindArray, ownerArray}
 use Rattle.kinds.specs.declared.Owner.{Owner}
@@ -115,49 +115,7 @@ unnamed = unlabelled
 unfoldable pub ownersIn : List ℕ → List ℕ → Grid → List ℕ → ℕ → List ℕ
 ownersIn blocks arrowed g cells k = arrayOf noGroup (map (λ i. ownerBy unnamed (kindIn blocks arrowed g cells i)) (upto k))
 
--- ---- the walk over a floating group. L are the groups before, L′ after; name is the group's name
-
-module _ (g : Grid) (p : ℕ → Bool) (i name : ℕ) (L L′ : List ℕ) where
-  -- the group of j is as it was, or is new, and j is joined to i
-  pub data Kept (j : ℕ) : Type 0 where
-    same : getD L′ j 0 ≡ getD L j 0 → Kept j
-    named : getD L j 0 ≡ unnamed → getD L′ j 0 ≡ name → Joined g p i j → Kept j
-
-  -- cells joined to i were named, and every neighbour of each that passes has a group
-  pub record Grown : Type 0 where
-    pub long : length L′ ≡ length L
-    pub fewer : free L′ ≤ free L
-    pub kept : (j : ℕ) → Kept j
-    pub done : (j : ℕ) → getD L j 0 ≡ unnamed → getD L′ j 0 ≡ name → (k : ℕ) → Adjacent g j k → So (p k) → getD L′ k 0 ≡ unnamed → ⊥
-
-  -- what a walk from i does
-  pub record Walked : Type 0 where
-    pub grown : Grown
-    pub seed : So (p i) → getD L′ i 0 ≡ unnamed → ⊥
-
--- what a walk asks
+-- what a walk over a floating group asks
 pub record Walkable (h w i name : ℕ) : Type 0 where
   pub cell : InGrid h w i
   pub small : name < 1024
-
--- only cells that pass have no name yet
-abbrev pub OnlyUnnamed : (ℕ → Bool) → List ℕ → Type 0
-OnlyUnnamed p L = (j : ℕ) → getD L j 0 ≡ unnamed → So (p j)
-
--- the cells that pass, and no others, have no name yet
-pub record Unnamed (p : ℕ → Bool) (L : List ℕ) : Type 0 where
-  pub only : OnlyUnnamed p L
-  pub all : (j : ℕ) → So (p j) → getD L j 0 ≡ unnamed
-
--- the entry at j is no name yet, or a name below s: that of a cell joined to j that does not come behind j
-pub data Right (g : Grid) (p : ℕ → Bool) (s : ℕ) (L : List ℕ) (j : ℕ) : Type 0 where
-  none : getD L j 0 ≡ unnamed → Right g p s L j
-  some : getD L j 0 < s → getD L j 0 ≤ j → Joined g p (getD L j 0) j → Right g p s L j
-
--- the groups with a cell below s are named; L₀ are the groups before the first walk
-pub record Sofar (g : Grid) (p : ℕ → Bool) (L₀ : List ℕ) (s : ℕ) (L : List ℕ) : Type 0 where
-  pub long : length L ≡ length L₀
-  pub right : (j : ℕ) → So (p j) → Right g p s L j
-  pub full : (j : ℕ) → j < s → So (p j) → getD L j 0 ≡ unnamed → ⊥
-  pub closed : (j k : ℕ) → So (p j) → (getD L j 0 ≡ unnamed → ⊥) → Adjacent g j k → So (p k) → getD L k 0 ≡ getD L j 0
-  pub others : (j : ℕ) → p j ≡ false → getD L j 0 ≡ getD L₀ j 0

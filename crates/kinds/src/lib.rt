@@ -1,7 +1,7 @@
 // The kinds of a board's cells.
 use grid::Side;
 ghost use mathlib.Core.Path.{_≡_};
-ghost use Prim.Native.Nat.{ℕ, _*_, _<_};
+ghost use Prim.Native.Nat.{ℕ, _*_, _≤_, _<_};
 ghost use mathlib.Core.Bool.{Bool, cond, _&&_, _||_};
 ghost use mathlib.Core.List.{List, [], _∷_, _++_};
 ghost use lib.Dec.{eqb};
@@ -10,9 +10,10 @@ ghost use Rattle.grid.specs.Marks.{Marks};
 ghost use Rattle.grid.specs.Grid.{neighbours};
 ghost use Rattle.grid.specs.Side.{sized, InGrid};
 ghost use Rattle.groups.specs.Arrays.{Line};
+ghost use Rattle.groups.specs.Flood.{free, Only, Unlabelled, Walked, Sofar};
 ghost use Rattle.kinds.specs.Kinds.{view};
 ghost use Rattle.kinds.specs.Arrays.{kindCode, ownerBy};
-ghost use Rattle.kinds.specs.Inside.{Limits, puzzleWith, Given, Held, nameAmong, nameTwice, Met, kindFrom, meetOf, Owned, arrowBlockAt, arrowBlocksAt, kindIn, codesIn, ownersIn, unnamed, OnlyUnnamed, Walked, Walkable, Unnamed, Sofar};
+ghost use Rattle.kinds.specs.Inside.{Limits, puzzleWith, Given, Held, nameAmong, nameTwice, Met, kindFrom, meetOf, Owned, arrowBlockAt, arrowBlocksAt, kindIn, codesIn, ownersIn, unnamed, Walkable};
 
 // No mark is set.
 pub fn clear(marks: &mut [u8; 1024])
@@ -258,7 +259,8 @@ fn compute_cell_kinds(
 // Names the floating group of cell i, unless that is none or has a name, and goes on to the neighbours in turn.
 fn traverse_grid(owners: &mut [u16; 1024], h: usize, w: usize, i: usize, name: u16)
     requires { ⌜ Walkable h w i name ⌝ }
-    ensures { λ _. ⌜ ((p : ℕ → Bool) → OnlyUnnamed p (now (owners .entry)) → Walked (sized h w) p i name (now (owners .entry)) (now (owners .exit))) ⌝ }
+    ensures { λ _. ⌜ ((p : ℕ → Bool) → Only p (now (owners .entry)) → Walked (sized h w) p i name (now (owners .entry)) (now (owners .exit))) ⌝ }
+    ensures { λ _. ⌜ free (now (owners .exit)) ≤ free (now (owners .entry)) ⌝ }
 {
     if owners[i] != UNNAMED {
         return;
@@ -278,7 +280,7 @@ fn traverse_grid(owners: &mut [u16; 1024], h: usize, w: usize, i: usize, name: u
 // Names each floating group by its first cell. Most cells have a name, or are none of a floating group, when their turn comes: no walk is begun for them.
 fn name_floating_groups(owners: &mut [u16; 1024], h: usize, w: usize)
     requires { ⌜ Limits h w ⌝ }
-    ensures { λ _. ⌜ ((p : ℕ → Bool) → Unnamed p (now (owners .entry)) → Sofar (sized h w) p (now (owners .entry)) (h * w) (now (owners .exit))) ⌝ }
+    ensures { λ _. ⌜ ((p : ℕ → Bool) → Unlabelled p (now (owners .entry)) → Sofar (sized h w) p (now (owners .entry)) (h * w) (now (owners .exit))) ⌝ }
 {
     let n = h * w;
     for i in 0..n {

@@ -1,20 +1,19 @@
 -- `groups::flood` meets its contract. The loop's invariant: what held of a flood before the first turn holds of it now, and s keeps
--- its label. The measure falls with every cell labelled and every cell taken from the stack. Assumes nothing.
+-- its label. The measure falls with every cell labelled and every cell taken from the stack.
 -- Assumes nothing.
 use Prim.Native.Nat.{ℕ, _+_, _-_, _*_, _<_}
 use native.Mathlib.Omega.{arith}
-use mathlib.Core.Path.{_≡_}
+use mathlib.Core.Path.{_≡_, refl}
 use mathlib.Core.Bool.{Bool, true}
 use mathlib.Core.List.{List}
 use lib.ListN.{getD}
 use Rattle.grid.specs.Grid.{Grid, size}
-use Rattle.grid.specs.Link.{here}
 use Rattle.grid.specs.Side.{sized}
 use Rattle.grid.proofs.SideLaws.{area}
 use Rattle.grid.proofs.ArrayLaws.{how-many-le}
 use Rattle.groups.specs.Flood.{unlabelled, free, Flooding}
 use Rattle.groups.proofs.GroupLaws.{linked-size}
-use Rattle.groups.proofs.FloodLaws.{offered-keeps, offered-labelled, flood-starts, flooding-ends}
+use Rattle.groups.proofs.FloodLaws.{offered-labelled, flood-starts, flood-ends}
 use Rattle.groups.proofs.flood.Statement.{statement}
 use Rattle.groups.proofs.flood.Tie as tie
 
@@ -38,7 +37,7 @@ offer-requires c κs =
     let e = c .before .before in
     let i = e .pre .0 in
     let small : e .args .s < 1024 = omega (arith, i .within, area (e .args .h) (e .args .w) (i .tall) (i .wide)) in
-    record { cell = small; seed = small; room = omega (arith, how-many-le unlabelled (e .args .labels .now), e .pre .1 .0 .1 .labels-long) }
+    record { cell = small; seed = small; room = omega (arith, how-many-le unlabelled (e .args .labels .now), e .pre .1 .0) }
 
 loop-holds : tie.Need-loop-holds Inv-loop μ-loop
 loop-holds c = record { keeps = λ p L₀ F. F; stays = λ h. h }
@@ -51,9 +50,7 @@ spread-requires c κs =
     let i = e .pre .0 in
     let fits = area (e .args .h) (e .args .w) (i .tall) (i .wide) in
     let small : e .args .s < 1024 = omega (arith, i .within, fits) in
-    let some = e .pre .1 .0 in
-    let F = l .loop .inv .keeps (some .0) (e .args .labels .now)
-    (offered-keeps small (l .before .offer .ensures) here (flood-starts fits (i .within) (some .1) (e .args .stack .now) (e .pre .1 .1))) in
+    let F = l .loop .inv .keeps (λ _. true) (e .args .labels .now) (flood-starts small (e .pre .1) (l .before .offer .ensures) (λ _ _. refl)) in
     let pos : 0 < l .loop .count = c .before .before .loop-test .taken in
     record {
       tall = i .tall;
@@ -61,7 +58,7 @@ spread-requires c κs =
       seed = small;
       count = pos;
       room = F .room;
-      top = linked-size (sized (e .args .h) (e .args .w)) (some .0) (i .within) (F .waiting (l .loop .count - 1) (omega arith));
+      top = linked-size (sized (e .args .h) (e .args .w)) (λ _. true) (i .within) (F .waiting (l .loop .count - 1) (omega arith));
     }
 
 loop-less : tie.Need-loop-less Inv-loop μ-loop
@@ -84,13 +81,11 @@ returns c =
     let e = c .before .before .before .before .before in
     let i = e .pre .0 in
     let fits = area (e .args .h) (e .args .w) (i .tall) (i .wide) in
-    let small : e .args .s < 1024 = omega (arith, i .within, fits) in
-    let some = e .pre .1 .0 in (
-      λ p S.
-          flooding-ends fits (i .within) S (omega (arith, c .loop-test .left))
-          (A .keeps p (e .args .labels .now) (offered-keeps small o here (flood-starts fits (i .within) S (e .args .stack .now) (e .pre .1 .1))))
-          (λ _. A .stays (offered-labelled small o)),
-      A .keeps (some .0) (e .args .labels .now) (offered-keeps small o here (flood-starts fits (i .within) (some .1) (e .args .stack .now) (e .pre .1 .1))) .stack-long,
+    let small : e .args .s < 1024 = omega (arith, i .within, fits) in (
+      λ p only.
+          flood-ends fits (omega (arith, c .loop-test .left)) (A .keeps p (e .args .labels .now) (flood-starts small (e .pre .1) o only))
+          (A .stays (offered-labelled small o)),
+      A .keeps (λ _. true) (e .args .labels .now) (flood-starts small (e .pre .1) o (λ _ _. refl)) .stack-long,
     )
 
 pub flood-spec : {M : Type 1} → statement M

@@ -8,10 +8,10 @@ use mathlib.Core.Path.{refl}
 use mathlib.Core.Bool.{Bool, true, So}
 use Prim.Native.Nat.{_≤_, _-_, ℕ, _<_}
 use Rattle.grid.specs.Side.{sized}
-use Rattle.groups.specs.Flood.{free}
+use Rattle.groups.specs.Flood.{free, Only}
+use Rattle.groups.proofs.LabellingLaws.{set-still, added-only}
 use Rattle.grid.proofs.ArrayLaws.{fewer-set}
-use Rattle.kinds.specs.Inside.{OnlyUnnamed}
-use Rattle.kinds.proofs.Traversal.{Turn, only-set, grown-only, walked-not, turn-none, turn-more, turn-all}
+use Rattle.kinds.proofs.Traversal.{Turn, walked-not, turn-none, turn-more, turn-all}
 use Rattle.grid.proofs.SideLaws.{in-place, cell-small, some-wide}
 use Rattle.grid.proofs.AroundLaws.{gathered, side-adjacent, side-cell, side-at, side-off, sides-none, sides-all}
 use borrow.Fn.Kinds.{In}
@@ -44,7 +44,7 @@ claims t = (toward-reads.Asked, toward-reads.Learnt, traverse-grid-below t, trav
 
 abbrev traverse-grid-Inv-loop : traverse-grid-lts.InvT-loop
 traverse-grid-Inv-loop owners₀ h w i name y x k₀ owners k =
-    (k ≤ 4) × ((p : ℕ → Bool) → So (p i) → OnlyUnnamed p owners₀ → Turn (sized h w) p i name owners₀ owners (gathered (sized h w) i k))
+    (k ≤ 4) × ((p : ℕ → Bool) → So (p i) → Only p owners₀ → Turn (sized h w) p i name owners₀ owners (gathered (sized h w) i k))
 
 abbrev traverse-grid-μ-loop : traverse-grid-lts.MeasureT-loop
 traverse-grid-μ-loop owners₀ h w i name y x k₀ owners k = 4 - k
@@ -56,7 +56,7 @@ traverse-grid-element-copy-out-if1 : (t : ℕ) → traverse-grid-lts.Need-elemen
 traverse-grid-element-copy-out-if1 t c = cell-small (c .pre .1 .cell)
 
 traverse-grid-returns : (t : ℕ) → traverse-grid-lts.Need-returns (claims t) (traverse-grid-at t) traverse-grid.Post traverse-grid-Inv-loop traverse-grid-μ-loop
-traverse-grid-returns t c = λ p _. walked-not (c .before .before .pre .1 .small) (λ _ e. c .if1 .taken e)
+traverse-grid-returns t c = (λ p _. walked-not (c .before .before .pre .1 .small) (λ _ e. c .if1 .taken e), omega arith)
 
 traverse-grid-mul-owners : (t : ℕ) → traverse-grid-lts.Need-mul-owners (claims t) (traverse-grid-at t) traverse-grid.Post traverse-grid-Inv-loop traverse-grid-μ-loop
 traverse-grid-mul-owners t c = omega (arith, cell-small (c .before .before .pre .1 .cell))
@@ -89,7 +89,7 @@ traverse-grid-traverse-grid-requires t c κs =
     let l = d .before .before in
     let s = l .before .before .before in
     let fall = fewer-set (s .args .owners .now) (s .args .i) (s .args .name) (l .before .if1 .left) (λ e. omega (arith, e, s .pre .1 .small)) (omega arith) in (
-      omega (arith, fall, s .pre .0, l .loop .inv .1 (λ _. true) refl (λ _ _. refl) .grown .fewer),
+      omega (arith, fall, s .pre .0, l .loop .inv .1 (λ _. true) refl (λ _ _. refl) .fewer),
       record { cell = side-cell (s .pre .1 .cell) (l .loop .k) (d .toward .result) (d .toward .ensures) _ (c .before .before .side .given .1); small = s .pre .1 .small },
     )
 
@@ -114,7 +114,7 @@ traverse-grid-loop-again t c =
           let T = l .loop .inv .1 p o only in
           ⊎-elim
           (λ v. side-at (s .pre .1 .cell) (l .loop .k) (d .result) (d .ensures) (Turn (sized (a .h) (a .w)) p (a .i) (a .name) named (c .match .owners)) _ (v .1 .given .1)
-          (rw (v .5) (turn-more (s .pre .1 .small) o (side-adjacent (s .pre .1 .cell) (l .loop .k) (d .result) (d .ensures) _ (v .1 .given .1)) (v .4 .ensures p (grown-only (s .pre .1 .small) (T .grown) only)) T)))
+          (rw (v .5) (turn-more (s .pre .1 .small) o (side-adjacent (s .pre .1 .cell) (l .loop .k) (d .result) (d .ensures) _ (v .1 .given .1)) (v .4 .ensures .0 p (added-only (T .added) only)) (v .4 .ensures .1) T)))
           (λ v. side-off (s .pre .1 .cell) (l .loop .k) (d .result) (d .ensures) (Turn (sized (a .h) (a .w)) p (a .i) (a .name) named (c .match .owners)) (v .1 .given .1)
           (rw (v .2) T))
           (c .match .came),
@@ -126,11 +126,14 @@ traverse-grid-returns-2 t c =
     let s = c .before .before .before .before in
     let a = s .args in
     let u = c .before .before .if1 .left in
-    λ p only.
-    let o = only (a .i) u in
-    turn-all (s .pre .1 .small) o u
-    (sides-all (Turn (sized (a .h) (a .w)) p (a .i) (a .name) (set (a .owners .now) (a .i) (a .name)) (l .owners)) (sized (a .h) (a .w)) (a .i) (l .k) (l .inv .0) (c .loop-test .left)
-    (l .inv .1 p o (only-set (a .owners .now) (a .i) (a .name) (s .pre .1 .small) u only)))
+    let fall = fewer-set (a .owners .now) (a .i) (a .name) u (λ e. omega (arith, e, s .pre .1 .small)) (omega arith) in (
+      λ p only.
+          let o = only (a .i) u in
+          turn-all (s .pre .1 .small) o u
+          (sides-all (Turn (sized (a .h) (a .w)) p (a .i) (a .name) (set (a .owners .now) (a .i) (a .name)) (l .owners)) (sized (a .h) (a .w)) (a .i) (l .k) (l .inv .0) (c .loop-test .left)
+          (l .inv .1 p o (λ j x. only j (set-still (a .owners .now) (a .i) (a .name) u j x)))),
+      omega (arith, fall, l .inv .1 (λ _. true) refl (λ _ _. refl) .fewer),
+    )
 
 pub +traverse-grid-spec : {M : Type 1} → statement M
 +traverse-grid-spec = close μ-traverse-grid λ t. traverse-grid-lts.spec (claims t)

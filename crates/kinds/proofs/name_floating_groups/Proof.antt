@@ -7,13 +7,14 @@ use mathlib.Core.Path.{_≡_}
 use native.Mathlib.Omega.{arith}
 use Rattle.grid.specs.Side.{sized}
 use Rattle.grid.proofs.SideLaws.{area}
-use Rattle.kinds.specs.Inside.{Unnamed, Sofar}
-use Rattle.kinds.proofs.Traversal.{walked-not, sofar-none, sofar-only, sofar-more}
+use Rattle.groups.specs.Flood.{Unlabelled, Sofar}
+use Rattle.groups.proofs.LabellingLaws.{sofar-none, sofar-more}
+use Rattle.kinds.proofs.Traversal.{walked-not}
 use Rattle.kinds.proofs.name_floating_groups.Statement.{statement}
 use Rattle.kinds.proofs.name_floating_groups.Tie as tie
 
 abbrev Inv-loop : tie.InvT-loop
-Inv-loop owners₀ h w n i₀ owners i = (i ≤ n) × ((p : ℕ → Bool) → Unnamed p owners₀ → Sofar (sized h w) p owners₀ i owners)
+Inv-loop owners₀ h w n i₀ owners i = (i ≤ n) × ((p : ℕ → Bool) → Unlabelled p owners₀ → Sofar (sized h w) p owners₀ i owners)
 
 abbrev μ-loop : tie.MeasureT-loop
 μ-loop owners₀ h w n i₀ owners i = n - i
@@ -22,7 +23,7 @@ mul-n : tie.Need-mul-n Inv-loop μ-loop
 mul-n c = omega (arith, area (c .args .h) (c .args .w) (c .pre .tall) (c .pre .wide))
 
 loop-holds : tie.Need-loop-holds Inv-loop μ-loop
-loop-holds c = (omega arith, λ p u. sofar-none (u .all))
+loop-holds c = (omega arith, λ p u. sofar-none u)
 
 mul-if1 : tie.Need-mul-if1 Inv-loop μ-loop
 mul-if1 c =
@@ -65,8 +66,8 @@ loop-again c =
           let S = c .before .before .before .loop .inv .1 p u in
           let small : c .before .before .before .loop .i < 1024 = omega (arith, area (s .args .h) (s .args .w) (s .pre .tall) (s .pre .wide), t) in
           ⊎-elim
-          (λ v. rw (v .3) (sofar-more small S (v .2 .ensures p (sofar-only (u .only) S))))
-          (λ v. rw (v .1) (sofar-more small S (walked-not small (λ _ e. v .0 .left e))))
+          (λ v. rw (v .3) (sofar-more S (v .2 .ensures .0 p (S .only))))
+          (λ v. rw (v .1) (sofar-more S (walked-not small (λ _ e. v .0 .left e))))
           (c .if1 .came),
     )
 
