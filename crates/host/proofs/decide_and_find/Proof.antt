@@ -40,8 +40,20 @@ well s =
     let o = opens-as (s .pre .0) (s .args .t1) (s .pre .1) in
     opens-well (s .pre .0) (o .reads) (o .fresh)
 
+-- the start, seen from before the decisions and from behind them
+abbrev begun : tie.After-order2 → tie.Start
+begun c = c .before .before .before .before .before .before .before
+
 abbrev start : tie.After-place-all → tie.Start
-start c = c .before .before .before .before .before .before .before .before
+start c = begun (c .before)
+
+-- where the output is long enough, seen from behind the decisions
+abbrev long : tie.After-place-all → tie.Else1
+long c = c .before .before .before .before .before
+
+-- where all decisions are accepted, seen from behind find
+abbrev accepted : tie.After-find-on → tie.After-enum-told
+accepted c = c .before .before .before .before .before .before
 
 -- the board after the decisions
 abbrev left : tie.After-place-all → Board
@@ -66,7 +78,7 @@ finds c s e =
     let a = start p .args in
     let o = opens-as s (a .t1) e in
     let r = p .place-all .result in
-    decisions-done s (o .reads) (o .fresh) (a .decisions .now) (length (a .output .now)) (r .answer) (left p) (placed p) (p .before .before .before .before .before .if1 .left) (c .enum-told .given .1)
+    decisions-done s (o .reads) (o .fresh) (a .decisions .now) (length (a .output .now)) (r .answer) (left p) (placed p) (long p .if1 .left) (c .enum-told .given .1)
     ∙ ap ok (reason-held (a .t1 .problem) (p .place-all .last .0) (p .place-all .last .1 .0) (r .decided))
 
 mul-if1 : tie.Need-mul-if1
@@ -98,7 +110,7 @@ mul-place-all c = search needs
 place-all-requires : tie.Need-place-all-requires
 unfolding size gridOf
 place-all-requires c κs =
-    let s = c .before .before .before .before .before .before .before in
+    let s = begun c in
     record { problem = s .args .t1 .problem; area = refl; well = well s }
 
 enum-told : tie.Need-enum-told
@@ -106,10 +118,11 @@ enum-told c = search needs
 
 find-on-requires : tie.Need-find-on-requires
 find-on-requires c κs =
-    let p = c .before .before .before .before .before .before .before in
+    let t = c .before .before .before .before .before in
+    let p = t .before .before in
     let s = start p in
     let z = board-sizes (s .args .t1) (well s) in
-    (z .0, z .1, p .before .before .before .before .before .if1 .left, board-arrays (s .args .t1) (well s))
+    (z .0, z .1, long p .if1 .left, board-arrays (s .args .t1) (well s))
 
 enum-known-answer : tie.Need-enum-known-answer
 enum-known-answer c = search needs
@@ -122,7 +135,7 @@ same-length c = search needs
 
 returns-2 : tie.Need-returns-2
 returns-2 c = λ s e.
-    let t = c .before .before .before .before .before .before .before .before in
+    let t = accepted (c .before .before) in
     let f = c .before .before .find-on in
     told-as (start (t .before .before) .args .output .now) (finds t s e) (toZ-ofZ w32 (f .result) (record { sfits = f .ok }) ∙ f .ensures .0, f .ensures .1)
 
@@ -133,7 +146,7 @@ returns-3 c = λ s e.
     let o = opens-as s (a .t1) e in
     let n = c .negated2 in
     let t = refused-told (a .output .now)
-    (decisions-refused s (o .reads) (o .fresh) (a .decisions .now) (length (a .output .now)) (p .place-all .result .answer) (left p) (placed p) (p .before .before .before .before .before .if1 .left) (c .before .before .answer .given .1)) in
+    (decisions-refused s (o .reads) (o .fresh) (a .decisions .now) (length (a .output .now)) (p .place-all .result .answer) (left p) (placed p) (long p .if1 .left) (c .before .before .answer .given .1)) in
     (toZ-ofZ w32 (n .result) (record { sfits = n .ok }) ∙ n .ensures ∙ t .0, t .1)
 
 pub decide-and-find-spec : {M : Type 1} → statement M

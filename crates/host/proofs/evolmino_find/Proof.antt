@@ -11,11 +11,15 @@ use borrow.Author.Needs.{needs}
 use Rattle.host.proofs.evolmino_find.Statement.{statement}
 use Rattle.host.proofs.evolmino_find.Tie as tie
 
+-- the start, seen from behind the opening of the board
+abbrev start : tie.After-open → tie.Start
+start c = c .before .before .before .before
+
 -- the record is accepted
-opens : (c : tie.After-enum-told) → Opens (c .before .before .before .before .before .before .args .«record» .now) (c .before .before .«open» .result .board)
+opens : (c : tie.After-enum-told) → let o = c .before .before in Opens (start o .args .«record» .now) (o .«open» .result .board)
 opens c =
-    let o = c .before .before .«open» in
-    open-done (c .before .before .before .before .before .before .args .«record» .now) (o .result) (o .ensures) (c .enum-told .given .1)
+    let o = c .before .before in
+    open-done (start o .args .«record» .now) (o .«open» .result) (o .«open» .ensures) (c .enum-told .given .1)
 
 open-requires : tie.Need-open-requires
 open-requires c κs = search needs
@@ -24,7 +28,7 @@ enum-told : tie.Need-enum-told
 enum-told c = search needs
 
 decide-and-find-requires : tie.Need-decide-and-find-requires
-decide-and-find-requires c κs = (c .before .before .before .before .before .before .before .args .«record» .now, opens (c .before))
+decide-and-find-requires c κs = (start (c .before .before .before) .args .«record» .now, opens (c .before))
 
 enum-known-answer : tie.Need-enum-known-answer
 enum-known-answer c = search needs
@@ -37,17 +41,17 @@ same-length c = search needs
 
 returns : tie.Need-returns
 returns c =
-    let s = c .before .before .before .before .before .before .before .before .before .before .args .«record» .now in
+    let t = c .before .before .before .before in
     let f = c .before .before .decide-and-find in
-    let q = f .ensures s (opens (c .before .before .before .before)) in
+    let q = f .ensures (start (t .before .before) .args .«record» .now) (opens t) in
     (toZ-ofZ w32 (f .result) (record { sfits = f .ok }) ∙ q .0, q .1)
 
 returns-2 : tie.Need-returns-2
 returns-2 c =
-    let a = c .before .before .before .before .before .before .before .before .args in
-    let o = c .before .before .before .before .«open» in
+    let o = c .before .before .before .before in
+    let a = start o .args in
     let n = c .negated in
-    let t = refused-told (a .output .now) (open-refused (a .«record» .now) (o .result) (o .ensures) (c .before .before .answer .given .1) (a .decisions .now) (length (a .output .now))) in
+    let t = refused-told (a .output .now) (open-refused (a .«record» .now) (o .«open» .result) (o .«open» .ensures) (c .before .before .answer .given .1) (a .decisions .now) (length (a .output .now))) in
     (toZ-ofZ w32 (n .result) (record { sfits = n .ok }) ∙ n .ensures ∙ t .0, t .1)
 
 pub evolmino-find-spec : {M : Type 1} → statement M

@@ -27,8 +27,13 @@ reason s = findReason (puzzleWith (sized (s .args .h) (s .args .w)) (linesOf (s 
 cells-few : (s : tie.Start) → s .args .h * s .args .w ≤ 1024
 cells-few s = area (s .args .h) (s .args .w) (s .pre .0) (s .pre .1)
 
+-- the start, seen from where there is a reason
 abbrev start : tie.After-found → tie.Start
 start c = c .before .before .before .before .before .before .before
+
+-- that place, seen from behind the writing of the literals
+abbrev told : tie.After-slice-known2 → tie.After-found
+told c = c .before .before .before .before .before .before
 
 -- the literals found
 literals : (c : tie.After-found) → Literals (reason (start c)) (c .found .given .0 .0) (c .before .before .before .find-inconsistency .last .1 .1 .1 .1 .1 .1 .0)
@@ -67,7 +72,7 @@ write-literals-requires c κs =
 
 cast-result : tie.Need-cast-result
 cast-result c =
-    let f = c .before .before .before .before .before .before in
+    let f = told c in
     record { sfits = omega (arith, few f, cells-few (start f)) }
 
 enum-known-found-2 : tie.Need-enum-known-found-2
@@ -78,23 +83,25 @@ negated-requires c κs = search needs
 
 returns : tie.Need-returns
 returns c =
-    let s = c .before .before .before .before .before .before .before in
-    none-told (s .args .output .now) (nothing-found (reason s) (rw (c .enum-told .given .1) at (c .before .before .before .find-inconsistency .ensures)) .0)
+    let k = c .before .before .before in
+    let s = k .before .before .before .before in
+    none-told (s .args .output .now) (nothing-found (reason s) (rw (c .enum-told .given .1) at (k .find-inconsistency .ensures)) .0)
 
 same-length : tie.Need-same-length
 same-length c = search needs
 
 returns-2 : tie.Need-returns-2
 returns-2 c =
-    let f = c .before .before .before .before .before .before in
+    let f = told c in
     let s = start f in
     let t = literals-told (s .args .output .now) (literals f) in
     (toZ-pos w32 (f .found .given .0 .0) (omega (arith, few f, cells-few s)) ∙ t .0, c .before .before .write-literals .ensures ∙ t .1)
 
 returns-3 : tie.Need-returns-3
 returns-3 c =
-    let s = c .before .before .before .before .before .before .before .before .before in
-    absurd (not-refused (reason s) (rw (c .before .before .found2 .given .1) at (c .before .before .before .before .before .find-inconsistency .ensures)))
+    let f = c .before .before in
+    let k = f .before .before .before in
+    absurd (not-refused (reason (k .before .before .before .before)) (rw (f .found2 .given .1) at (k .find-inconsistency .ensures)))
 
 pub find-on-spec : {M : Type 1} → statement M
 find-on-spec =
