@@ -46,8 +46,9 @@ loop-less c = search needs
 
 loop-again : tie.Need-loop-again Inv-loop μ-loop
 loop-again c =
-    let s = c .before .before .before .before .before .before in
-    let t = c .before .before .before .before .before .loop in
+    let i = c .before .before .before .before in
+    let s = i .before .before in
+    let t = i .before .loop in
     let n = s .args .n in
     let p = at (s .args .codes .now) (s .args .cells .now) in
     let lt : t .i < length (upto n) = omega (arith, upto-length n) in
