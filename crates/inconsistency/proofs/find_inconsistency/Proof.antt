@@ -107,9 +107,10 @@ compute-connected-components-requires c κs = search needs
 
 check-potential-groups-requires : tie.Need-check-potential-groups-requires
 check-potential-groups-requires c κs =
-    let s = c .before .before .before .before .before .before .before .before .before in
+    let m = c .before .before .before .before .before in
+    let s = m .before .before .before .before in
     let fit = s .pre .0 in
-    (fit, listed-is (s .args .h) (s .args .w) (fit .tall) (fit .wide) (drawn (c .before .before .before .before .before .before .before)) (c .before .before .before .before .before .mark-arrow-cells .ensures))
+    (fit, listed-is (s .args .h) (s .args .w) (fit .tall) (fit .wide) (drawn (m .before .before)) (m .mark-arrow-cells .ensures))
 
 enum-told : tie.Need-enum-told
 enum-told c = search needs
@@ -174,11 +175,12 @@ same-length-3 c = search needs
 
 returns-3 : tie.Need-returns-3
 returns-3 c =
-    let e = c .before .before .before .before .before .before in
+    let k = c .before .before in
+    let e = k .before .before .before .before in
     let b = searched-2 e in
     let p = passed (labelled b) in
     let s = start (searched p) in
-    rest-found (puzzle s) (held s) (one (searched p)) (none p) (two b) (e .enum-told2 .given .1) (c .before .before .check-arrows .ensures)
+    rest-found (puzzle s) (held s) (one (searched p)) (none p) (two b) (e .enum-told2 .given .1) (k .check-arrows .ensures)
 
 same-length-4 : tie.Need-same-length-4
 same-length-4 c = search needs
