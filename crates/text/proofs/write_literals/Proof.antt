@@ -36,8 +36,9 @@ shared-slice-read-write-literal-2 c = search needs
 
 write-literal-requires : tie.Need-write-literal-requires Inv-loop μ-loop
 write-literal-requires c κs =
-    let s = c .before .before .before .before .before .before .before in
-    let t = c .before .before .before .before .loop in
+    let l = c .before .before .before .before in
+    let s = l .before .before .before in
+    let t = l .loop in
     room-behind 7 (t .inv .1 .0) (omega (arith, t .inv .1 .1, s .pre .1))
 
 add-k : tie.Need-add-k Inv-loop μ-loop
@@ -48,11 +49,14 @@ loop-less c = search needs
 
 loop-again : tie.Need-loop-again Inv-loop μ-loop
 loop-again c =
-    let s = c .before .before .before .before .before .before .before .before .before .before in
-    let t = c .before .before .before .before .before .before .before .loop in
+    let w = c .before .before in
+    let i = w .before .before .before .before in
+    let s = i .before .before .before .before in
+    let t = i .before .loop in
     let found = s .args .found .now in
-    let h : 2 * t .k + 1 < length (s .args .found .now) = omega (arith, s .pre .0, c .before .before .before .before .before .before .loop-test .taken) in
-    (search needs, (lines-next found (t .k) h (t .inv .1 .0) (c .before .before .write-literal .ensures) (omega (arith, t .inv .1 .1, t .inv .0, s .pre .1)), lines-length found (t .k) h (omega (arith, c .before .before .before .before .shared-slice-known2 .given (2 * t .k))) (t .inv .1 .1)))
+    let h : 2 * t .k + 1 < length (s .args .found .now) = omega (arith, s .pre .0, i .loop-test .taken) in
+    let more = lines-next found (t .k) h (t .inv .1 .0) (w .write-literal .ensures) (omega (arith, t .inv .1 .1, t .inv .0, s .pre .1)) in
+    (search needs, (more, lines-length found (t .k) h (omega (arith, w .before .before .shared-slice-known2 .given (2 * t .k))) (t .inv .1 .1)))
 
 same-length : tie.Need-same-length Inv-loop μ-loop
 same-length c =

@@ -5,6 +5,14 @@ use Rattle.text.proofs.ToldLaws.{lines-room, reason-written}
 use Rattle.text.proofs.write_reason.Statement.{statement}
 use Rattle.text.proofs.write_reason.Tie as tie
 
+-- the start, seen from behind the head
+abbrev start : tie.After-write-head → tie.Start
+start c = c .before .before .before .before .before
+
+-- the head, seen from behind the lines
+abbrev headed : tie.After-write-literals → tie.After-write-head
+headed c = c .before .before .before .before
+
 slice-aggregate-write-head : tie.Need-slice-aggregate-write-head
 slice-aggregate-write-head c = search needs
 
@@ -13,16 +21,19 @@ write-head-requires c κs = search needs
 
 write-literals-requires : tie.Need-write-literals-requires
 write-literals-requires c κs =
-    let s = c .before .before .before .before .before .before .before .before in
-    (s .pre .1, lines-room (s .args .count) (s .pre .0) (s .pre .2) (c .before .before .before .write-head .ensures))
+    let h = c .before .before .before in
+    let s = start h in
+    (s .pre .1, lines-room (s .args .count) (s .pre .0) (s .pre .2) (h .write-head .ensures))
 
 same-length : tie.Need-same-length
 same-length c = search needs
 
 returns : tie.Need-returns
 returns c =
-    let s = c .before .before .before .before .before .before .before .before .before .before .before in
-    reason-written (s .args .count) (s .pre .0) (s .pre .2) (c .before .before .before .before .before .before .write-head .ensures) (s .args .found .now) (c .before .before .write-literals .ensures)
+    let l = c .before .before in
+    let h = headed l in
+    let s = start h in
+    reason-written (s .args .count) (s .pre .0) (s .pre .2) (h .write-head .ensures) (s .args .found .now) (l .write-literals .ensures)
 
 pub write-reason-spec : {M : Type 1} → statement M
 write-reason-spec =
