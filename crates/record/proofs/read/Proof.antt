@@ -128,10 +128,11 @@ refusal-requires-4 c κs = search needs
 
 returns-4 : tie.Need-returns-4
 returns-4 c =
-    let m = c .before .before .before .before .before .before .before in
+    let p = c .before .before .before .before in
+    let m = p .before .before .before in
     let k = columns-told m in
     c .refusal4 .ensures
-    ∙ whole-cells (bytes-3 m) (rows (rows-told k)) (columns k) (count m) (answered-fault (c .before .before .before .before .read-cells .ensures) (c .before .before .a .given .1))
+    ∙ whole-cells (bytes-3 m) (rows (rows-told k)) (columns k) (count m) (answered-fault (p .read-cells .ensures) (c .before .before .a .given .1))
 
 enum-told-4 : tie.Need-enum-told-4
 enum-told-4 c = search needs
@@ -146,25 +147,26 @@ no-codes-requires-2 : tie.Need-no-codes-requires-2
 no-codes-requires-2 c κs = search needs
 
 mul-read-arrows : tie.Need-mul-read-arrows
-mul-read-arrows c = omega (arith, limits (c .before .before .before .before .before .before .before .before) .2)
+mul-read-arrows c = omega (arith, limits (count-told (c .before .before .before)) .2)
 
 mul-read-arrows-2 : tie.Need-mul-read-arrows-2
-mul-read-arrows-2 c = omega (arith, limits (c .before .before .before .before .before .before .before .before) .2)
+mul-read-arrows-2 c = omega (arith, limits (count-told (c .before .before .before)) .2)
 
 add-read-arrows : tie.Need-add-read-arrows
-add-read-arrows c = omega (arith, limits (c .before .before .before .before .before .before .before .before) .2)
+add-read-arrows c = omega (arith, limits (count-told (c .before .before .before)) .2)
 
 read-arrows-requires : tie.Need-read-arrows-requires
 read-arrows-requires c κs =
-    let m = c .before .before .before .before .before .before .before .before .before .before .before in
+    let n = c .before .before .before in
+    let m = count-told (n .before .before .before) in
     let z = limits m in (
       omega (arith, z .0),
       omega (arith, z .1),
       omega (arith, z .2),
       omega (arith, field-ok (bytes-3 m) 10 11 (count m)),
-      c .before .before .before .before .before .no-cells .ensures,
-      c .before .before .before .before .no-cells2 .ensures,
-      c .before .before .before .no-codes2 .ensures,
+      n .before .before .no-cells .ensures,
+      n .before .no-cells2 .ensures,
+      n .no-codes2 .ensures,
     )
 
 enum-known-b : tie.Need-enum-known-b
