@@ -14,6 +14,13 @@ use Rattle.grid.proofs.SideLaws.{moved-to, index-small, both, off-row, 
 use Rattle.grid.proofs.shifted.Statement.{statement}
 use Rattle.grid.proofs.shifted.Tie as tie
 
+-- the places passed: the start, seen from where the row is known; that place, from where the column is told
+abbrev start : tie.After-row → tie.Start
+start c = c .before .before .before .before
+
+abbrev row-known : tie.After-known-told2 → tie.After-row
+row-known c = c .before .before .before .before
+
 -- a move by an offset that the machine reads back from its bits
 row-read : (s : tie.Start) → movedOf (s .args .y) (toZ w32 (ofZ w32 (s .args .dy))) (s .args .h) ≡ movedOf (s .args .y) (s .args .dy) (s .args .h)
 row-read s = ap (λ (d : ℤ). movedOf (s .args .y) d (s .args .h)) (toZ-ofZ w32 (s .args .dy) (s .fits .dy))
@@ -23,14 +30,16 @@ column-read s = ap (λ (d : ℤ). movedOf (s .args .x) d (s .args .w)) (toZ-ofZ 
 
 -- where both moves lead
 module _ (c : tie.After-known-told2) where
-  to-row : To (c .before .before .before .before .row .given .0 .0) ≡ movedOf (c .before .before .before .before .before .before .before .before .args .y) (c .before .before .before .before .before .before .before .before .args .dy) (c .before .before .before .before .before .before .before .before .args .h)
-  to-row = sym (c .before .before .before .before .row .given .1) ∙ c .before .before .before .before .before .before .before .moved .ensures ∙ row-read (c .before .before .before .before .before .before .before .before)
+  to-row : To (row-known c .row .given .0 .0) ≡ movedOf (start (row-known c) .args .y) (start (row-known c) .args .dy) (start (row-known c) .args .h)
+  to-row = sym (row-known c .row .given .1) ∙ row-known c .before .before .before .moved .ensures ∙ row-read (start (row-known c))
 
-  to-column : To (c .before .column .given .0 .0) ≡ movedOf (c .before .before .before .before .before .before .before .before .args .x) (c .before .before .before .before .before .before .before .before .args .dx) (c .before .before .before .before .before .before .before .before .args .w)
-  to-column = sym (c .before .column .given .1) ∙ c .before .before .before .before .before .before .moved2 .ensures ∙ column-read (c .before .before .before .before .before .before .before .before)
+  to-column : To (c .before .column .given .0 .0) ≡ movedOf (start (row-known c) .args .x) (start (row-known c) .args .dx) (start (row-known c) .args .w)
+  to-column = sym (c .before .column .given .1) ∙ row-known c .before .before .moved2 .ensures ∙ column-read (start (row-known c))
 
-  small : (c .before .before .before .before .row .given .0 .0 * c .before .before .before .before .before .before .before .before .args .w < 1024) × (c .before .before .before .before .row .given .0 .0 * c .before .before .before .before .before .before .before .before .args .w + c .before .column .given .0 .0 < 1024)
-  small = let s = c .before .before .before .before .before .before .before .before in index-small _ _ (s .pre .0 .tall) (s .pre .0 .wide) (moved-to _ (s .args .dy) _ _ (sym to-row) .0) (moved-to _ (s .args .dx) _ _ (sym to-column) .0)
+  small : (row-known c .row .given .0 .0 * start (row-known c) .args .w < 1024) × (row-known c .row .given .0 .0 * start (row-known c) .args .w + c .before .column .given .0 .0 < 1024)
+  small =
+      let s = start (row-known c) in
+      index-small _ _ (s .pre .0 .tall) (s .pre .0 .wide) (moved-to _ (s .args .dy) _ _ (sym to-row) .0) (moved-to _ (s .args .dx) _ _ (sym to-column) .0)
 
 moved-requires : tie.Need-moved-requires
 moved-requires c κs = search needs
@@ -57,15 +66,16 @@ enum-told-2 : tie.Need-enum-told-2
 enum-told-2 c = search needs
 
 returns : tie.Need-returns
-returns c = let a = c .before .before .before .before .before .before .before .before .args in both (a .h) (a .w) (a .y) (a .x) (a .dy) (a .dx) _ _ (to-row c) (to-column c)
+returns c = let a = start (row-known c) .args in both (a .h) (a .w) (a .y) (a .x) (a .dy) (a .dx) _ _ (to-row c) (to-column c)
 
 returns-2 : tie.Need-returns-2
 returns-2 c =
-    let s = c .before .before .before .before .before .before .before in
+    let r = c .before .before .before in
+    let s = start r in
     let a = s .args in
     off-column (a .h) (a .w) (a .y) (a .x) (a .dy) (a .dx) _
-    (sym (c .before .before .before .row .given .1) ∙ c .before .before .before .before .before .before .moved .ensures ∙ row-read s)
-    (sym (c .enum-told .given .1) ∙ c .before .before .before .before .before .moved2 .ensures ∙ column-read s)
+    (sym (r .row .given .1) ∙ r .before .before .before .moved .ensures ∙ row-read s)
+    (sym (c .enum-told .given .1) ∙ r .before .before .moved2 .ensures ∙ column-read s)
 
 returns-3 : tie.Need-returns-3
 returns-3 c =
