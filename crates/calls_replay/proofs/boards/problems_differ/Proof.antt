@@ -76,16 +76,18 @@ words-differ-requires-2 c κs = search needs
 
 returns-4 : tie.Need-returns-4
 returns-4 c =
-    let w = c .before .before .before .before .before .before in
+    let u = c .before .before .before .before .before in
+    let w = u .before in
     let n = numbers (cells w) in
+    let m = n .before .before .before in
     let s = start n in
     let ends = c .words-differ2 .ensures in (
       λ f. problem-same
           {p = s .args .p} {q = s .args .q}
-          (n .before .before .before .before .before .before .if1 .left)
-          (eqb-true _ _ (not-false _ (n .before .before .before .if2 .left)))
-          (told-cells (cells w) .0 (c .before .before .before .before .before .before .before .before .before .before .before .if4 .left))
-          (w .words-differ .ensures .0 (c .before .before .before .before .before .if5 .left))
+          (m .before .before .before .if1 .left)
+          (eqb-true _ _ (not-false _ (m .if2 .left)))
+          (told-cells (cells w) .0 (w .before .before .before .before .before .if4 .left))
+          (w .words-differ .ensures .0 (u .if5 .left))
           (ends .0 f)
           (eqb-true _ _ (not-false _ (n .if3 .left))),
       λ t e. ends .1 t (ap (λ (x : Problem). x .ends) e),

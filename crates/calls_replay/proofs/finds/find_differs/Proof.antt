@@ -34,18 +34,20 @@ literals-differ-requires c κs = search needs
 returns : tie.Need-returns
 returns c =
     let d = c .before .finding-differs in
-    let f = c .before .before .before .find in
-    let n = c .before .before .before .before .before .fresh-buffer in
-    let a = c .before .before .before .before .before .before .before .args in
+    let p = c .before .before .before in
+    let f = p .find in
+    let n = p .before .before .fresh-buffer in
+    let a = p .before .before .before .before .args in
     other-answer (a .board) (a .size) (a .refusal) (a .count) (numberIn (a .list .now) (a .at) (a .count) 65535)
     (n .result) (n .ensures) (f .result) (f .ensures .0) (d .result) (d .ensures) (c .if1 .taken)
 
 returns-2 : tie.Need-returns-2
 returns-2 c =
     let d = c .before .before .before .finding-differs in
-    let f = c .before .before .before .before .before .find in
-    let n = c .before .before .before .before .before .before .before .fresh-buffer in
-    let a = c .before .before .before .before .before .before .before .before .before .args in
+    let p = c .before .before .before .before .before in
+    let f = p .find in
+    let n = p .before .before .fresh-buffer in
+    let a = p .before .before .before .before .args in
     let said = numberIn (a .list .now) (a .at) (a .count) 65535 in
     this-answer (a .board) (a .size) (a .refusal) (a .count) said (n .result) (n .ensures) (f .result) (f .ensures .0) (d .result) (d .ensures) (c .before .before .if1 .left) (c .literals-differ .result)
     (c .literals-differ .ensures ∙ ap (λ (l : List ℕ). differs (l ++ drop (a .size) (n .result)) said 0) (f .ensures .1))
