@@ -19,6 +19,10 @@ Inv-loop cells h w b from₀ order₀ count₀ t₀ from order count t = Run (si
 abbrev μ-loop : tie.MeasureT-loop
 μ-loop cells h w b from₀ order₀ count₀ t₀ from order count t = h * w - t
 
+-- the start, seen from the loop
+abbrev start : tie.At-loop Inv-loop μ-loop → tie.Start Inv-loop μ-loop
+start c = c .before .before .before
+
 mul-reset : tie.Need-mul-reset Inv-loop μ-loop
 mul-reset c = let o = c .before .pre .0 in omega (arith, area _ _ (o .tall) (o .wide))
 
@@ -54,7 +58,7 @@ loop-holds c =
 list-neighbours-requires : tie.Need-list-neighbours-requires Inv-loop μ-loop
 unfolding size
 list-neighbours-requires c κs =
-    let a = c .before .before .before .before .before .before in
+    let a = start (c .before .before .before) in
     let o = a .pre .0 in
     let s = c .before .before .before .loop in
     let h = c .before .before .loop-test .taken in
@@ -62,7 +66,7 @@ list-neighbours-requires c κs =
 
 add-t : tie.Need-add-t Inv-loop μ-loop
 add-t c =
-    let a = c .before .before .before .before .before .before .before in
+    let a = start (c .before .before .before .before) in
     let o = a .pre .0 in
     let s = c .before .before .before .before .loop in
     let h = c .before .before .before .loop-test .taken in
@@ -71,7 +75,7 @@ add-t c =
 loop-less : tie.Need-loop-less Inv-loop μ-loop
 unfolding size
 loop-less c =
-    let a = c .before .before .before .before .before .before .before in
+    let a = start (c .before .before .before .before) in
     let s = c .before .before .before .before .loop in
     let h = c .before .before .before .loop-test .taken in
     omega (arith, run-below (sized (a .args .h) (a .args .w)) (a .args .cells .now) (a .args .b) (s .inv) h)
@@ -79,7 +83,7 @@ loop-less c =
 loop-again : tie.Need-loop-again Inv-loop μ-loop
 unfolding size
 loop-again c =
-    let a = c .before .before .before .before .before .before .before in
+    let a = start (c .before .before .before .before) in
     let s = c .before .before .before .before .loop in
     let h = c .before .before .before .loop-test .taken in
     let e = c .list-neighbours .ensures in
@@ -88,7 +92,7 @@ loop-again c =
 returns : tie.Need-returns Inv-loop μ-loop
 unfolding size
 returns c =
-    let a = c .before .before .before .before in
+    let a = start (c .before) in
     run-done (sized (a .args .h) (a .args .w)) (a .args .cells .now) (a .args .b) (c .before .loop .inv) (c .loop-test .left)
 
 pub breadth-first-spec : {M : Type 1} → statement M

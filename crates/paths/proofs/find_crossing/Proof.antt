@@ -11,11 +11,19 @@ use borrow.Author.Needs.{needs}
 use Rattle.paths.proofs.find_crossing.Statement.{statement}
 use Rattle.paths.proofs.find_crossing.Tie as tie
 
+-- the places passed: the start, seen from behind the first arrow cells of the blocks; those, from behind the search for a name
+abbrev start : tie.After-keep-arrow-cells → tie.Start
+start c = c .before .before .before
+
+abbrev kept : tie.After-first-crossed → tie.After-keep-arrow-cells
+kept c = c .before .before
+
 -- the name that was found is a cell
 named : (c : tie.After-known-told) → c .before .name .given .0 .0 < 1024
 named c =
-    let a = c .before .before .before .before .before .before .before .before in
-    omega (arith, a .pre .0, first-below _ (a .args .n) (c .before .name .given .0 .0) (sym (c .before .before .before .first-crossed .ensures) ∙ c .before .name .given .1))
+    let f = c .before .before .before in
+    let a = start (kept f) in
+    omega (arith, a .pre .0, first-below _ (a .args .n) (c .before .name .given .0 .0) (sym (f .first-crossed .ensures) ∙ c .before .name .given .1))
 
 keep-arrow-cells-requires : tie.Need-keep-arrow-cells-requires
 keep-arrow-cells-requires c κs = search needs
@@ -50,21 +58,30 @@ enum-told c = search needs
 returns : tie.Need-returns
 returns c =
     let k = c .before .before .before .before in
-    let a = k .before .before .before .before .before .before .before .before in
-    let kept = k .before .before .before .before .before .keep-arrow-cells in
-    let F = kept .ensures in
-    let first = kept .last .1 .1 .1 .0 in
-    let second = kept .last .1 .1 .1 .1 .0 in
-    (λ p cells B e. rw (c .wide2 .ensures .0, c .before .before .wide .ensures .0) (subst (λ (m : Name). Crossing p cells (endsAt first second m)) (sym (k .before .before .before .first-crossed .ensures) ∙ k .before .name .given .1) (crossing-is p cells (a .args .blocks .now) (a .args .onarrow .now) (a .args .n) first second (a .pre .0) e B F)), (F .first-long, F .second-long))
+    let f = k .before .before .before in
+    let a = start (kept f) in
+    let r = kept f .keep-arrow-cells in
+    let F = r .ensures in
+    let first = r .last .1 .1 .1 .0 in
+    let second = r .last .1 .1 .1 .1 .0 in (
+      λ p cells B e. rw (c .wide2 .ensures .0, c .before .before .wide .ensures .0)
+          (subst (λ (m : Name). Crossing p cells (endsAt first second m)) (sym (f .first-crossed .ensures) ∙ k .before .name .given .1)
+          (crossing-is p cells (a .args .blocks .now) (a .args .onarrow .now) (a .args .n) first second (a .pre .0) e B F)),
+      (F .first-long, F .second-long),
+    )
 
 returns-2 : tie.Need-returns-2
 returns-2 c =
-    let a = c .before .before .before .before .before .before .before in
-    let kept = c .before .before .before .before .keep-arrow-cells in
-    let F = kept .ensures in
-    let first = kept .last .1 .1 .1 .0 in
-    let second = kept .last .1 .1 .1 .1 .0 in
-    (λ p cells B e. subst (λ (m : Name). Crossing p cells (endsAt first second m)) (sym (c .before .before .first-crossed .ensures) ∙ c .enum-told .given .1) (crossing-is p cells (a .args .blocks .now) (a .args .onarrow .now) (a .args .n) first second (a .pre .0) e B F), (F .first-long, F .second-long))
+    let f = c .before .before in
+    let a = start (kept f) in
+    let r = kept f .keep-arrow-cells in
+    let F = r .ensures in
+    let first = r .last .1 .1 .1 .0 in
+    let second = r .last .1 .1 .1 .1 .0 in (
+      λ p cells B e. subst (λ (m : Name). Crossing p cells (endsAt first second m)) (sym (f .first-crossed .ensures) ∙ c .enum-told .given .1)
+          (crossing-is p cells (a .args .blocks .now) (a .args .onarrow .now) (a .args .n) first second (a .pre .0) e B F),
+      (F .first-long, F .second-long),
+    )
 
 pub find-crossing-spec : {M : Type 1} → statement M
 find-crossing-spec =

@@ -6,6 +6,10 @@ use borrow.Author.Needs.{needs}
 use Rattle.paths.proofs.keep_arrow_cell.Statement.{statement}
 use Rattle.paths.proofs.keep_arrow_cell.Tie as tie
 
+-- the start, seen from where the name is read
+abbrev start : tie.After-wide → tie.Start
+start c = c .before .before .before .before
+
 element-copy-out-if1 : tie.Need-element-copy-out-if1
 element-copy-out-if1 c = search needs
 
@@ -25,7 +29,7 @@ wide-requires c κs = search needs
 
 returns-2 : tie.Need-returns-2
 returns-2 c =
-    let a = c .before .before .before .before .before in
+    let a = start (c .before) in
     kept-out (a .args .blocks .now) (a .args .onarrow .now) (a .args .i) (a .args .first .now) (a .args .second .now) (omega (arith, c .before .wide .ensures .0, c .if2 .taken)) (a .pre .1) (a .pre .2)
 
 mul-if3 : tie.Need-mul-if3
@@ -45,9 +49,10 @@ element-write-first c = search needs
 
 returns-3 : tie.Need-returns-3
 returns-3 c =
-    let a = c .before .before .before .before .before .before .before .args in
-    let w = c .before .before .before .wide .ensures .0 in
-    rw w (kept-first (a .blocks .now) (a .onarrow .now) (a .i) (a .first .now) (a .second .now) (c .before .before .before .before .before .if1 .left) (rw (← w) (c .if3 .taken)))
+    let v = c .before .before .before in
+    let a = start v .args in
+    let w = v .wide .ensures .0 in
+    rw w (kept-first (a .blocks .now) (a .onarrow .now) (a .i) (a .first .now) (a .second .now) (v .before .before .if1 .left) (rw (← w) (c .if3 .taken)))
 
 mul-if4 : tie.Need-mul-if4
 mul-if4 c = search needs
@@ -66,15 +71,17 @@ element-write-second c = search needs
 
 returns-4 : tie.Need-returns-4
 returns-4 c =
-    let a = c .before .before .before .before .before .before .before .before .before .args in
-    let w = c .before .before .before .before .before .wide .ensures .0 in
-    rw w (kept-second (a .blocks .now) (a .onarrow .now) (a .i) (a .first .now) (a .second .now) (c .before .before .before .before .before .before .before .if1 .left) (rw (← w) (c .before .before .if3 .left)) (rw (← w) (c .if4 .taken)))
+    let v = c .before .before .before .before .before in
+    let a = start v .args in
+    let w = v .wide .ensures .0 in
+    rw w (kept-second (a .blocks .now) (a .onarrow .now) (a .i) (a .first .now) (a .second .now) (v .before .before .if1 .left) (rw (← w) (c .before .before .if3 .left)) (rw (← w) (c .if4 .taken)))
 
 returns-5 : tie.Need-returns-5
 returns-5 c =
-    let a = c .before .before .before .before .before .before .before .before .before .args in
-    let w = c .before .before .before .before .before .wide .ensures .0 in
-    kept-later (a .blocks .now) (a .onarrow .now) (a .i) (a .first .now) (a .second .now) (c .before .before .before .before .before .before .before .if1 .left) (rw (← w) (c .before .before .if3 .left)) (rw (← w) (c .if4 .left))
+    let v = c .before .before .before .before .before in
+    let a = start v .args in
+    let w = v .wide .ensures .0 in
+    kept-later (a .blocks .now) (a .onarrow .now) (a .i) (a .first .now) (a .second .now) (v .before .before .if1 .left) (rw (← w) (c .before .before .if3 .left)) (rw (← w) (c .if4 .left))
 
 pub keep-arrow-cell-spec : {M : Type 1} → statement M
 keep-arrow-cell-spec =

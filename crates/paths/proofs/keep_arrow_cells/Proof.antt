@@ -15,6 +15,10 @@ Inv-loop blocks onarrow n first₀ second₀ i₀ first second i = (i ≤ n) × 
 abbrev μ-loop : tie.MeasureT-loop
 μ-loop blocks onarrow n first₀ second₀ i₀ first second i = n - i
 
+-- the start, seen from the loop
+abbrev start : tie.At-loop Inv-loop μ-loop → tie.Start Inv-loop μ-loop
+start c = c .before .before .before .before .before
+
 reset-requires : tie.Need-reset-requires Inv-loop μ-loop
 reset-requires c κs = (c .before .pre .0, c .before .pre .1)
 
@@ -37,26 +41,28 @@ loop-holds c =
 
 keep-arrow-cell-requires : tie.Need-keep-arrow-cell-requires Inv-loop μ-loop
 keep-arrow-cell-requires c κs =
-    let s = c .before .before .before .loop in
-    let a = c .before .before .before .before .before .before .before .before in
+    let l = c .before .before .before in
+    let s = l .loop in
+    let a = start l in
     (omega (arith, c .before .before .loop-test .taken, a .pre .0), s .inv .1 .first-long, s .inv .1 .second-long)
 
 add-i : tie.Need-add-i Inv-loop μ-loop
-add-i c = omega (arith, c .before .before .before .loop-test .taken, c .before .before .before .before .before .before .before .before .before .pre .0)
+add-i c = omega (arith, c .before .before .before .loop-test .taken, start (c .before .before .before .before) .pre .0)
 
 loop-less : tie.Need-loop-less Inv-loop μ-loop
 loop-less c = omega (arith, c .before .before .before .loop-test .taken)
 
 loop-again : tie.Need-loop-again Inv-loop μ-loop
 loop-again c =
-    let a = c .before .before .before .before .before .before .before .before .before in
-    let s = c .before .before .before .before .loop in
+    let l = c .before .before .before .before in
+    let a = start l in
+    let s = l .loop in
     let i< = c .before .before .before .loop-test .taken in
     (omega (arith, i<), firsts-more (a .args .blocks .now) (a .args .onarrow .now) (a .args .n) (s .i) (a .pre .0) (omega (arith, i<, a .pre .0)) (s .inv .1) (c .keep-arrow-cell .ensures))
 
 returns : tie.Need-returns Inv-loop μ-loop
 returns c =
-    let a = c .before .before .before .before .before .before .args in
+    let a = start (c .before) .args in
     let s = c .before .loop in
     let e : s .i ≡ a .n = omega (arith, s .inv .0, c .loop-test .left) in
     subst (λ (k : ℕ). Firsts (a .blocks .now) (a .onarrow .now) (a .n) k (s .first) (s .second)) e (s .inv .1)

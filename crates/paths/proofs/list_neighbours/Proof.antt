@@ -28,13 +28,19 @@ Inv-loop cells h w t from₀ order₀ count p sides number listed₀ k₀ from o
 abbrev μ-loop : tie.MeasureT-loop
 μ-loop cells h w t from₀ order₀ count p sides number listed₀ k₀ from order listed k = number - k
 
+-- the start, seen from the loop
+abbrev start : tie.At-loop Inv-loop μ-loop → tie.Start Inv-loop μ-loop
+start c = c .before .before .before .before .before
+
 -- the neighbours are those of the cell at place t
-around-is : (c : tie.At-loop Inv-loop μ-loop) → c .before .before .neighbours .result ≡ aroundOf (sized (c .before .before .before .before .before .args .h) (c .before .before .before .before .before .args .w)) (getD (c .before .before .before .before .before .args .order .now) (c .before .before .before .before .before .args .t) 0)
+around-is : (c : tie.At-loop Inv-loop μ-loop) → c .before .before .neighbours .result ≡ aroundOf (sized (start c .args .h) (start c .args .w)) (getD (start c .args .order .now) (start c .args .t) 0)
 around-is c = rw (← c .before .before .before .wide .ensures .0) (c .before .before .neighbours .ensures)
 
 -- .. of which the k-th is next
-turn-at : (c : tie.In-loop Inv-loop μ-loop) → Turn (sized (c .before .before .before .before .before .before .args .h) (c .before .before .before .before .before .before .args .w)) (getD (c .before .before .before .before .before .before .args .order .now) (c .before .before .before .before .before .before .args .t) 0) (c .before .loop .k) (c .before .before .before .neighbours .result)
-turn-at c = turn _ _ _ _ (around-is (c .before)) (in-size (c .before .before .before .before .before .before .pre .1)) (c .loop-test .taken)
+turn-at : (c : tie.In-loop Inv-loop μ-loop)
+    → let a = start (c .before) .args in
+    Turn (sized (a .h) (a .w)) (getD (a .order .now) (a .t) 0) (c .before .loop .k) (c .before .before .before .neighbours .result)
+turn-at c = turn _ _ _ _ (around-is (c .before)) (in-size (start (c .before) .pre .1)) (c .loop-test .taken)
 
 mul-p : tie.Need-mul-p Inv-loop μ-loop
 mul-p c = omega (arith, c .pre .0, c .pre .2 .room)
@@ -72,10 +78,11 @@ wide-requires-2 c κs = tt
 
 list-cell-requires : tie.Need-list-cell-requires Inv-loop μ-loop
 list-cell-requires c κs =
+    let l = c .before .before .before .before in
     let t = turn-at (c .before .before .before) in
-    let a = c .before .before .before .before .before .before .before .before .before in
+    let a = start l in
     let o = a .pre .1 in
-    (omega (arith, c .wide2 .ensures .0, t .cell, t .on, size-most (sized (a .args .h) (a .args .w)) (o .tall) (o .wide)), c .before .before .before .before .loop .inv .room)
+    (omega (arith, c .wide2 .ensures .0, t .cell, t .on, size-most (sized (a .args .h) (a .args .w)) (o .tall) (o .wide)), l .loop .inv .room)
 
 add-k : tie.Need-add-k Inv-loop μ-loop
 add-k c = let t = turn-at (c .before .before .before .before) in omega (arith, t .four)
@@ -86,8 +93,9 @@ loop-less c = omega (arith, c .before .before .before .before .loop-test .taken)
 loop-again : tie.Need-loop-again Inv-loop μ-loop
 unfolding size
 loop-again c =
-    let a = c .before .before .before .before .before .before .before .before .before .before in
-    let s = c .before .before .before .before .before .loop in
+    let l = c .before .before .before .before .before in
+    let a = start l in
+    let s = l .loop in
     let t = turn-at (c .before .before .before .before) in
     let o = a .pre .1 in
     let g = sized (a .args .h) (a .args .w) in
@@ -107,7 +115,7 @@ loop-again c =
 returns : tie.Need-returns Inv-loop μ-loop
 unfolding size
 returns c =
-    let a = c .before .before .before .before .before .before in
+    let a = start (c .before) in
     let s = c .before .loop in
     let g = sized (a .args .h) (a .args .w) in
     let p = getD (a .args .order .now) (a .args .t) 0 in

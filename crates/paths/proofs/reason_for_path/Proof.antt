@@ -24,6 +24,10 @@ Inv-loop cells h w a b from order buffer₀ cell₀ count₀ buffer cell count =
 abbrev μ-loop : tie.MeasureT-loop
 μ-loop cells h w a b from order buffer₀ cell₀ count₀ buffer cell count = h * w - count
 
+-- the start, seen from the loop
+abbrev start : tie.At-loop Inv-loop μ-loop → tie.Start Inv-loop μ-loop
+start c = c .before .before .before .before .before
+
 -- the way at the loop's head: there is room for the next cell, which is one of the grid
 record Next (n : ℕ) (buffer : List ℕ) (cell count : ℕ) : Type 0 where
   cell-on : cell < n
@@ -31,10 +35,10 @@ record Next (n : ℕ) (buffer : List ℕ) (cell count : ℕ) : Type 0 where
   small : n ≤ 1024
   long : count < length buffer
 
-next : (c : tie.At-loop Inv-loop μ-loop) → Next (c .before .before .before .before .before .args .h * c .before .before .before .before .before .args .w) (c .loop .buffer) (c .loop .cell) (c .loop .count)
+next : (c : tie.At-loop Inv-loop μ-loop) → Next (start c .args .h * start c .args .w) (c .loop .buffer) (c .loop .cell) (c .loop .count)
 unfolding size
 next c =
-    let a = c .before .before .before .before .before in
+    let a = start c in
     let o = a .pre .0 in
     let s = c .loop in
     let k = way-below (sized (a .args .h) (a .args .w)) (a .args .cells .now) (a .args .b) (s .inv) in
@@ -89,11 +93,12 @@ loop-less c = let n = next (c .before .before .before .before) in omega (arith, 
 loop-again : tie.Need-loop-again Inv-loop μ-loop
 unfolding size
 loop-again c =
-    let a = c .before .before .before .before .before .before .before .before .before in
-    let s = c .before .before .before .before .loop in
-    let l = c .before .before .before .before .before .breadth-first .ensures in
+    let m = c .before .before .before .before in
+    let a = start m in
+    let s = m .loop in
+    let l = m .before .breadth-first .ensures in
     let g = sized (a .args .h) (a .args .w) in
-    let n = next (c .before .before .before .before) in
+    let n = next m in
     let e = c .wide .ensures .0 ∙ way-mark g (a .args .cells .now) (a .args .b) (s .inv) l in
     rw (e, c .before .before .literal .ensures) (way-more g (a .args .cells .now) (a .args .b) (s .inv) (c .before .before .before .loop-test .taken) (omega (arith, n .count-on, a .pre .3)))
 
@@ -113,13 +118,13 @@ same-length : tie.Need-same-length Inv-loop μ-loop
 same-length c =
     let s = c .before .before .loop in
     let n = next (c .before .before) in
-    let a = c .before .before .before .before .before .before .before in
+    let a = start (c .before .before) in
     length-set (s .buffer) (s .count) (c .literal2 .result) ∙ wrote-length (s .inv .wrote) (omega (arith, n .count-on, a .pre .3))
 
 returns : tie.Need-returns Inv-loop μ-loop
 unfolding size
 returns c =
-    let a = c .before .before .before .before .before .before .before in
+    let a = start (c .before .before) in
     let s = c .before .before .loop in
     let n = next (c .before .before) in
     let l = c .before .before .before .breadth-first .ensures in
