@@ -8,6 +8,10 @@ use borrow.Author.Needs.{needs}
 use Rattle.near.proofs.list_float_toward.Statement.{statement}
 use Rattle.near.proofs.list_float_toward.Tie as tie
 
+-- the start, seen from where the cell beside is known
+abbrev start : tie.After-side → tie.Start
+start c = c .before .before .before
+
 toward-requires : tie.Need-toward-requires
 toward-requires c κs = search needs
 
@@ -16,16 +20,18 @@ enum-known-side c = search needs
 
 list-float-requires : tie.Need-list-float-requires
 list-float-requires c κs =
-    let e = c .before .before .before .before .before .before in
-    (beside-small (e .args .k) (e .pre .0 .0) (sym (c .before .before .before .side .given .1) ∙ c .before .before .before .before .before .toward .ensures), e .pre .1)
+    let s = c .before .before .before in
+    let e = start s in
+    (beside-small (e .args .k) (e .pre .0 .0) (sym (s .side .given .1) ∙ s .before .before .toward .ensures), e .pre .1)
 
 enum-told : tie.Need-enum-told
 enum-told c = search needs
 
 returns : tie.Need-returns
 returns c =
-    let a = c .before .before .before .before .before .before .before .args in
-    λ t L. side-at (a .kinds .now) (a .owners .now) (sized (a .h) (a .w)) t _ (a .k) _ (sym (c .before .before .before .before .side .given .1) ∙ c .before .before .before .before .before .before .toward .ensures) (c .list-float .ensures t L)
+    let s = c .before .before .before .before in
+    let a = start s .args in
+    λ t L. side-at (a .kinds .now) (a .owners .now) (sized (a .h) (a .w)) t _ (a .k) _ (sym (s .side .given .1) ∙ s .before .before .toward .ensures) (c .list-float .ensures t L)
 
 returns-2 : tie.Need-returns-2
 returns-2 c =

@@ -21,6 +21,10 @@ Inv-loop kinds owners h w i near₀ groups₀ count y x total₀ k₀ near group
 abbrev μ-loop : tie.MeasureT-loop
 μ-loop kinds owners h w i near₀ groups₀ count y x total₀ k₀ near groups total k = 4 - k
 
+-- the start, seen from the loop
+abbrev start : tie.At-loop Inv-loop μ-loop → tie.Start Inv-loop μ-loop
+start c = c .before .before .before
+
 element-copy-out-if1 : tie.Need-element-copy-out-if1 Inv-loop μ-loop
 element-copy-out-if1 c = cell-small (c .pre .0)
 
@@ -42,8 +46,9 @@ loop-holds c =
 
 list-float-toward-requires : tie.Need-list-float-toward-requires Inv-loop μ-loop
 list-float-toward-requires c κs =
-    let s = c .before .before .before .before .before .before in
-    ((in-place (s .pre .0), c .before .before .loop-test .taken), record { test = _; so-far = c .before .before .before .loop .inv .1 (s .pre .1 .test) (s .pre .1 .so-far) })
+    let l = c .before .before .before in
+    let s = start l in
+    ((in-place (s .pre .0), c .before .before .loop-test .taken), record { test = _; so-far = l .loop .inv .1 (s .pre .1 .test) (s .pre .1 .so-far) })
 
 add-k : tie.Need-add-k Inv-loop μ-loop
 add-k c = omega (arith, c .before .before .before .loop-test .taken)
@@ -53,13 +58,14 @@ loop-less c = omega (arith, c .before .before .before .loop-test .taken)
 
 loop-again : tie.Need-loop-again Inv-loop μ-loop
 loop-again c =
-    let a = c .before .before .before .before .before .before .before .args in
-    (omega (arith, c .before .before .before .loop-test .taken), λ t L. sides-more (a .kinds .now) (a .owners .now) (sized (a .h) (a .w)) t _ _ (c .list-float-toward .ensures _ (c .before .before .before .before .loop .inv .1 t L)))
+    let l = c .before .before .before .before in
+    let a = start l .args in
+    (omega (arith, c .before .before .before .loop-test .taken), λ t L. sides-more (a .kinds .now) (a .owners .now) (sized (a .h) (a .w)) t _ _ (c .list-float-toward .ensures _ (l .loop .inv .1 t L)))
 
 returns-2 : tie.Need-returns-2 Inv-loop μ-loop
 returns-2 c =
     let l = c .before .loop in
-    let a = c .before .before .before .before .args in
+    let a = start (c .before) .args in
     let all : l .k ≡ 4 = omega (arith, l .inv .0, c .loop-test .left) in
     λ t L. sides-all (a .kinds .now) (a .owners .now) (sized (a .h) (a .w)) t (a .i) (c .before .before .if1 .left) (rw (all, div-add-mod' (a .i) (a .w)) at (l .inv .1 t L))
 

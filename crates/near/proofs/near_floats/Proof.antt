@@ -25,6 +25,10 @@ mul-i c = search needs
 element-copy-out-i : tie.Need-element-copy-out-i Inv-loop μ-loop
 element-copy-out-i c = search needs
 
+-- the start, seen from the loop
+abbrev start : tie.At-loop Inv-loop μ-loop → tie.Start Inv-loop μ-loop
+start c = c .before .before .before .before
+
 loop-holds : tie.Need-loop-holds Inv-loop μ-loop
 loop-holds c =
     let s = c .before .before .before in
@@ -35,8 +39,9 @@ cast-list-floats-beside c = search needs
 
 list-floats-beside-requires : tie.Need-list-floats-beside-requires Inv-loop μ-loop
 list-floats-beside-requires c κs =
-    let s = c .before .before .before .before .before .before .before in
-    let W = c .before .before .before .loop .inv in (
+    let l = c .before .before .before in
+    let s = start l in
+    let W = l .loop .inv in (
       record { tall = s .pre .0 .0 .tall; wide = s .pre .0 .0 .wide; within = walk-in (s .pre .0 .1) (s .args .f) (s .pre .1 .0) (W .walk) (c .before .before .loop-test .taken) },
       record { test = _; so-far = W .so-far },
     )
@@ -52,18 +57,20 @@ element-copy-out-i-2 c = search needs
 
 loop-less : tie.Need-loop-less Inv-loop μ-loop
 loop-less c =
-    let s = c .before .before .before .before .before .before .before .before .before in
-    walk-less (s .pre .0 .1) (s .args .f) (s .pre .1 .0) (c .before .before .before .before .before .loop .inv .walk) (c .before .before .before .before .loop-test .taken)
+    let i = c .before .before .before .before in
+    let s = start (i .before) in
+    walk-less (s .pre .0 .1) (s .args .f) (s .pre .1 .0) (i .before .loop .inv .walk) (i .loop-test .taken)
 
 loop-again : tie.Need-loop-again Inv-loop μ-loop
 loop-again c =
-    let s = c .before .before .before .before .before .before .before .before .before in
-    let W = c .before .before .before .before .before .loop .inv in
-    nearby-more (s .args .kinds .now) _ (s .pre .0 .1) (s .args .f) (s .pre .1 .0) W (c .before .before .before .before .loop-test .taken) (c .before .list-floats-beside .ensures _ (W .so-far))
+    let i = c .before .before .before .before in
+    let s = start (i .before) in
+    let W = i .before .loop .inv in
+    nearby-more (s .args .kinds .now) _ (s .pre .0 .1) (s .args .f) (s .pre .1 .0) W (i .loop-test .taken) (c .before .list-floats-beside .ensures _ (W .so-far))
 
 returns : tie.Need-returns Inv-loop μ-loop
 returns c =
-    let s = c .before .before .before .before .before in
+    let s = start (c .before) in
     let small = area (s .args .h) (s .args .w) (s .pre .0 .0 .tall) (s .pre .0 .0 .wide) in
     let L = nearby-end (s .args .kinds .now) _ (s .pre .0 .1) (s .args .f) (s .pre .1 .0) (c .before .loop .inv) (c .loop-test .left) in
     (λ arrows cells held. near-computed (s .args .h) (s .args .w) small (s .args .kinds .now) (s .args .owners .now) (s .args .f) _ _ _ L arrows cells held, listed-names L)

@@ -25,44 +25,49 @@ element-copy-out-wide c = search needs
 wide-requires : tie.Need-wide-requires Inv-loop μ-loop
 wide-requires c κs = search needs
 
+-- the start, seen from the loop
+abbrev start : tie.At-loop Inv-loop μ-loop → tie.Start Inv-loop μ-loop
+start c = c .before .before .before
+
 loop-holds : tie.Need-loop-holds Inv-loop μ-loop
 loop-holds c =
     let a = c .before .before .args in
     (omega arith, omega (arith, c .wide .ensures .1), omega (arith, c .wide .ensures .0, total-none (λ m. getD (a .sizes .now) m 0) (a .groups .now)))
 
 mul-wide-2 : tie.Need-mul-wide-2 Inv-loop μ-loop
-mul-wide-2 c = omega (arith, c .before .before .before .before .pre .1 .few, c .loop-test .taken)
+mul-wide-2 c = omega (arith, start (c .before) .pre .1 .few, c .loop-test .taken)
 
 element-copy-out-wide-2 : tie.Need-element-copy-out-wide-2 Inv-loop μ-loop
-element-copy-out-wide-2 c = omega (arith, c .before .before .before .before .pre .1 .few, c .loop-test .taken)
+element-copy-out-wide-2 c = omega (arith, start (c .before) .pre .1 .few, c .loop-test .taken)
 
 cast-wide : tie.Need-cast-wide Inv-loop μ-loop
-cast-wide c = omega (arith, c .before .before .before .before .before .pre .1 .small _ (c .before .loop-test .taken))
+cast-wide c = omega (arith, start (c .before .before) .pre .1 .small _ (c .before .loop-test .taken))
 
 mul-wide-3 : tie.Need-mul-wide-3 Inv-loop μ-loop
-mul-wide-3 c = omega (arith, c .before .before .before .before .before .pre .1 .small _ (c .before .loop-test .taken))
+mul-wide-3 c = omega (arith, start (c .before .before) .pre .1 .small _ (c .before .loop-test .taken))
 
 element-copy-out-wide-3 : tie.Need-element-copy-out-wide-3 Inv-loop μ-loop
-element-copy-out-wide-3 c = c .before .before .before .before .before .pre .1 .small _ (c .before .loop-test .taken)
+element-copy-out-wide-3 c = start (c .before .before) .pre .1 .small _ (c .before .loop-test .taken)
 
 wide-requires-2 : tie.Need-wide-requires-2 Inv-loop μ-loop
 wide-requires-2 c κs = search needs
 
 add-total : tie.Need-add-total Inv-loop μ-loop
 add-total c =
-    let l = c .before .before .before .before .loop in
-    omega (arith, l .inv .1, c .wide2 .ensures .1, c .before .before .before .loop-test .taken, c .before .before .before .before .before .before .before .pre .1 .few)
+    let m = c .before .before .before .before in
+    omega (arith, m .loop .inv .1, c .wide2 .ensures .1, c .before .before .before .loop-test .taken, start m .pre .1 .few)
 
 add-k : tie.Need-add-k Inv-loop μ-loop
-add-k c = omega (arith, c .before .before .before .loop-test .taken, c .before .before .before .before .before .before .before .pre .1 .few)
+add-k c = omega (arith, c .before .before .before .loop-test .taken, start (c .before .before .before .before) .pre .1 .few)
 
 loop-less : tie.Need-loop-less Inv-loop μ-loop
 loop-less c = omega (arith, c .before .before .before .loop-test .taken)
 
 loop-again : tie.Need-loop-again Inv-loop μ-loop
 loop-again c =
-    let l = c .before .before .before .before .loop in
-    let s = c .before .before .before .before .before .before .before in
+    let m = c .before .before .before .before in
+    let l = m .loop in
+    let s = start m in
     let taken = c .before .before .before .loop-test .taken in (
       omega (arith, taken),
       omega (arith, l .inv .1, c .wide2 .ensures .1),
@@ -72,7 +77,7 @@ loop-again c =
 returns : tie.Need-returns Inv-loop μ-loop
 returns c =
     let l = c .before .loop in
-    let s = c .before .before .before .before in
+    let s = start (c .before) in
     let all : l .k ≡ s .args .count = omega (arith, l .inv .0, c .loop-test .left) in
     λ h w arrows cells kinds owners near limits held S N block. (rw all at (l .inv .2)) ∙ reach-sum h w limits arrows cells kinds owners held (s .args .f) near (s .args .groups .now) (s .args .count) N block (s .pre .0) (s .args .sizes .now) S
 

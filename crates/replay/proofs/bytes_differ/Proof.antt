@@ -17,6 +17,10 @@ Inv-loop list at n bytes from other i₀ i =
 abbrev μ-loop : tie.MeasureT-loop
 μ-loop list at n bytes from other i₀ i = length bytes - i
 
+-- the start, seen from the loop
+abbrev start : tie.At-loop Inv-loop μ-loop → tie.Start Inv-loop μ-loop
+start c = c .before .before .before
+
 loop-holds : tie.Need-loop-holds Inv-loop μ-loop
 loop-holds c = refl
 
@@ -31,8 +35,9 @@ byte-in-requires c κs = search needs
 
 returns : tie.Need-returns Inv-loop μ-loop
 returns c =
-    let s = c .before .before .before .before .before .before .before .before in
-    let t = c .before .before .before .before .before .loop in
+    let p = c .before .before .before .before .before in
+    let s = start p in
+    let t = p .loop in
     let l = s .args .bytes .now in
     let said = byteIn (s .args .list .now) (s .args .at) (s .args .n) (s .args .from) (s .args .other) in
     another l said (differs l said 0) (t .i) (omega arith)
@@ -47,8 +52,9 @@ loop-less c = search needs
 
 loop-again : tie.Need-loop-again Inv-loop μ-loop
 loop-again c =
-    let s = c .before .before .before .before .before .before .before .before in
-    let t = c .before .before .before .before .before .loop in
+    let p = c .before .before .before .before .before in
+    let s = start p in
+    let t = p .loop in
     let l = s .args .bytes .now in
     let said = byteIn (s .args .list .now) (s .args .at) (s .args .n) (s .args .from) (s .args .other) in
     same l said (differs l said 0) (t .i) (omega arith)
@@ -57,7 +63,7 @@ loop-again c =
 
 returns-2 : tie.Need-returns-2 Inv-loop μ-loop
 returns-2 c =
-    let s = c .before .before .before .before in
+    let s = start (c .before) in
     let t = c .before .loop in
     let l = s .args .bytes .now in
     let said = byteIn (s .args .list .now) (s .args .at) (s .args .n) (s .args .from) (s .args .other) in

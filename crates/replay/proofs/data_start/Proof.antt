@@ -21,6 +21,10 @@ abbrev μ-loop : tie.MeasureT-loop
 byte-at-requires : tie.Need-byte-at-requires Inv-loop μ-loop
 byte-at-requires c κs = search needs
 
+-- the start, seen from the loop
+abbrev start : tie.At-loop Inv-loop μ-loop → tie.Start Inv-loop μ-loop
+start c = c .before .before .before .before
+
 returns : tie.Need-returns Inv-loop μ-loop
 returns c =
     (no-head (c .before .before .before .args .list .now) (λ e. c .if1 .taken (c .before .byte-at .ensures .0 ∙ e)), omega arith)
@@ -43,8 +47,9 @@ add-result c = search needs
 
 returns-2 : tie.Need-returns-2 Inv-loop μ-loop
 returns-2 c =
-    let t = c .before .before .before .before .before .loop in
-    let l = c .before .before .before .before .before .before .before .before .before .args .list .now in
+    let p = c .before .before .before .before .before in
+    let t = p .loop in
+    let l = start p .args .list .now in
     let b = getD l (t .i - 1) 0 in
     (empty-line l (dataStart l) (t .i) (omega arith) b (t .inv .1) (c .before .before .if2 .taken) (c .if3 .taken), omega arith)
 
@@ -53,10 +58,12 @@ shared-slice-read-if4 c = search needs
 
 returns-3 : tie.Need-returns-3 Inv-loop μ-loop
 returns-3 c =
-    let t = c .before .before .before .before .before .before .before .loop in
-    let l = c .before .before .before .before .before .before .before .before .before .before .before .args .list .now in
+    let u = c .before .before .before .before in
+    let p = u .before .before .before in
+    let t = p .loop in
+    let l = start p .args .list .now in
     let b = getD l (t .i - 1) 0 in
-    (other-line l (dataStart l) (t .i) (omega arith) b (t .inv .1) (c .before .before .before .before .if2 .taken) (c .before .before .if3 .left) (c .if4 .taken), omega arith)
+    (other-line l (dataStart l) (t .i) (omega arith) b (t .inv .1) (u .if2 .taken) (c .before .before .if3 .left) (c .if4 .taken), omega arith)
 
 add-i : tie.Need-add-i Inv-loop μ-loop
 add-i c = search needs
@@ -66,8 +73,9 @@ loop-less c = search needs
 
 loop-again : tie.Need-loop-again Inv-loop μ-loop
 loop-again c =
-    let t = c .before .before .before .loop in
-    let l = c .before .before .before .before .before .before .before .args .list .now in
+    let p = c .before .before .before in
+    let t = p .loop in
+    let l = start p .args .list .now in
     let b = getD l (t .i - 1) 0 in
     let lt : t .i < length l = omega arith in
     let e : t .i + 1 - 1 ≡ t .i = omega arith in (
@@ -82,7 +90,7 @@ loop-again c =
 returns-4 : tie.Need-returns-4 Inv-loop μ-loop
 returns-4 c =
     let t = c .before .loop in
-    let l = c .before .before .before .before .before .args .list .now in
+    let l = start (c .before) .args .list .now in
     let b = getD l (t .i - 1) 0 in
     (no-data l (dataStart l) (t .i) b (omega arith) (t .inv .1), omega arith)
 

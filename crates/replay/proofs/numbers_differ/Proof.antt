@@ -17,6 +17,10 @@ Inv-loop list at n numbers behind i₀ i =
 abbrev μ-loop : tie.MeasureT-loop
 μ-loop list at n numbers behind i₀ i = length numbers - i
 
+-- the start, seen from the loop
+abbrev start : tie.At-loop Inv-loop μ-loop → tie.Start Inv-loop μ-loop
+start c = c .before .before .before
+
 loop-holds : tie.Need-loop-holds Inv-loop μ-loop
 loop-holds c = refl
 
@@ -34,8 +38,9 @@ number-in-requires c κs = search needs
 
 returns : tie.Need-returns Inv-loop μ-loop
 returns c =
-    let s = c .before .before .before .before .before .before .before .before in
-    let t = c .before .before .before .before .before .loop in
+    let p = c .before .before .before .before .before in
+    let s = start p in
+    let t = p .loop in
     let l = s .args .numbers .now in
     let said = numberIn (s .args .list .now) (s .args .at) (s .args .n) (s .args .behind) in
     another l said (differs l said 0) (t .i) (omega arith)
@@ -50,8 +55,9 @@ loop-less c = search needs
 
 loop-again : tie.Need-loop-again Inv-loop μ-loop
 loop-again c =
-    let s = c .before .before .before .before .before .before .before .before in
-    let t = c .before .before .before .before .before .loop in
+    let p = c .before .before .before .before .before in
+    let s = start p in
+    let t = p .loop in
     let l = s .args .numbers .now in
     let said = numberIn (s .args .list .now) (s .args .at) (s .args .n) (s .args .behind) in
     same l said (differs l said 0) (t .i) (omega arith)
@@ -60,7 +66,7 @@ loop-again c =
 
 returns-2 : tie.Need-returns-2 Inv-loop μ-loop
 returns-2 c =
-    let s = c .before .before .before .before in
+    let s = start (c .before) in
     let t = c .before .loop in
     let l = s .args .numbers .now in
     let said = numberIn (s .args .list .now) (s .args .at) (s .args .n) (s .args .behind) in
