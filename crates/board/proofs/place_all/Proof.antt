@@ -31,6 +31,16 @@ Inv-loop cells₀ order₀ n decided bytes count₀ at₀ cells order count at =
 abbrev μ-loop : tie.MeasureT-loop
 μ-loop cells₀ order₀ n decided bytes count₀ at₀ cells order count at = length bytes - at
 
+-- the places passed: the start, seen from the loop; the passed test of the loop, from the call of `place`; the loop, from behind the call
+abbrev start : tie.At-loop Inv-loop μ-loop → tie.Start Inv-loop μ-loop
+start c = c .before .before
+
+abbrev tested : tie.After-place-arg2 Inv-loop μ-loop → tie.In-loop Inv-loop μ-loop
+tested c = c .before .before .before .before .before .before
+
+abbrev at-loop : tie.After-place Inv-loop μ-loop → tie.At-loop Inv-loop μ-loop
+at-loop c = tested (c .before) .before
+
 -- the bytes read
 abbrev first : tie.After-place Inv-loop μ-loop → ℕ
 first c = c .before .before .before .before .before .byte .result
@@ -44,17 +54,17 @@ low-word c = omega (arith, c .before .before .byte .ensures .1, c .byte2 .ensure
 
 -- what is left begins with them
 next-two : (c : tie.After-place Inv-loop μ-loop) →
-    let a = c .before .before .before .before .before .before .before .before in
-    drop (a .loop .at) (a .before .before .args .bytes .now) ≡ first c ∷ second c ∷ drop (a .loop .at + 2) (a .before .before .args .bytes .now)
+    let a = at-loop c in
+    drop (a .loop .at) (start a .args .bytes .now) ≡ first c ∷ second c ∷ drop (a .loop .at + 2) (start a .args .bytes .now)
 next-two c =
-    let a = c .before .before .before .before .before .before .before .before in
-    two-left (a .before .before .args .bytes .now) (a .loop .at) (first c) (second c) (c .before .before .before .before .before .before .before .loop-test .taken)
+    let a = at-loop c in
+    two-left (start a .args .bytes .now) (a .loop .at) (first c) (second c) (tested (c .before) .loop-test .taken)
     (c .before .before .before .before .before .byte .ensures .0) (c .before .before .before .byte2 .ensures .0)
 
 -- the board after a decision that is put
 after-put : (c : tie.After-enum-told Inv-loop μ-loop) (q : Problem) →
-    let a = c .before .before .before .before .before .before .before .before .before .before in
-    let s = a .before .before .args in
+    let a = at-loop (c .before .before) in
+    let s = start a .args in
     let p = c .before .before .place in
     let b₀ = held q (s .cells .now) (s .order .now) (s .decided) in
     size (gridOf q) ≡ s .n → wellFormed b₀ ≡ true
@@ -62,9 +72,8 @@ after-put : (c : tie.After-enum-told Inv-loop μ-loop) (q : Problem) →
     × (wellFormed (held q (p .last .0) (p .last .1 .0) (a .loop .count + 1)) ≡ true)
 after-put c q e w =
     let p = c .before .before in
-    let a = p .before .before .before .before .before .before .before .before in
-    let s = a .before .before in
-    let t = a .loop in
+    let s = start (at-loop p) in
+    let t = at-loop p .loop in
     let r = place-put q (t .cells) (t .order) (s .args .n) (t .count) (first p) (second p) (drop (t .at + 2) (s .args .bytes .now)) e (t .inv .same q e w .0) (low-word (p .before .before .before))
     (rw (c .enum-told .given .1) at (p .place .ensures)) in
     (t .inv .same q e w .1 ∙ ap (placedFrom (held q (t .cells) (t .order) (t .count))) (next-two p) ∙ r .0, r .1)
@@ -98,9 +107,9 @@ add-word c = omega (arith, low-word c)
 
 place-requires : tie.Need-place-requires Inv-loop μ-loop
 place-requires c κs =
-    let a = c .before .before .before .before .before .before .before in
+    let a = tested c .before in
     let t = a .loop in
-    let h = a .before .before .pre in
+    let h = start a .pre in
     let b = held (h .problem) (t .cells) (t .order) (t .count) in
     let w = whole-is b (t .inv .same (h .problem) (h .area) (h .well) .0) in
     (omega (arith, h .area, whole-most b w), low-word (c .before .before), λ i l e. whole-room b w i (rw (h .area) l) e)
@@ -115,9 +124,8 @@ returns : tie.Need-returns Inv-loop μ-loop
 unfolding refusedWith
 returns c =
     let p = c .before .before in
-    let a = p .before .before .before .before .before .before .before .before in
-    let s = a .before .before in
-    let t = a .loop in
+    let s = start (at-loop p) in
+    let t = at-loop p .loop in
     λ q e w.
     let r = place-refused q (t .cells) (t .order) (s .args .n) (t .count) (first p) (second p) (drop (t .at + 2) (s .args .bytes .now)) e (t .inv .same q e w .0) (low-word (p .before .before .before))
     (rw (c .enum-told2 .given .1) at (p .place .ensures)) in
@@ -125,8 +133,8 @@ returns c =
 
 add-count : tie.Need-add-count Inv-loop μ-loop
 add-count c =
-    let a = c .before .before .before .before .before .before .before .before .before .before in
-    let h = a .before .before .pre in
+    let a = at-loop (c .before .before) in
+    let h = start a .pre in
     let p = c .before .before .place in
     omega (arith, whole-is (held (h .problem) (p .last .0) (p .last .1 .0) (a .loop .count + 1)) (after-put c (h .problem) (h .area) (h .well) .1) .few)
 
@@ -142,7 +150,7 @@ loop-again c = record { within = omega arith; same = λ q e w. let r = after-put
 returns-2 : tie.Need-returns-2 Inv-loop μ-loop
 unfolding placedFrom refusedWith
 returns-2 c =
-    let s = c .before .before .before .before in
+    let s = start (c .before .before) in
     let t = c .before .before .loop in
     λ q e w.
     t .inv .same q e w .1 ∙ ap (placedFrom (held q (t .cells) (t .order) (t .count))) (one-left (s .args .bytes .now) (t .at) (c .if1 .taken) (c .before .loop-test .left))
@@ -150,7 +158,7 @@ returns-2 c =
 returns-3 : tie.Need-returns-3 Inv-loop μ-loop
 unfolding placedFrom refusedWith
 returns-3 c =
-    let s = c .before .before .before .before in
+    let s = start (c .before .before) in
     let t = c .before .before .loop in
     λ q e w.
     t .inv .same q e w .1 ∙ ap (placedFrom (held q (t .cells) (t .order) (t .count))) (drop-of-length-le (s .args .bytes .now) {i = t .at} (c .if1 .left))

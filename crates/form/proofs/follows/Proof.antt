@@ -42,6 +42,10 @@ wide-requires c κs = search needs
 add-k : tie.Need-add-k Inv-loop μ-loop
 add-k c = search needs
 
+-- the start, seen from the loop
+abbrev start : tie.At-loop Inv-loop μ-loop → tie.Start Inv-loop μ-loop
+start c = c .before .before .before
+
 loop-holds : tie.Need-loop-holds Inv-loop μ-loop
 loop-holds c =
     let a = c .before .before .args in
@@ -63,8 +67,9 @@ wide-requires-2 c κs = search needs
 
 beside-requires : tie.Need-beside-requires Inv-loop μ-loop
 beside-requires c κs =
-    let s = c .before .before .before .before .before .before in
-    let t = c .before .before .before .loop in
+    let l = c .before .before .before in
+    let s = start l in
+    let t = l .loop in
     (omega (arith, t .inv .is, s .pre .4 (t .inv .prev) (t .inv .within)), omega (arith, c .wide2 .ensures .0, s .pre .4 (t .k) (omega arith)), s .pre .3)
 
 add-k-2 : tie.Need-add-k-2 Inv-loop μ-loop
@@ -75,12 +80,13 @@ loop-less c = search needs
 
 loop-again : tie.Need-loop-again Inv-loop μ-loop
 loop-again c =
-    let s = c .before .before .before .before .before .before .before .before in
-    let t = c .before .before .before .before .before .loop in
+    let i = c .before .before .before .before in
+    let s = start (i .before) in
+    let t = i .before .loop in
     let line = s .args .line .now in
     let j = c .before .before .wide2 .result in
     let e : j ≡ getD line (t .k) 0 = c .before .before .wide2 .ensures .0 in
-    let lt : t .k < s .args .end = c .before .before .before .before .loop-test .taken in
+    let lt : t .k < s .args .end = i .loop-test .taken in
     let long : s .args .end ≤ length line = omega arith in
     record {
       prev = t .k;
@@ -98,7 +104,7 @@ loop-again c =
 
 returns : tie.Need-returns Inv-loop μ-loop
 returns c =
-    let s = c .before .before .before .before in
+    let s = start (c .before) in
     let t = c .before .loop in
     λ g u b. walk-end g (s .args .line .now) (t .good) (t .i) (t .k) (s .args .end) (c .loop-test .left) (t .inv .same g u b)
 

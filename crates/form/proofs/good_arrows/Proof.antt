@@ -21,26 +21,30 @@ use Rattle.form.proofs.good_arrows.Tie as tie
 abbrev cuts : tie.Start → List ℕ
 cuts s = take (s .args .count) (s .args .ends .now)
 
--- the entry of the function, from behind `all_follow`
-abbrev start : tie.After-all-follow → tie.Start
-start c = c .before .before .before .before .before .before .before .before
+-- the places passed: the start, seen from behind the marks of the arrow cells; those marks, from behind `all_follow`
+abbrev start : tie.Else2 → tie.Start
+start c = c .before .before .before .before
+
+abbrev marked : tie.After-all-follow → tie.Else2
+marked c = c .before .before .before .before
 
 -- no cell stands twice, and each is on the grid
-passed : (c : tie.Else2) → fresh (c .before .before .before .before .args .n) [] (take (c .before .before .before .before .args .total) (c .before .before .before .before .args .arrows .now)) ≡ true
+passed : (c : tie.Else2) → fresh (start c .args .n) [] (take (start c .args .total) (start c .args .arrows .now)) ≡ true
 passed c = sym (c .before .mark .ensures .0) ∙ not-false (c .before .mark .result) (c .if2 .left)
 
-on-grid : (c : tie.Else2) → Below (c .before .before .before .before .args .total) (c .before .before .before .before .args .n) (c .before .before .before .before .args .arrows .now)
+on-grid : (c : tie.Else2) → Below (start c .args .total) (start c .args .n) (start c .args .arrows .now)
 on-grid c =
-    let s = c .before .before .before .before in
+    let s = start c in
     fresh-below (s .args .n) (s .args .total) (s .args .arrows .now) (omega arith) (passed c)
 
 -- what `all_follow` says of the grid
-followed : (c : tie.After-all-follow) (g : Grid) → g .width ≡ start c .args .w → size g ≡ start c .args .n → c .all-follow .result ≡ all (isPath g) (arrowsFrom (start c .args .arrows .now) 0 (cuts (start c)))
+followed : (c : tie.After-all-follow) (g : Grid)
+    → let s = start (marked c) in
+    g .width ≡ s .args .w → size g ≡ s .args .n → c .all-follow .result ≡ all (isPath g) (arrowsFrom (s .args .arrows .now) 0 (cuts s))
 followed c g ew en =
-    let e = c .before .before .before .before in
-    let s = start c in
+    let s = start (marked c) in
     c .all-follow .ensures g (record { width = ew; rows = rw en (c .before .before .mark-rows .ensures) })
-    (λ i h. omega (arith, en, on-grid e i (omega (arith, s .pre .7))))
+    (λ i h. omega (arith, en, on-grid (marked c) i (omega (arith, s .pre .7))))
 
 returns : tie.Need-returns
 returns c =
@@ -57,12 +61,12 @@ returns-2 c =
     λ g ew en. drawn-twice g (cuts s) (s .args .arrows .now) (rw (en, ← s .pre .7) f)
 
 mark-rows-requires : tie.Need-mark-rows-requires
-mark-rows-requires c κs = let s = c .before .before .before .before .before in (blank-zeros, s .pre .2, s .pre .3, s .pre .4)
+mark-rows-requires c κs = let s = start (c .before) in (blank-zeros, s .pre .2, s .pre .3, s .pre .4)
 
 all-follow-requires : tie.Need-all-follow-requires
 all-follow-requires c κs =
     let e = c .before .before .before in
-    let s = e .before .before .before .before in (
+    let s = start e in (
       s .pre .0,
       s .pre .1,
       s .pre .5,
@@ -72,8 +76,7 @@ all-follow-requires c κs =
 
 returns-3 : tie.Need-returns-3
 returns-3 c =
-    let e = c .before .before .before .before .before in
-    let s = e .before .before .before .before in
+    let s = start (marked (c .before)) in
     λ g ew en. drawn-broken g (cuts s) (s .args .arrows .now) (sym (followed (c .before) g ew en) ∙ not-true (c .before .all-follow .result) (c .if3 .taken))
 
 zeros-requires : tie.Need-zeros-requires
@@ -81,8 +84,8 @@ zeros-requires c κs = search needs
 
 returns-4 : tie.Need-returns-4
 returns-4 c =
-    let e = c .before .before .before .before .before .before in
-    let s = e .before .before .before .before in
+    let e = marked (c .before .before) in
+    let s = start e in
     λ g ew en.
     rw (c .zeros .ensures, s .pre .7)
     (drawn-is g (cuts s) (s .args .arrows .now) (omega (arith, s .pre .7)) (rw (en, ← s .pre .7) (passed e)) (sym (followed (c .before .before) g ew en) ∙ not-false (c .before .before .all-follow .result) (c .before .if3 .left)))

@@ -32,8 +32,15 @@ problem s = record {
 abbrev grid : tie.Start → Grid
 grid s = record { height = s .args .height; width = s .args .width }
 
-abbrev entry5 : tie.After-low-codes → tie.Start
-entry5 c = c .before .before .before .before .before .before .before .before
+-- the places passed: the start, seen from where the ends rise; that place, from behind the arrows; the start, from behind the codes
+abbrev start : tie.Else3 → tie.Start
+start c = c .before .before .before .before .before
+
+abbrev risen : tie.Else4 → tie.Else3
+risen c = c .before .before
+
+abbrev start-5 : tie.After-low-codes → tie.Start
+start-5 c = start (risen (c .before))
 
 -- what the tests passed say
 right-size : (c : tie.Else1) → goodSize (grid (c .before .before)) ≡ true
@@ -42,15 +49,14 @@ right-size c = sym (c .before .good-size .ensures) ∙ not-false (c .before .goo
 area : (c : tie.Else1) → (c .before .before .args .height * c .before .before .args .width ≤ 1024) × (0 < c .before .before .args .width) × (c .before .before .args .width ≤ 32)
 area c = area-of (c .before .before .args .height) (c .before .before .args .width) (right-size c)
 
-rose : (c : tie.Else3) → rises 0 (take (c .before .before .before .before .before .args .count) (c .before .before .before .before .before .args .ends .now)) ≡ true
+rose : (c : tie.Else3) → rises 0 (take (start c .args .count) (start c .args .ends .now)) ≡ true
 rose c = sym (c .before .rising .ensures .0) ∙ not-false (c .before .rising .result .rise) (c .if3 .left)
 
 drew : (c : tie.Else4) →
-    drawn (grid (c .before .before .before .before .before .before .before))
-    (take (c .before .before .before .before .before .before .before .args .count) (c .before .before .before .before .before .before .before .args .ends .now))
-    (c .before .before .before .before .before .before .before .args .arrows .now) ≡ true
+    let s = start (risen c) in
+    drawn (grid s) (take (s .args .count) (s .args .ends .now)) (s .args .arrows .now) ≡ true
 unfolding size
-drew c = sym (c .before .good-arrows .ensures (grid (c .before .before .before .before .before .before .before)) refl refl) ∙ not-false (c .before .good-arrows .result) (c .if4 .left)
+drew c = sym (c .before .good-arrows .ensures (grid (start (risen c))) refl refl) ∙ not-false (c .before .good-arrows .result) (c .if4 .left)
 
 returns : tie.Need-returns
 unfolding gridOf
@@ -77,7 +83,7 @@ good-arrows-requires c κs =
 returns-4 : tie.Need-returns-4
 unfolding size gridOf
 returns-4 c =
-    let s = c .before .before .before .before .before .before .before in
+    let s = start (c .before .before) in
     problem-drawn (problem s) (sym (c .before .good-arrows .ensures (grid s) refl refl) ∙ not-true (c .before .good-arrows .result) (c .if4 .taken))
 
 low-codes-requires : tie.Need-low-codes-requires
@@ -85,14 +91,14 @@ low-codes-requires c κs = let e = c .before .before .before .before .before in 
 
 returns-5 : tie.Need-returns-5
 unfolding size gridOf
-returns-5 c = problem-codes (problem (entry5 (c .before))) (sym (c .before .low-codes .ensures) ∙ not-true (c .before .low-codes .result) (c .if5 .taken))
+returns-5 c = problem-codes (problem (start-5 (c .before))) (sym (c .before .low-codes .ensures) ∙ not-true (c .before .low-codes .result) (c .if5 .taken))
 
 filled-requires : tie.Need-filled-requires
 filled-requires c κs = search needs
 
 returns-6 : tie.Need-returns-6
 unfolding size gridOf
-returns-6 c = problem-behind (problem (entry5 (c .before .before .before))) (sym (c .before .filled .ensures) ∙ not-true (c .before .filled .result) (c .if6 .taken))
+returns-6 c = problem-behind (problem (start-5 (c .before .before .before))) (sym (c .before .filled .ensures) ∙ not-true (c .before .filled .result) (c .if6 .taken))
 
 zeros-requires : tie.Need-zeros-requires
 zeros-requires c κs = search needs
@@ -102,10 +108,11 @@ unfolding size gridOf
 returns-7 c =
     let f = c .before .before in
     let l = f .before .before in
-    let s = entry5 l in
-    let e = l .before .before .before .before .before .before in
+    let s = start-5 l in
+    let r = risen (l .before) in
+    let e = r .before .before .before in
     c .zeros .ensures
-    ∙ problem-is (problem s) (right-size e) (s .pre) (omega arith) (rose (l .before .before .before)) (drew (l .before))
+    ∙ problem-is (problem s) (right-size e) (s .pre) (omega arith) (rose r) (drew (l .before))
     (sym (l .low-codes .ensures) ∙ not-false (l .low-codes .result) (f .before .if5 .left))
     (sym (f .filled .ensures) ∙ not-false (f .filled .result) (c .before .if6 .left))
 

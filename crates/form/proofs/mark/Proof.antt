@@ -18,6 +18,13 @@ Inv-loop marks₀ list count n k₀ marks k = Marking n (take count list) k mark
 abbrev μ-loop : tie.MeasureT-loop
 μ-loop marks₀ list count n k₀ marks k = count - k
 
+-- the places passed: the loop and the start, seen from where a listed cell is read
+abbrev at-loop : tie.After-wide Inv-loop μ-loop → tie.At-loop Inv-loop μ-loop
+at-loop c = c .before .before .before
+
+abbrev start : tie.After-wide Inv-loop μ-loop → tie.Start Inv-loop μ-loop
+start c = at-loop c .before
+
 -- the listed cells, by place
 abbrev listed : tie.Start Inv-loop μ-loop → List ℕ
 listed s = take (s .args .count) (s .args .list .now)
@@ -42,9 +49,10 @@ wide-requires c κs = search needs
 
 returns : tie.Need-returns Inv-loop μ-loop
 returns c =
-    let s = c .before .before .before .before .before in
-    let t = c .before .before .before .before .loop in
-    let q : getD (listed s) (t .k) 0 ≡ c .before .wide .result = at-next s (t .k) (omega arith) ∙ sym (c .before .wide .ensures .0) in
+    let v = c .before in
+    let s = start v in
+    let t = at-loop v .loop in
+    let q : getD (listed s) (t .k) 0 ≡ v .wide .result = at-next s (t .k) (omega arith) ∙ sym (v .wide .ensures .0) in
     (marking-off (t .inv) (below s (t .k) (omega arith)) (omega (arith, q, c .if1 .taken)), λ z. absurd (false≢true z))
 
 element-copy-out-if2 : tie.Need-element-copy-out-if2 Inv-loop μ-loop
@@ -52,9 +60,10 @@ element-copy-out-if2 c = search needs
 
 returns-2 : tie.Need-returns-2 Inv-loop μ-loop
 returns-2 c =
-    let s = c .before .before .before .before .before .before .before in
-    let t = c .before .before .before .before .before .before .loop in
-    let q : getD (listed s) (t .k) 0 ≡ c .before .before .before .wide .result = at-next s (t .k) (omega arith) ∙ sym (c .before .before .before .wide .ensures .0) in (
+    let v = c .before .before .before in
+    let s = start v in
+    let t = at-loop v .loop in
+    let q : getD (listed s) (t .k) 0 ≡ v .wide .result = at-next s (t .k) (omega arith) ∙ sym (v .wide .ensures .0) in (
       marking-twice (t .inv) (below s (t .k) (omega arith)) (omega (arith, q, c .before .before .if1 .left)) (s .pre .3) (rw q (c .if2 .taken)),
       λ z. absurd (false≢true z),
     )
@@ -70,9 +79,10 @@ loop-less c = search needs
 
 loop-again : tie.Need-loop-again Inv-loop μ-loop
 loop-again c =
-    let s = c .before .before .before .before .before .before .before in
-    let t = c .before .before .before .before .before .before .loop in
-    let q : getD (listed s) (t .k) 0 ≡ c .before .before .before .wide .result = at-next s (t .k) (omega arith) ∙ sym (c .before .before .before .wide .ensures .0) in
+    let v = c .before .before .before in
+    let s = start v in
+    let t = at-loop v .loop in
+    let q : getD (listed s) (t .k) 0 ≡ v .wide .result = at-next s (t .k) (omega arith) ∙ sym (v .wide .ensures .0) in
     rw q at (marking-more (t .inv) (below s (t .k) (omega arith)) (omega (arith, q, c .before .before .if1 .left)) (s .pre .3) (rw q (c .if2 .left)))
 
 returns-3 : tie.Need-returns-3 Inv-loop μ-loop

@@ -19,8 +19,12 @@ use Rattle.board.proofs.Board.decide_all.Tie as tie
 well-formed-requires : tie.Need-well-formed-requires
 well-formed-requires c κs = search needs
 
+-- the places passed: the test of the board and the start, seen from the call of `place_all`
+abbrev tested : tie.After-struct-known → tie.Else1
+tested c = c .before .before .before .before .before .before
+
 abbrev entry : tie.After-struct-known → tie.Start
-entry c = c .before .before .before .before .before .before .before .before .before
+entry c = tested c .before .before .before
 
 abbrev board : tie.After-struct-known → Board
 board c = entry c .args .self
@@ -28,7 +32,7 @@ board c = entry c .args .self
 -- the board passed its test
 well : (c : tie.After-struct-known) → wellFormed (board c) ≡ true
 well c =
-    let e = c .before .before .before .before .before .before in
+    let e = tested c in
     sym (e .before .well-formed .ensures) ∙ not-false (e .before .well-formed .result) (e .if1 .left)
 
 -- the board with all decisions put
