@@ -41,10 +41,11 @@ same-length-2 c = search needs
 
 returns-2 : tie.Need-returns-2
 returns-2 c =
-    let s = c .before .before .before .before .before .before .before .before in
-    let p = c .before .before .before .before .before .place in
+    let j = c .before .before .before .before in
+    let p = j .before .place in
+    let s = j .before .before .before .before in
     inserted-new (s .args .part .now) (c .before .before .shift .last .0) (p .result) (s .args .count) (s .args .lit) (s .pre) (p .ensures)
-    (λ lt e. ⊎-elim (λ w. w .2 .left e) (λ w. absurd (omega (arith, w .left))) (c .before .before .before .before .if1 .came))
+    (λ lt e. ⊎-elim (λ w. w .2 .left e) (λ w. absurd (omega (arith, w .left))) (j .if1 .came))
     (c .before .before .shift .ensures)
 
 pub insert-spec : {M : Type 1} → statement M

@@ -17,6 +17,13 @@ Inv-loop kinds owners n e part₀ count total₀ i₀ part total i = (i ≤ n) �
 abbrev μ-loop : tie.MeasureT-loop
 μ-loop kinds owners n e part₀ count total₀ i₀ part total i = n - i
 
+-- the places passed: the start, seen from the loop; the passed test of the loop, from the end of a round
+abbrev start : tie.At-loop Inv-loop μ-loop → tie.Start Inv-loop μ-loop
+start c = c .before .before
+
+abbrev tested : tie.After-slice-known2 Inv-loop μ-loop → tie.In-loop Inv-loop μ-loop
+tested c = c .before .before .before .before
+
 loop-holds : tie.Need-loop-holds Inv-loop μ-loop
 loop-holds c =
     let a = c .before .args in
@@ -24,21 +31,22 @@ loop-holds c =
 
 insert-cell-requires : tie.Need-insert-cell-requires Inv-loop μ-loop
 insert-cell-requires c κs =
-    let p = c .before .before .before .before .pre in
+    let p = start (c .before .before) .pre in
     let o = c .before .before .loop .inv .1 (p .base) (p .test) (p .ordered) in
     (omega (arith, p .ordered .small, c .before .loop-test .taken), ordered-room o)
 
 add-i : tie.Need-add-i Inv-loop μ-loop
-add-i c = omega (arith, c .before .before .before .before .before .before .before .pre .ordered .small, c .before .before .before .before .loop-test .taken)
+add-i c = omega (arith, start (tested c .before) .pre .ordered .small, tested c .loop-test .taken)
 
 loop-less : tie.Need-loop-less Inv-loop μ-loop
-loop-less c = omega (arith, c .before .before .before .before .loop-test .taken)
+loop-less c = omega (arith, tested c .loop-test .taken)
 
 loop-again : tie.Need-loop-again Inv-loop μ-loop
 loop-again c =
-    let a = c .before .before .before .before .before .before .before .args in (
-      omega (arith, c .before .before .before .before .loop-test .taken),
-      λ base t o. block-more (a .kinds .now) (a .owners .now) (a .e) t (c .before .before .before .before .before .loop .i) (c .before .before .insert-cell .ensures base (a .n) _ (c .before .before .before .before .loop-test .taken) (c .before .before .before .before .before .loop .inv .1 base t o)),
+    let l = tested c .before in
+    let a = start l .args in (
+      omega (arith, tested c .loop-test .taken),
+      λ base t o. block-more (a .kinds .now) (a .owners .now) (a .e) t (l .loop .i) (c .before .before .insert-cell .ensures base (a .n) _ (tested c .loop-test .taken) (l .loop .inv .1 base t o)),
     )
 
 same-length : tie.Need-same-length Inv-loop μ-loop

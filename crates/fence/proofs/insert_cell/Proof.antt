@@ -39,8 +39,9 @@ same-length c = search needs
 
 returns-3 : tie.Need-returns-3
 returns-3 c =
-    let a = c .before .before .before .before .before .before .before .before .before .args in
-    λ base n t l o. cell-added (a .kinds .now) (a .owners .now) (a .e) (a .i) (c .before .before .before .before .before .before .if1 .left) (c .before .before .before .before .if2 .left) l o (c .before .before .insert .ensures)
+    let e = c .before .before .before .before in
+    let a = e .before .before .before .before .before .args in
+    λ base n t l o. cell-added (a .kinds .now) (a .owners .now) (a .e) (a .i) (e .before .before .if1 .left) (e .if2 .left) l o (c .before .before .insert .ensures)
 
 pub insert-cell-spec : {M : Type 1} → statement M
 insert-cell-spec =

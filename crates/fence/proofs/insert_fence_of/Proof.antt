@@ -7,6 +7,13 @@ use borrow.Author.Needs.{needs}
 use Rattle.fence.proofs.insert_fence_of.Statement.{statement}
 use Rattle.fence.proofs.insert_fence_of.Tie as tie
 
+-- the start, seen from behind the two tests whether the cell touches a marked one
+abbrev start : tie.After-touches-marked → tie.Start
+start c = c .before .before .before .before
+
+abbrev start-2 : tie.After-touches-marked2 → tie.Start
+start-2 c = c .before .before .before .before .before .before
+
 element-copy-out-if1 : tie.Need-element-copy-out-if1
 element-copy-out-if1 c = search needs
 
@@ -17,20 +24,24 @@ cast-insert : tie.Need-cast-insert
 cast-insert c = search needs
 
 insert-requires : tie.Need-insert-requires
-insert-requires c κs = ordered-room (c .before .before .before .before .before .before .pre .1 .ordered)
+insert-requires c κs = ordered-room (start (c .before .before) .pre .1 .ordered)
 
 same-length : tie.Need-same-length
 same-length c = search needs
 
 returns : tie.Need-returns
 returns c =
-    let s = c .before .before .before .before .before .before .before .before .before in
+    let u = c .before .before .before .before in
+    let m = u .before in
+    let s = start m in
     let a = s .args in
-    λ base t whole o. adds-itself (a .cells .now) (a .kinds .now) (a .owners .now) (a .marks .now) _ (a .f) (a .i) t (c .before .before .before .before .before .before .if1 .taken) (sym (c .before .before .before .before .before .touches-marked .ensures) ∙ c .before .before .before .before .if2 .taken) (s .pre .0 .within) o (c .before .before .insert .ensures)
+    λ base t whole o.
+    adds-itself (a .cells .now) (a .kinds .now) (a .owners .now) (a .marks .now) _ (a .f) (a .i) t
+    (m .before .if1 .taken) (sym (m .touches-marked .ensures) ∙ u .if2 .taken) (s .pre .0 .within) o (c .before .before .insert .ensures)
 
 returns-2 : tie.Need-returns-2
 returns-2 c =
-    let a = c .before .before .before .before .before .args in
+    let a = start (c .before) .args in
     λ base t whole o. none-added t _ (adds-untouched (a .cells .now) (a .kinds .now) (a .owners .now) (a .marks .now) _ (a .f) (a .i) (sym (c .before .touches-marked .ensures) ∙ c .if2 .left)) o
 
 element-copy-out-if3 : tie.Need-element-copy-out-if3
@@ -52,12 +63,17 @@ same-length-2 c = search needs
 
 returns-4 : tie.Need-returns-4
 returns-4 c =
-    let a = c .before .before .before .before .before .before .before .before .before .before .before .args in
-    λ base t whole o. adds-disturbing (a .cells .now) (a .kinds .now) (a .owners .now) (a .marks .now) _ (a .f) (a .i) t (c .before .before .before .before .before .before .before .before .if1 .left) (c .before .before .before .before .before .before .if3 .left) (sym (c .before .before .before .before .before .touches-marked2 .ensures) ∙ c .before .before .before .before .if4 .taken) (c .before .before .insert-disturbing-blocks .ensures base t whole o)
+    let u = c .before .before .before .before in
+    let m = u .before in
+    let e = m .before in
+    let a = start-2 m .args in
+    λ base t whole o.
+    adds-disturbing (a .cells .now) (a .kinds .now) (a .owners .now) (a .marks .now) _ (a .f) (a .i) t (e .before .before .if1 .left) (e .if3 .left) (sym (m .touches-marked2 .ensures) ∙ u .if4 .taken)
+    (c .before .before .insert-disturbing-blocks .ensures base t whole o)
 
 returns-5 : tie.Need-returns-5
 returns-5 c =
-    let a = c .before .before .before .before .before .before .before .args in
+    let a = start-2 (c .before) .args in
     λ base t whole o. none-added t _ (adds-untouched (a .cells .now) (a .kinds .now) (a .owners .now) (a .marks .now) _ (a .f) (a .i) (sym (c .before .touches-marked2 .ensures) ∙ c .if4 .left)) o
 
 pub insert-fence-of-spec : {M : Type 1} → statement M

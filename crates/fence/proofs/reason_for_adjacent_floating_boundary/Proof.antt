@@ -17,6 +17,13 @@ Inv-loop cells kinds owners marks h w f part₀ n count₀ i₀ part count i = (
 abbrev μ-loop : tie.MeasureT-loop
 μ-loop cells kinds owners marks h w f part₀ n count₀ i₀ part count i = n - i
 
+-- the places passed: the start, seen from the loop; the passed test of the loop, from the end of a round
+abbrev start : tie.At-loop Inv-loop μ-loop → tie.Start Inv-loop μ-loop
+start c = c .before .before
+
+abbrev tested : tie.After-slice-known2 Inv-loop μ-loop → tie.In-loop Inv-loop μ-loop
+tested c = c .before .before .before .before
+
 mul-n : tie.Need-mul-n Inv-loop μ-loop
 mul-n c =
     let s = c .before in
@@ -30,7 +37,7 @@ loop-holds c =
 
 insert-fence-of-requires : tie.Need-insert-fence-of-requires Inv-loop μ-loop
 insert-fence-of-requires c κs =
-    let s = c .before .before .before .before in
+    let s = start (c .before .before) in
     let a = s .args in
     let v = c .before .before .loop .inv in (
       record { tall = s .pre .0 .tall; wide = s .pre .0 .wide; within = c .before .loop-test .taken },
@@ -39,18 +46,19 @@ insert-fence-of-requires c κs =
 
 add-i : tie.Need-add-i Inv-loop μ-loop
 add-i c =
-    let s = c .before .before .before .before .before .before .before in
-    omega (arith, area (s .args .h) (s .args .w) (s .pre .0 .tall) (s .pre .0 .wide), c .before .before .before .before .loop-test .taken)
+    let s = start (tested c .before) in
+    omega (arith, area (s .args .h) (s .args .w) (s .pre .0 .tall) (s .pre .0 .wide), tested c .loop-test .taken)
 
 loop-less : tie.Need-loop-less Inv-loop μ-loop
-loop-less c = omega (arith, c .before .before .before .before .loop-test .taken)
+loop-less c = omega (arith, tested c .loop-test .taken)
 
 loop-again : tie.Need-loop-again Inv-loop μ-loop
 loop-again c =
-    let a = c .before .before .before .before .before .before .before .args in (
-      omega (arith, c .before .before .before .before .loop-test .taken),
-      fence-more (a .cells .now) (a .kinds .now) (a .owners .now) (a .marks .now) _ (a .f) (c .before .before .before .before .before .loop .i)
-          (c .before .before .insert-fence-of .ensures _ _ (among-whole (a .cells .now) (a .kinds .now) (a .owners .now) (a .marks .now) _ (a .f) (c .before .before .before .before .before .loop .i)) (c .before .before .before .before .before .loop .inv .1)),
+    let l = tested c .before in
+    let a = start l .args in (
+      omega (arith, tested c .loop-test .taken),
+      fence-more (a .cells .now) (a .kinds .now) (a .owners .now) (a .marks .now) _ (a .f) (l .loop .i)
+          (c .before .before .insert-fence-of .ensures _ _ (among-whole (a .cells .now) (a .kinds .now) (a .owners .now) (a .marks .now) _ (a .f) (l .loop .i)) (l .loop .inv .1)),
     )
 
 same-length : tie.Need-same-length Inv-loop μ-loop

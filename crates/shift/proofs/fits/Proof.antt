@@ -34,6 +34,10 @@ Inv-loop rows columns count kinds owners head next near groups total h w e f fy 
 abbrev μ-loop : tie.MeasureT-loop
 μ-loop rows columns count kinds owners head next near groups total h w e f fy fx k₀ k = total - k
 
+-- the start, seen from the loop
+abbrev start : tie.At-loop Inv-loop μ-loop → tie.Start Inv-loop μ-loop
+start c = c .before .before .before
+
 -- the first cell has a row and a column
 first : (c : tie.Start Inv-loop μ-loop) → InPlace (c .args .h) (c .args .w) (c .args .f / c .args .w) (c .args .f % c .args .w)
 first c = in-place (record { tall = c .pre .0 .tall; wide = c .pre .0 .wide; within = c .pre .1 })
@@ -60,24 +64,25 @@ loop-holds : tie.Need-loop-holds Inv-loop μ-loop
 loop-holds c = record { high = omega arith; passed = below-none _ }
 
 mul-fits-chain : tie.Need-mul-fits-chain Inv-loop μ-loop
-mul-fits-chain c = omega (arith, c .loop-test .taken, c .before .before .before .before .pre .4 .few)
+mul-fits-chain c = omega (arith, c .loop-test .taken, start (c .before) .pre .4 .few)
 
 element-copy-out-fits-chain : tie.Need-element-copy-out-fits-chain Inv-loop μ-loop
-element-copy-out-fits-chain c = omega (arith, c .loop-test .taken, c .before .before .before .before .pre .4 .few)
+element-copy-out-fits-chain c = omega (arith, c .loop-test .taken, start (c .before) .pre .4 .few)
 
 fits-chain-requires-2 : tie.Need-fits-chain-requires-2 Inv-loop μ-loop
 fits-chain-requires-2 c κs =
-    let s = c .before .before .before .before .before in
+    let s = start (c .before .before) in
     let p = s .pre in
     (p .0, first s .row, first s .column, p .2, p .4 .small (c .before .before .loop .k) (c .before .loop-test .taken))
 
 returns-2 : tie.Need-returns-2 Inv-loop μ-loop
 returns-2 c =
-    let s = c .before .before .before .before .before .before .before in
+    let l = c .before .before .before .before in
+    let s = start l in
     let a = s .args in
     λ lines cells held floats arrow places.
-    sym (fits-float (a .h) (a .w) (limits s) lines cells (a .e) (a .f) held floats arrow places (sym (c .before .before .before .before .before .before .fits-chain .ensures) ∙ c .before .before .before .before .before .if1 .left)
-    (c .before .before .before .before .loop .k) (c .before .before .before .loop-test .taken) (sym (c .before .fits-chain2 .ensures) ∙ c .if2 .taken))
+    sym (fits-float (a .h) (a .w) (limits s) lines cells (a .e) (a .f) held floats arrow places (sym (l .before .before .fits-chain .ensures) ∙ l .before .if1 .left)
+    (l .loop .k) (c .before .before .before .loop-test .taken) (sym (c .before .fits-chain2 .ensures) ∙ c .if2 .taken))
 
 add-k : tie.Need-add-k Inv-loop μ-loop
 add-k c = search needs
@@ -92,7 +97,7 @@ loop-again c =
 
 returns-3 : tie.Need-returns-3 Inv-loop μ-loop
 returns-3 c =
-    let s = c .before .before .before .before in
+    let s = start (c .before) in
     let a = s .args in
     let l = c .before .loop in
     λ lines cells held floats arrow places.

@@ -35,6 +35,10 @@ Inv-loop rows columns count kinds owners near h w e dy dx k₀ k = Amid h w rows
 abbrev μ-loop : tie.MeasureT-loop
 μ-loop rows columns count kinds owners near h w e dy dx k₀ k = count - k
 
+-- the passed test of the loop, seen from behind the two numbers read
+abbrev tested : tie.After-wide2 Inv-loop μ-loop → tie.In-loop Inv-loop μ-loop
+tested c = c .before .before .before .before
+
 loop-holds : tie.Need-loop-holds Inv-loop μ-loop
 loop-holds c = record { high = omega arith; passed = below-none _ }
 
@@ -58,10 +62,11 @@ wide-requires-2 c κs = search needs
 
 lands-in-requires : tie.Need-lands-in-requires Inv-loop μ-loop
 lands-in-requires c κs =
-    let a = c .before .before .before .before .before .before in
+    let i = tested c in
+    let a = i .before .before in
     let p = a .pre .0 in
-    let k = c .before .before .before .before .before .loop .k in
-    let k< = c .before .before .before .before .loop-test .taken in (
+    let k = i .before .loop .k in
+    let k< = i .loop-test .taken in (
       record {
         tall = p .tall;
         wide = p .wide;
@@ -75,11 +80,12 @@ lands-in-requires c κs =
 returns : tie.Need-returns Inv-loop μ-loop
 unfolding allLand
 returns c =
-    let a = c .before .before .before .before .before .before .before .before in
-    let k = c .before .before .before .before .before .before .before .loop .k in
+    let i = tested (c .before .before) in
+    let a = i .before .before in
+    let k = i .before .loop .k in
     let out = rw (c .before .before .before .before .wide .ensures .0, c .before .before .wide2 .ensures .0, toZ-ofZ w32 (a .args .dy) (a .fits .dy), toZ-ofZ w32 (a .args .dx) (a .fits .dx)) at (c .before .lands-in .ensures) in
     sym (not-all (test (a .args .h) (a .args .w) (a .args .rows .now) (a .args .columns .now) (reachesAt (a .args .kinds .now) (a .args .owners .now) (a .args .near .now) (a .args .e)) (a .args .dy) (a .args .dx)) (a .args .count) k
-    (c .before .before .before .before .before .before .loop-test .taken) (sym out ∙ not-true _ (c .if1 .taken)))
+    (i .loop-test .taken) (sym out ∙ not-true _ (c .if1 .taken)))
 
 add-k : tie.Need-add-k Inv-loop μ-loop
 add-k c = search needs
@@ -89,10 +95,10 @@ loop-less c = search needs
 
 loop-again : tie.Need-loop-again Inv-loop μ-loop
 loop-again c =
-    let a = c .before .before .before .before .before .before .before .before in
-    let s = c .before .before .before .before .before .before .before .loop in
+    let i = tested (c .before .before) in
+    let s = i .before .loop in
     let inside = rw (c .before .before .before .before .wide .ensures .0, c .before .before .wide2 .ensures .0) at (c .before .lands-in .ensures) in
-    record { high = omega (arith, c .before .before .before .before .before .before .loop-test .taken); passed = below-more _ (s .k) (s .inv .passed) (sym inside ∙ not-false _ (c .if1 .left)) }
+    record { high = omega (arith, i .loop-test .taken); passed = below-more _ (s .k) (s .inv .passed) (sym inside ∙ not-false _ (c .if1 .left)) }
 
 returns-2 : tie.Need-returns-2 Inv-loop μ-loop
 unfolding allLand

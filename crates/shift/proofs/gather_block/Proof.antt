@@ -29,6 +29,13 @@ Inv-loop kinds head next w f rows₀ columns₀ count₀ i₀ rows columns count
 abbrev μ-loop : tie.MeasureT-loop
 μ-loop kinds head next w f rows₀ columns₀ count₀ i₀ rows columns count i = 1024 - i
 
+-- the places passed: the start, seen from the loop; the passed test of the loop, from the end of a round
+abbrev start : tie.At-loop Inv-loop μ-loop → tie.Start Inv-loop μ-loop
+start c = c .before .before
+
+abbrev tested : tie.After-i2 Inv-loop μ-loop → tie.In-loop Inv-loop μ-loop
+tested c = c .before .before .before .before .before
+
 mul-i : tie.Need-mul-i Inv-loop μ-loop
 mul-i c = search needs
 
@@ -49,10 +56,11 @@ element-copy-out-keep-place c = omega (arith, c .before .before .loop-test .take
 
 keep-place-requires : tie.Need-keep-place-requires Inv-loop μ-loop
 keep-place-requires c κs =
-    let s = c .before .before .before .before .before .before in
+    let i = c .before .before .before in
+    let s = start (i .before) in
     let C = s .pre .0 .chains in
-    let I = c .before .before .before .before .loop .inv (s .pre .0 .owners) (s .pre .0 .size) C in
-    let taken = c .before .before .before .loop-test .taken in
+    let I = i .before .loop .inv (s .pre .0 .owners) (s .pre .0 .size) C in
+    let taken = i .loop-test .taken in
     (omega (arith, I .so-far .many, block-few (s .args .kinds .now) (I .passed), walk-few C (s .args .f) (s .pre .1) (I .walk) taken, taken), s .pre .2, taken)
 
 mul-i-2 : tie.Need-mul-i-2 Inv-loop μ-loop
@@ -63,24 +71,24 @@ element-copy-out-i-2 c = omega (arith, c .before .before .before .before .loop-t
 
 cast-i-2 : tie.Need-cast-i-2 Inv-loop μ-loop
 cast-i-2 c =
-    let s = c .before .before .before .before .before .before .before .before in
+    let s = start (tested c .before) in
     let C = s .pre .0 .chains in
-    let I = c .before .before .before .before .before .before .loop .inv (s .pre .0 .owners) (s .pre .0 .size) C in
-    omega (arith, walk-high C (s .args .f) (s .pre .1) (walk-more C (s .args .f) (s .pre .1) (I .walk) (c .before .before .before .before .before .loop-test .taken)))
+    let I = tested c .before .loop .inv (s .pre .0 .owners) (s .pre .0 .size) C in
+    omega (arith, walk-high C (s .args .f) (s .pre .1) (walk-more C (s .args .f) (s .pre .1) (I .walk) (tested c .loop-test .taken)))
 
 loop-less : tie.Need-loop-less Inv-loop μ-loop
 loop-less c =
-    let s = c .before .before .before .before .before .before .before .before in
+    let s = start (tested c .before) in
     let C = s .pre .0 .chains in
-    let I = c .before .before .before .before .before .before .loop .inv (s .pre .0 .owners) (s .pre .0 .size) C in
-    walk-less C (s .args .f) (s .pre .1) (I .walk) (c .before .before .before .before .before .loop-test .taken)
+    let I = tested c .before .loop .inv (s .pre .0 .owners) (s .pre .0 .size) C in
+    walk-less C (s .args .f) (s .pre .1) (I .walk) (tested c .loop-test .taken)
 
 loop-again : tie.Need-loop-again Inv-loop μ-loop
 loop-again c =
-    let s = c .before .before .before .before .before .before .before .before in
+    let s = start (tested c .before) in
     let a = s .args in
-    let l = c .before .before .before .before .before .before .loop in
-    let taken = c .before .before .before .before .before .loop-test .taken in
+    let l = tested c .before .loop in
+    let taken = tested c .loop-test .taken in
     let kept = c .before .keep-place .ensures in
     λ owners n C.
     let I = l .inv owners n C in

@@ -11,6 +11,13 @@ use Rattle.shift.proofs.ShiftChains.{gathered-view}
 use Rattle.shift.proofs.shift_fits.Statement.{statement}
 use Rattle.shift.proofs.shift_fits.Tie as tie
 
+-- the places passed: the start, seen from behind the list of near floats; that list, from behind the gathered block
+abbrev start : tie.After-near-floats → tie.Start
+start c = c .before .before .before
+
+abbrev listed : tie.After-gather-block → tie.After-near-floats
+listed c = c .before .before .before
+
 small : (c : tie.Start) → c .args .h * c .args .w ≤ 1024
 small c = area (c .args .h) (c .args .w) (c .pre .0 .tall) (c .pre .0 .wide)
 
@@ -20,27 +27,35 @@ near-floats-requires c κs = let p = c .before .before .pre in ((p .0, p .1), (p
 gather-block-requires : tie.Need-gather-block-requires
 unfolding size
 gather-block-requires c κs =
-    let s = c .before .before .before .before .before in
+    let s = start (c .before .before) in
     let a = s .args in
     let p = s .pre in
     (record { owners = a .owners .now; size = a .h * a .w; chains = p .1 }, omega (arith, p .2, small s), width-pos (sized (a .h) (a .w)) (p .2), p .4 .rows-long, p .4 .columns-long)
 
 fits-requires : tie.Need-fits-requires
 fits-requires c κs =
-    let s = c .before .before .before .before .before .before .before .before .before .before in
+    let g = c .before .before .before .before in
+    let s = start (listed g) in
     let a = s .args in
-    let p = s .pre in
-    (gathered-inside (a .h) (a .w) (a .kinds .now) (a .owners .now) (a .f) (p .0 .tall) (p .0 .wide) (c .before .before .before .before .gather-block .ensures (a .owners .now) (a .h * a .w) (p .1)), p .2, p .1, p .3, c .before .before .before .before .before .before .before .near-floats .ensures .1)
+    let p = s .pre in (
+      gathered-inside (a .h) (a .w) (a .kinds .now) (a .owners .now) (a .f) (p .0 .tall) (p .0 .wide) (g .gather-block .ensures (a .owners .now) (a .h * a .w) (p .1)),
+      p .2,
+      p .1,
+      p .3,
+      listed g .near-floats .ensures .1,
+    )
 
 returns : tie.Need-returns
 returns c =
-    let s = c .before .before .before .before .before .before .before .before .before .before .before in
+    let g = c .before .before .before .before .before in
+    let n = listed g .near-floats in
+    let s = start (listed g) in
     let a = s .args in
     let p = s .pre in
-    let gathered = c .before .before .before .before .before .gather-block .ensures (a .owners .now) (a .h * a .w) (p .1) in
+    let gathered = g .gather-block .ensures (a .owners .now) (a .h * a .w) (p .1) in
     let long = gathered-long gathered 1024 (p .4 .rows-long) (p .4 .columns-long) (omega (arith, gathered .many, in-few (a .kinds .now) (a .owners .now) (a .f) (a .h * a .w), small s)) in (
-      (λ lines cells held arrow. c .fits2 .ensures lines cells held (c .before .before .before .before .before .before .before .before .near-floats .ensures .0 lines cells held) arrow (gathered-view (a .h) (a .w) lines cells held (a .f) gathered)),
-      record { groups-long = c .before .before .before .before .before .before .before .before .near-floats .ensures .1 .long; rows-long = long .0; columns-long = long .1 },
+      (λ lines cells held arrow. c .fits2 .ensures lines cells held (n .ensures .0 lines cells held) arrow (gathered-view (a .h) (a .w) lines cells held (a .f) gathered)),
+      record { groups-long = n .ensures .1 .long; rows-long = long .0; columns-long = long .1 },
     )
 
 pub shift-fits-spec : {M : Type 1} → statement M
