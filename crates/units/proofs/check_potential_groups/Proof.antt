@@ -15,6 +15,16 @@ use Rattle.units.proofs.Quick.{quiet-1}
 use Rattle.units.proofs.check_potential_groups.Statement.{statement}
 use Rattle.units.proofs.check_potential_groups.Tie as tie
 
+-- the places passed: the start, seen from behind the marks; the marks, from behind the search for a stranded group; the search, from where the group's name is told
+abbrev start : tie.After-mark-arrow-blocks → tie.Start
+start c = c .before .before .before
+
+abbrev marked : tie.After-find-stranded → tie.After-mark-arrow-blocks
+marked c = c .before .before .before .before .before
+
+abbrev searched : tie.After-known-told → tie.After-find-stranded
+searched c = c .before .before .before
+
 mark-arrow-blocks-requires : tie.Need-mark-arrow-blocks-requires
 mark-arrow-blocks-requires c κs = search needs
 
@@ -23,30 +33,33 @@ mul-has-stranded c = search needs
 
 has-stranded-requires : tie.Need-has-stranded-requires
 has-stranded-requires c κs =
-    let s = c .before .before .before .before in
+    let s = start (c .before) in
     (omega (arith, area (s .args .h) (s .args .w) (s .pre .0 .tall) (s .pre .0 .wide)), c .before .mark-arrow-blocks .ensures .0 .long)
 
 returns : tie.Need-returns
 returns c = λ lines held.
-    let s = c .before .before .before .before .before .before in
-    let m = c .before .before .before .mark-arrow-blocks in
-    quiet-1 (s .args .h) (s .args .w) (s .pre .0 .tall) (s .pre .0 .wide) lines (s .args .cells .now) (s .pre .1) held (m .ensures .0) (sym (c .before .has-stranded .ensures) ∙ not-true _ (c .if1 .taken)) (s .args .buffer .now)
+    let m = c .before .before .before in
+    let s = start m in
+    quiet-1 (s .args .h) (s .args .w) (s .pre .0 .tall) (s .pre .0 .wide) lines (s .args .cells .now) (s .pre .1) held
+    (m .mark-arrow-blocks .ensures .0) (sym (c .before .has-stranded .ensures) ∙ not-true _ (c .if1 .taken)) (s .args .buffer .now)
 
 mul-find-stranded : tie.Need-mul-find-stranded
 mul-find-stranded c = search needs
 
 find-stranded-requires : tie.Need-find-stranded-requires
 find-stranded-requires c κs =
-    let s = c .before .before .before .before .before .before .before in
-    (omega (arith, area (s .args .h) (s .args .w) (s .pre .0 .tall) (s .pre .0 .wide)), c .before .before .before .before .mark-arrow-blocks .ensures .0 .long)
+    let m = c .before .before .before .before in
+    let s = start m in
+    (omega (arith, area (s .args .h) (s .args .w) (s .pre .0 .tall) (s .pre .0 .wide)), m .mark-arrow-blocks .ensures .0 .long)
 
 enum-known-name : tie.Need-enum-known-name
 enum-known-name c = search needs
 
 cast-reason-for-potential-unit-boundary : tie.Need-cast-reason-for-potential-unit-boundary
 cast-reason-for-potential-unit-boundary c =
-    let s = c .before .before .before .before .before .before .before .before .before .before .before in
-    omega (arith, c .before .before .before .find-stranded .ensures .1 (c .before .name .given .0 .0) (c .before .name .given .1), area (s .args .h) (s .args .w) (s .pre .0 .tall) (s .pre .0 .wide))
+    let f = searched c in
+    let s = start (marked f) in
+    omega (arith, f .find-stranded .ensures .1 (c .before .name .given .0 .0) (c .before .name .given .1), area (s .args .h) (s .args .w) (s .pre .0 .tall) (s .pre .0 .wide))
 
 reason-for-potential-unit-boundary-requires : tie.Need-reason-for-potential-unit-boundary-requires
 reason-for-potential-unit-boundary-requires c κs = search needs
@@ -59,9 +72,10 @@ same-length c = search needs
 
 returns-2 : tie.Need-returns-2
 returns-2 c = λ lines held.
-    let s = c .before .before .before .before .before .before .before .before .before .before .before .before .before .before .before in
-    let f = c .before .before .before .before .before .before .before .find-stranded in
-    let n = c .before .before .before .before .before .name in
+    let t = c .before .before .before .before in
+    let s = start (marked (searched t)) in
+    let f = searched t .find-stranded in
+    let n = t .before .name in
     let h = s .args .h in
     let w = s .args .w in
     let cells = take (h * w) (s .args .cells .now) in
@@ -71,7 +85,7 @@ returns-2 c = λ lines held.
 
 returns-3 : tie.Need-returns-3
 returns-3 c = λ lines held.
-    let s = c .before .before .before .before .before .before .before .before .before .before in
+    let s = start (marked (c .before .before)) in
     let f = c .before .before .find-stranded in
     let h = s .args .h in
     let w = s .args .w in

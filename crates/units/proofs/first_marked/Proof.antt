@@ -43,11 +43,12 @@ element-copy-out-if2 c = search needs
 
 returns : tie.Need-returns Inv-loop μ-loop
 returns c =
-    let a = c .before .before .before .before .before .before .before .args in
-    let s = c .before .before .before .before .before .before .loop in
+    let i = c .before .before .before .before .before in
+    let a = i .before .before .args in
+    let s = i .before .loop in
     let t = test (a .groups .now) (a .marks .now) in
     let own : getD (a .groups .now) (s .f) 0 ≡ s .f = sym (c .before .before .before .wide .ensures .0) ∙ c .before .before .if1 .taken in
-    sym (s .inv .1 ∙ first-hit t (a .n) (s .f) (c .before .before .before .before .before .loop-test .taken) (named (a .groups .now) (s .f) _ own ∙ eq-eqb (getD (a .marks .now) (s .f) 0) 1 (c .if2 .taken)))
+    sym (s .inv .1 ∙ first-hit t (a .n) (s .f) (i .loop-test .taken) (named (a .groups .now) (s .f) _ own ∙ eq-eqb (getD (a .marks .now) (s .f) 0) 1 (c .if2 .taken)))
 
 add-f : tie.Need-add-f Inv-loop μ-loop
 add-f c = search needs

@@ -16,6 +16,10 @@ Inv-loop cells groups onarrow n marks₀ i₀ marks i = (i ≤ n) × Ranked cell
 abbrev μ-loop : tie.MeasureT-loop
 μ-loop cells groups onarrow n marks₀ i₀ marks i = n - i
 
+-- the start, seen from the loop
+abbrev start : tie.At-loop Inv-loop μ-loop → tie.Start Inv-loop μ-loop
+start c = c .before .before .before
+
 clear-requires : tie.Need-clear-requires Inv-loop μ-loop
 clear-requires c κs = search needs
 
@@ -51,19 +55,21 @@ loop-less c = search needs
 
 loop-again : tie.Need-loop-again Inv-loop μ-loop
 loop-again c =
-    let a = c .before .before .before .before .before .before .before .before .before in
-    let s = c .before .before .before .before .before .before .loop in
+    let i = c .before .before .before .before .before in
+    let a = start (i .before) in
+    let s = i .before .loop in
     let r = c .before .rank .ensures in
     let w = c .before .before .wide .ensures .0 in (
-      omega (arith, c .before .before .before .before .before .loop-test .taken),
+      omega (arith, i .loop-test .taken),
       rw (c .raise .ensures, w, r) (ranked-more (a .args .cells .now) (a .args .groups .now) (a .args .onarrow .now) (a .args .n) (s .i) (s .marks) (a .pre .0) (s .inv .1)),
     )
 
 returns : tie.Need-returns Inv-loop μ-loop
 returns c =
+    let a = start (c .before) .args in
     let s = c .before .loop in
-    let e : s .i ≡ c .before .before .before .before .args .n = omega (arith, s .inv .0, c .loop-test .left) in
-    subst (λ (k : ℕ). Ranked (c .before .before .before .before .args .cells .now) (c .before .before .before .before .args .groups .now) (c .before .before .before .before .args .onarrow .now) (c .before .before .before .before .args .n) k (s .marks)) e (s .inv .1)
+    let e : s .i ≡ a .n = omega (arith, s .inv .0, c .loop-test .left) in
+    subst (λ (k : ℕ). Ranked (a .cells .now) (a .groups .now) (a .onarrow .now) (a .n) k (s .marks)) e (s .inv .1)
 
 pub rank-groups-spec : {M : Type 1} → statement M
 rank-groups-spec =

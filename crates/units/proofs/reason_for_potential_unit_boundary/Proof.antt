@@ -34,6 +34,13 @@ Inv-loop cells groups h w f buffer₀ n count₀ i₀ buffer count i = Amid cell
 abbrev μ-loop : tie.MeasureT-loop
 μ-loop cells groups h w f buffer₀ n count₀ i₀ buffer count i = n - i
 
+-- the places passed: the start, seen from the loop; the passed test of the loop, from the end of a round
+abbrev start : tie.At-loop Inv-loop μ-loop → tie.Start Inv-loop μ-loop
+start c = c .before .before
+
+abbrev tested : tie.After-slice-known2 Inv-loop μ-loop → tie.In-loop Inv-loop μ-loop
+tested c = c .before .before .before .before .before
+
 -- there is room for one more at the loop's head
 record Next (buffer₀ buffer : List ℕ) (n count : ℕ) : Type 0 where
   small : n ≤ 1024
@@ -61,29 +68,29 @@ loop-holds c =
 
 on-boundary-requires : tie.Need-on-boundary-requires Inv-loop μ-loop
 on-boundary-requires c κs =
-    let p = c .before .before .before .before .pre in
+    let p = start (c .before .before) .pre in
     record { tall = p .0; wide = p .1; within = c .before .loop-test .taken }
 
 push-requires : tie.Need-push-requires Inv-loop μ-loop
 push-requires c κs =
     let n = next (c .before .before .before) in
     let i< = c .before .before .loop-test .taken in
-    let a = c .before .before .before .before .before in
+    let a = start (c .before .before .before) in
     (omega (arith, n .few, n .long, a .pre .2), omega (arith, i<, n .small), omega arith)
 
 add-i : tie.Need-add-i Inv-loop μ-loop
-add-i c = omega (arith, c .before .before .before .before .before .loop-test .taken, next (c .before .before .before .before .before .before) .small)
+add-i c = omega (arith, tested c .loop-test .taken, next (tested c .before) .small)
 
 loop-less : tie.Need-loop-less Inv-loop μ-loop
-loop-less c = omega (arith, c .before .before .before .before .before .loop-test .taken)
+loop-less c = omega (arith, tested c .loop-test .taken)
 
 loop-again : tie.Need-loop-again Inv-loop μ-loop
 loop-again c =
-    let a = c .before .before .before .before .before .before .before .before in
-    let s = c .before .before .before .before .before .before .loop in
-    let i< = c .before .before .before .before .before .loop-test .taken in
+    let a = start (tested c .before) in
+    let s = tested c .before .loop in
+    let i< = tested c .loop-test .taken in
     let t = test (a .args .cells .now) (a .args .groups .now) (sized (a .args .h) (a .args .w)) (a .args .f) in
-    let n = next (c .before .before .before .before .before .before) in
+    let n = next (tested c .before) in
     record {
       high = omega (arith, i<);
       wrote = cells-more t 0 (s .i) (s .inv .wrote) (omega (arith, n .few, a .pre .2)) (c .before .before .before .on-boundary .ensures) (c .before .before .push .ensures .0) (c .before .before .push .ensures .1);
@@ -99,7 +106,7 @@ mul-buffer : tie.Need-mul-buffer Inv-loop μ-loop
 mul-buffer c = let n = next (c .before .before .before) in omega (arith, n .few, n .small)
 
 slice-write-buffer : tie.Need-slice-write-buffer Inv-loop μ-loop
-slice-write-buffer c = let n = next (c .before .before .before) in omega (arith, n .few, n .long, c .before .before .before .before .before .pre .2)
+slice-write-buffer c = let n = next (c .before .before .before) in omega (arith, n .few, n .long, start (c .before .before .before) .pre .2)
 
 add-result : tie.Need-add-result Inv-loop μ-loop
 add-result c = let n = next (c .before .before .before) in omega (arith, n .few, n .small)
@@ -112,7 +119,7 @@ same-length c =
 returns : tie.Need-returns Inv-loop μ-loop
 unfolding size
 returns c =
-    let a = c .before .before .before .before .before in
+    let a = start (c .before .before .before) in
     let s = c .before .before .before .loop in
     let n = next (c .before .before .before) in
     let g = sized (a .args .h) (a .args .w) in
