@@ -51,9 +51,10 @@ loop-less c = search needs
 
 loop-again : tie.Need-loop-again Inv-loop μ-loop
 loop-again c =
-    let a = c .before .before .before .before .before .before .before .before in
-    let s = c .before .before .before .before .before .before .loop in
-    let i< = c .before .before .before .before .before .loop-test .taken in
+    let r = c .before .before .before .before .before in
+    let a = r .before .before .before in
+    let s = r .before .loop in
+    let i< = r .loop-test .taken in
     let p = ofBlock (a .args .kinds .now) (a .args .owners .now) (a .args .f) in
     record {
       high = omega (arith, i<);

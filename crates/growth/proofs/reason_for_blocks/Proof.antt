@@ -24,41 +24,50 @@ use Rattle.growth.proofs.reason_for_blocks.Tie as tie
 abbrev Kinds : tie.Start → List (List ℕ) → Type 0
 Kinds a lines = Held (viewOn (a .args .h) (a .args .w) lines (a .args .cells .now)) (a .args .kinds .now) (a .args .owners .now)
 
+-- the places passed: the start, seen from behind the block; the block, from behind the arrow cell
+abbrev start : tie.After-reason-for-arrow-block → tie.Start
+start c = c .before .before .before
+
+abbrev written : tie.After-push → tie.After-reason-for-arrow-block
+written c = c .before .before .before .before
+
 -- the block is written
-first : (c : tie.After-reason-for-arrow-block) (lines : List (List ℕ)) → Kinds (c .before .before .before) lines
-    → Wrote (each 1 (block (viewOn (c .before .before .before .args .h) (c .before .before .before .args .w) lines (c .before .before .before .args .cells .now)) (c .before .before .before .args .b)))
-    (c .before .before .before .args .buffer .now) (c .reason-for-arrow-block .last .1 .1 .1 .1 .0) (c .reason-for-arrow-block .result)
+first : (c : tie.After-reason-for-arrow-block) (lines : List (List ℕ))
+    → let s = start c in
+    let a = s .args in
+    Kinds s lines → Wrote (each 1 (block (viewOn (a .h) (a .w) lines (a .cells .now)) (a .b))) (a .buffer .now) (c .reason-for-arrow-block .last .1 .1 .1 .1 .0) (c .reason-for-arrow-block .result)
 first c lines k =
-    let a = c .before .before .before .args in
+    let a = start c .args in
     c .reason-for-arrow-block .ensures (viewOn (a .h) (a .w) lines (a .cells .now)) k (view-size (a .h) (a .w) lines (a .cells .now))
 
 -- .. which leaves room
-count-low : (c : tie.After-reason-for-arrow-block) → c .reason-for-arrow-block .result ≤ c .before .before .before .args .h * c .before .before .before .args .w
+count-low : (c : tie.After-reason-for-arrow-block) → c .reason-for-arrow-block .result ≤ start c .args .h * start c .args .w
 count-low c =
-    let s = c .before .before .before in
+    let s = start c in
     let a = s .args in
     let lines = s .pre .1 .lines in
     let b = block (viewOn (a .h) (a .w) lines (a .cells .now)) (a .b) in
     omega (arith, first c lines (s .pre .1 .held) .many, each-length 1 b, block-few (a .h) (a .w) lines (a .cells .now) (a .b))
 
 -- the arrow cell is written behind it
-second : (c : tie.After-push) (lines : List (List ℕ)) → Kinds (c .before .before .before .before .before .before .before) lines
-    → Wrote (each 1 (block (viewOn (c .before .before .before .before .before .before .before .args .h) (c .before .before .before .before .before .before .before .args .w) lines (c .before .before .before .before .before .before .before .args .cells .now)) (c .before .before .before .before .before .before .before .args .b))
-    ++ each 1 (c .before .before .before .before .before .before .before .args .i ∷ []))
-    (c .before .before .before .before .before .before .before .args .buffer .now) (c .push .last .0) (c .push .result)
-second c lines k =
-    let r = c .before .before .before .before in
+second : (c : tie.After-push) (lines : List (List ℕ))
+    → let r = c .before .before .before .before in
     let s = r .before .before .before in
+    let a = s .args in
+    Kinds s lines → Wrote (each 1 (block (viewOn (a .h) (a .w) lines (a .cells .now)) (a .b)) ++ each 1 (a .i ∷ [])) (a .buffer .now) (c .push .last .0) (c .push .result)
+second c lines k =
+    let r = written c in
+    let s = start r in
     rw (c .push .ensures .0, c .push .ensures .1) (cell-wrote (first r lines k) (s .args .i) (omega (arith, count-low r, s .pre .0 .room)))
 
-total-low : (c : tie.After-push) → c .push .result ≤ c .before .before .before .before .before .before .before .args .h * c .before .before .before .before .before .before .before .args .w + 1
-total-low c = omega (arith, c .push .ensures .0, count-low (c .before .before .before .before))
+total-low : (c : tie.After-push) → c .push .result ≤ start (written c) .args .h * start (written c) .args .w + 1
+total-low c = omega (arith, c .push .ensures .0, count-low (written c))
 
-total-fits : (c : tie.After-push) → c .push .result ≤ length (c .before .before .before .before .before .before .before .args .buffer .now)
-total-fits c = let s = c .before .before .before .before .before .before .before in omega (arith, total-low c, s .pre .0 .room, s .pre .2)
+total-fits : (c : tie.After-push) → c .push .result ≤ length (start (written c) .args .buffer .now)
+total-fits c = let s = start (written c) in omega (arith, total-low c, s .pre .0 .room, s .pre .2)
 
-long : (c : tie.After-push) → length (c .push .last .0) ≡ length (c .before .before .before .before .before .before .before .args .buffer .now)
-long c = let s = c .before .before .before .before .before .before .before in wrote-length (second c (s .pre .1 .lines) (s .pre .1 .held)) (total-fits c)
+long : (c : tie.After-push) → length (c .push .last .0) ≡ length (start (written c) .args .buffer .now)
+long c = let s = start (written c) in wrote-length (second c (s .pre .1 .lines) (s .pre .1 .held)) (total-fits c)
 
 mul-reason-for-arrow-block : tie.Need-mul-reason-for-arrow-block
 mul-reason-for-arrow-block c = search needs
@@ -71,13 +80,16 @@ reason-for-arrow-block-requires c κs =
 push-requires : tie.Need-push-requires
 push-requires c κs =
     let r = c .before .before .before in
-    let s = r .before .before .before in
-    (omega (arith, count-low r, wrote-length (first r (s .pre .1 .lines) (s .pre .1 .held)) (omega (arith, count-low r, s .pre .0 .room)), s .pre .0 .room), omega (arith, s .pre .2, area (s .args .h) (s .args .w) (s .pre .0 .tall) (s .pre .0 .wide)), omega arith)
+    let s = start r in (
+      omega (arith, count-low r, wrote-length (first r (s .pre .1 .lines) (s .pre .1 .held)) (omega (arith, count-low r, s .pre .0 .room)), s .pre .0 .room),
+      omega (arith, s .pre .2, area (s .args .h) (s .args .w) (s .pre .0 .tall) (s .pre .0 .wide)),
+      omega arith,
+    )
 
 mul-reason-for-adjacent-floating-boundary : tie.Need-mul-reason-for-adjacent-floating-boundary
 mul-reason-for-adjacent-floating-boundary c =
     let p = c .before .before in
-    let s = p .before .before .before .before .before .before .before in
+    let s = start (written p) in
     omega (arith, total-low p, area (s .args .h) (s .args .w) (s .pre .0 .tall) (s .pre .0 .wide))
 
 sub-reason-for-adjacent-floating-boundary : tie.Need-sub-reason-for-adjacent-floating-boundary
@@ -95,18 +107,19 @@ reason-for-adjacent-floating-boundary-requires :
     tie.Need-reason-for-adjacent-floating-boundary-requires
 reason-for-adjacent-floating-boundary-requires c κs =
     let p = c .before .before .before in
-    let s = p .before .before .before .before .before .before .before in (
+    let s = start (written p) in (
       record { tall = s .pre .0 .tall; wide = s .pre .0 .wide },
       rw (lent (second p (s .pre .1 .lines) (s .pre .1 .held)) (total-fits p), length-drop) (omega (arith, total-low p, s .pre .0 .room, s .pre .2)),
     )
 
 add-result : tie.Need-add-result
 add-result c =
-    let p = c .before .before .before .before .before .before in
-    let s = p .before .before .before .before .before .before .before in
+    let r = c .before .before in
+    let p = r .before .before .before .before in
+    let s = start (written p) in
     let a = s .args in
     let lines = s .pre .1 .lines in
-    let q = c .before .before .reason-for-adjacent-floating-boundary .ensures lines (s .pre .1 .held) (s .pre .1 .marked) in
+    let q = r .reason-for-adjacent-floating-boundary .ensures lines (s .pre .1 .held) (s .pre .1 .marked) in
     omega (arith, total-low p, area (a .h) (a .w) (s .pre .0 .tall) (s .pre .0 .wide), q .number, fence-few (a .h) (a .w) lines (a .cells .now) (a .f))
 
 same-length : tie.Need-same-length
@@ -114,12 +127,11 @@ same-length c = search needs
 
 returns : tie.Need-returns
 returns c =
-    let p = c .before .before .before .before .before .before in
-    let s = p .before .before .before .before .before .before .before in
-    let a = s .args in
+    let r = c .before .before in
+    let p = r .before .before .before .before in
     λ lines k m.
     wrote-part (second p lines k) (total-fits p)
-    (rw (lent (second p lines k) (total-fits p)) at (fence-wrote (c .before .before .reason-for-adjacent-floating-boundary .ensures lines k m)))
+    (rw (lent (second p lines k) (total-fits p)) at (fence-wrote (r .reason-for-adjacent-floating-boundary .ensures lines k m)))
 
 pub reason-for-blocks-spec : {M : Type 1} → statement M
 reason-for-blocks-spec =

@@ -33,6 +33,13 @@ Inv-loop cells arrows from to buffer₀ count₀ k₀ buffer count k = Amid cell
 abbrev μ-loop : tie.MeasureT-loop
 μ-loop cells arrows from to buffer₀ count₀ k₀ buffer count k = to - k
 
+-- the places passed: the start, seen from the loop; the loop, from where the cell is read
+abbrev start : tie.At-loop Inv-loop μ-loop → tie.Start Inv-loop μ-loop
+start c = c .before .before
+
+abbrev at-loop : tie.After-wide Inv-loop μ-loop → tie.At-loop Inv-loop μ-loop
+at-loop c = c .before .before .before
+
 loop-holds : tie.Need-loop-holds Inv-loop μ-loop
 loop-holds c =
     let a = c .before .args in
@@ -49,17 +56,18 @@ wide-requires c κs = search needs
 
 element-copy-out-push : tie.Need-element-copy-out-push Inv-loop μ-loop
 element-copy-out-push c =
-    let a = c .before .before .before .before .before .before in
-    omega (arith, c .before .wide .ensures .0, a .pre .1 .cells (c .before .before .before .before .loop .k))
+    let l = at-loop (c .before) in
+    omega (arith, c .before .wide .ensures .0, start l .pre .1 .cells (l .loop .k))
 
 push-requires : tie.Need-push-requires Inv-loop μ-loop
 push-requires c κs =
-    let a = c .before .before .before .before .before .before .before in
-    let s = c .before .before .before .before .before .loop in
-    let i< = c .before .before .before .before .loop-test .taken in
+    let v = c .before .before in
+    let a = start (at-loop v) in
+    let s = at-loop v .loop in
+    let i< = v .before .before .loop-test .taken in
     let few = fewer (s .inv) in
     let long = wrote-length (s .inv .wrote) (omega (arith, few, i<, a .pre .2)) in
-    (omega (arith, few, long, i<, a .pre .2), omega (arith, c .before .before .wide .ensures .0, a .pre .1 .cells (s .k)), omega arith)
+    (omega (arith, few, long, i<, a .pre .2), omega (arith, v .wide .ensures .0, a .pre .1 .cells (s .k)), omega arith)
 
 add-k : tie.Need-add-k Inv-loop μ-loop
 add-k c = search needs
@@ -70,12 +78,12 @@ loop-less c = search needs
 loop-again : tie.Need-loop-again Inv-loop μ-loop
 unfolding empty
 loop-again c =
-    let a = c .before .before .before .before .before .before .before .before .before .before in
-    let s = c .before .before .before .before .before .before .before .before .loop in
-    let i< = c .before .before .before .before .before .before .before .loop-test .taken in
-    let w = c .before .before .before .before .before .wide in
+    let v = c .before .before .before .before .before in
+    let a = start (at-loop v) in
+    let s = at-loop v .loop in
+    let i< = v .before .before .loop-test .taken in
     let p = c .before .before .push in
-    let e = w .ensures .0 in
+    let e = v .wide .ensures .0 in
     record {
       low = omega (arith, s .inv .low);
       high = omega (arith, i<);
@@ -85,13 +93,13 @@ loop-again c =
 
 same-length : tie.Need-same-length Inv-loop μ-loop
 same-length c =
-    let a = c .before .before .before in
+    let a = start (c .before) in
     let s = c .before .loop in
     wrote-length (s .inv .wrote) (omega (arith, fewer (s .inv), s .inv .high, a .pre .2))
 
 returns : tie.Need-returns Inv-loop μ-loop
 returns c =
-    let a = c .before .before .before in
+    let a = start (c .before) in
     let s = c .before .loop in
     rw (← slice-all (a .args .arrows .now) (a .args .from) (a .args .to) (s .k) (s .inv .low) (c .loop-test .left) (s .inv .high)) (s .inv .wrote)
 
