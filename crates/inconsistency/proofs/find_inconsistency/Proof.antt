@@ -19,16 +19,15 @@ use borrow.Author.Needs.{needs}
 use Rattle.inconsistency.proofs.find_inconsistency.Statement.{statement}
 use Rattle.inconsistency.proofs.find_inconsistency.Tie as tie
 
--- the start, seen from behind the search for reason 1
-abbrev start : tie.After-check-potential-groups → tie.Start
-start c = c .before .before .before .before .before .before .before .before .before .before
-
--- the total of the arrows' cells and their marks, seen from there
-abbrev totalled : tie.After-check-potential-groups → tie.After-arrow-total
-totalled c = c .before .before .before .before .before .before .before .before
-
+-- the marks of the arrow cells, the total of the arrows' cells and the start, seen from behind the search for reason 1
 abbrev marked : tie.After-check-potential-groups → tie.After-mark-arrow-cells
 marked c = c .before .before .before .before .before .before
+
+abbrev totalled : tie.After-check-potential-groups → tie.After-arrow-total
+totalled c = marked c .before .before
+
+abbrev start : tie.After-check-potential-groups → tie.Start
+start c = totalled c .before .before
 
 -- the search for reason 1, seen from where it found nothing
 abbrev searched : tie.After-enum-told → tie.After-check-potential-groups
@@ -108,9 +107,10 @@ compute-connected-components-requires c κs = search needs
 check-potential-groups-requires : tie.Need-check-potential-groups-requires
 check-potential-groups-requires c κs =
     let m = c .before .before .before .before .before in
-    let s = m .before .before .before .before in
+    let t = m .before .before in
+    let s = t .before .before in
     let fit = s .pre .0 in
-    (fit, listed-is (s .args .h) (s .args .w) (fit .tall) (fit .wide) (drawn (m .before .before)) (m .mark-arrow-cells .ensures))
+    (fit, listed-is (s .args .h) (s .args .w) (fit .tall) (fit .wide) (drawn t) (m .mark-arrow-cells .ensures))
 
 enum-told : tie.Need-enum-told
 enum-told c = search needs
