@@ -26,7 +26,7 @@ use Rattle.literals.proofs.Findings.{nothing-found, found-first, first-append}
 use Rattle.growth.proofs.PairNames.{next-taken}
 use Rattle.growth.proofs.PairPlaces.{pairs-start, pairs-more, pairs-end}
 
--- what was found is so of the buffer under its other name
+-- what was found holds where the buffer before it is an equal one
 pub found-same : {f : Found} {b b′ a : List ℕ} {r : Finding} → b ≡ b′ → FoundAs f b a r → FoundAs f b′ a r
 found-same e x = rw e at x
 
