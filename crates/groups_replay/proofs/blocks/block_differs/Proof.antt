@@ -7,6 +7,10 @@ use native.Mathlib.Nat.{mul-le-mul}
 use Rattle.groups_replay.proofs.blocks.block_differs.Statement.{statement}
 use Rattle.groups_replay.proofs.blocks.block_differs.Tie as tie
 
+-- the start, seen from behind the reach
+abbrev start : tie.After-compute-reach → tie.Start
+start c = c .before .before .before .before .before .before
+
 cast-name : tie.Need-cast-name
 cast-name c = search needs
 
@@ -29,7 +33,7 @@ slice-aggregate-reason-for-adjacent-floating-boundary c = search needs
 reason-for-adjacent-floating-boundary-requires :
     tie.Need-reason-for-adjacent-floating-boundary-requires
 reason-for-adjacent-floating-boundary-requires c κs =
-    let s = c .before .before .before .before .before .before .before .before .before in
+    let s = start (c .before .before .before) in
     let tall : s .args .h ≤ 32 = omega arith in
     let wide : s .args .w ≤ 32 = omega arith in
     (record { tall = tall; wide = wide }, omega (arith, mul-le-mul tall wide))
