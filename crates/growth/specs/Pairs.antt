@@ -37,7 +37,7 @@ pub record NextSquare (cells arrows : List ℕ) (from to r : ℕ) : Type 0 where
 abbrev pub viewOn : ℕ → ℕ → List (List ℕ) → List ℕ → View
 viewOn h w lines cells = view (puzzleWith (sized h w) lines) (take (h * w) cells)
 
--- the arrays hold the kinds of that board, and the places from `from` up to `to` hold cells of an arrow, no more than the grid has
+-- the arrays hold the kinds of that board, and the places from `from` up to `to` hold arrow cells, no more than the grid has
 pub record Scene (h w : ℕ) (lines : List (List ℕ)) (cells arrows kinds owners : List ℕ) (from to : ℕ) : Type 0 where
   pub held : Held (viewOn h w lines cells) kinds owners
   pub few : to ≤ from + h * w
@@ -60,7 +60,7 @@ pub record Grouped (owners head next sizes : List ℕ) (n : ℕ) : Type 0 where
   pub chains : Chains owners head next n
   pub counts : Sizes owners n sizes
 
--- the kinds are those of some board, and the places from `from` up to `to` are those of one of its arrows
+-- the kinds are those of some board, and the places from `from` up to `to` hold arrow cells of it
 pub record Line (h w : ℕ) (cells arrows kinds owners : List ℕ) (from to : ℕ) : Type 0 where
   pub lines : List (List ℕ)
   pub scene : Scene h w lines cells arrows kinds owners from to
