@@ -4,9 +4,11 @@ use crate::host::{decode, encode, find_bytes, literals, Literal};
 use crate::record::{Problem, Record, RecordError};
 
 /// Stands where `EvolminoConstraint` stood: the calls of cspuz_core's `SimpleCustomConstraint`, with the same signatures, the same
-/// answers in the same order, and a panic where the original panics.
+/// answers in the same order, and a panic where the original panics. The proof ends at the library's call: this type is plain Rust, and
+/// `compare constraint` holds it beside the original.
 ///
-/// The trait is cspuz_core's, so a solver that uses it wraps this type in one of its own and hands each call on:
+/// The trait is cspuz_core's, so a solver that uses it wraps this type in one of its own and hands each call on. It is `Clone`, which
+/// `util::wrap_reason_verifier_on_test` asks for, through which `solve_evolmino` hands over its constraint:
 ///
 /// ```
 /// # trait SimpleCustomConstraint {
@@ -16,6 +18,11 @@ use crate::record::{Problem, Record, RecordError};
 /// #     fn undo(&mut self);
 /// #     fn lazy_propagation(&self) -> bool;
 /// # }
+/// # fn wrap_reason_verifier_on_test<'a, T: SimpleCustomConstraint + Clone + 'a>(_: T) {}
+/// # fn solve_evolmino(constraint: evolmino::Constraint) {
+/// #     wrap_reason_verifier_on_test(Evolmino(constraint));
+/// # }
+/// #[derive(Clone)]
 /// struct Evolmino(evolmino::Constraint);
 ///
 /// impl SimpleCustomConstraint for Evolmino {
@@ -48,6 +55,33 @@ pub struct Constraint {
 
 impl Constraint {
     /// A constraint for a puzzle, with nothing decided.
+    ///
+    /// The original has `None` for a puzzle that uses an arrow cell twice, and `solve_evolmino` hands it on, as it says `None` for a puzzle
+    /// without a solution. `Constraint::new(&problem).ok()?` in its place would say so of every puzzle that has no record, also of one 33
+    /// cells wide, which the original solves. Only [`RecordError::UsedTwice`] is the original's `None`; any other error says nothing of
+    /// solutions, and goes to the caller:
+    ///
+    /// ```
+    /// use evolmino::{Constraint, Problem, ProblemCell, RecordError};
+    ///
+    /// fn constraint(problem: &Problem) -> Result<Option<Constraint>, RecordError> {
+    ///     match Constraint::new(problem) {
+    ///         Err(RecordError::UsedTwice(_)) => Ok(None),
+    ///         other => other.map(Some),
+    ///     }
+    /// }
+    ///
+    /// let wide = Problem {
+    ///     cells: vec![vec![ProblemCell::Empty; 33]],
+    ///     arrows: vec![],
+    /// };
+    /// assert_eq!(constraint(&wide).unwrap_err(), RecordError::Width(33));
+    /// let used_twice = Problem {
+    ///     cells: vec![vec![ProblemCell::Empty; 2]],
+    ///     arrows: vec![vec![(0, 0), (0, 1)], vec![(0, 1)]],
+    /// };
+    /// assert!(constraint(&used_twice).unwrap().is_none());
+    /// ```
     pub fn new(problem: &Problem) -> Result<Constraint, RecordError> {
         let record = Record::new(problem)?;
         let cells = record.height() * record.width();

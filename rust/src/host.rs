@@ -21,7 +21,10 @@ const OUTPUT_LIMIT: usize = 2 * (3 * 32 * 32 + 1);
 
 /// Why there is no answer, by the number in README's table of refusals. The exported call never gives [`Refusal::Board`],
 /// [`Refusal::Value`] and [`Refusal::NothingDecided`]: its board is its own, and a decision has one bit of value.
+///
+/// The table grows, so a `match` needs an arm for the refusals that it doesn't name.
 #[derive(Clone, Copy, Debug, PartialEq, Eq, Hash)]
+#[non_exhaustive]
 pub enum Refusal {
     /// 1: the record ends inside a field, or before one that is due.
     RecordEnds,
@@ -47,33 +50,47 @@ pub enum Refusal {
     OutputShort,
     /// 12: a decision's five bits are not zero, or the list of decisions has an odd last byte.
     Decision,
+    /// Another number: the linked library has refusals that this package doesn't know.
+    Unknown(u32),
 }
 
 impl Refusal {
-    const ALL: [Refusal; 12] = [
-        Refusal::RecordEnds,
-        Refusal::CellCode,
-        Refusal::OffGrid,
-        Refusal::UsedTwice,
-        Refusal::Filler,
-        Refusal::Board,
-        Refusal::Index,
-        Refusal::Value,
-        Refusal::Decided,
-        Refusal::NothingDecided,
-        Refusal::OutputShort,
-        Refusal::Decision,
-    ];
-
-    /// The refusal of this number, 1 to 12.
-    pub fn from_number(number: u32) -> Option<Refusal> {
-        let place = usize::try_from(number).ok()?.checked_sub(1)?;
-        Refusal::ALL.get(place).copied()
+    /// The refusal of this number, [`Refusal::Unknown`] where the table has none.
+    pub fn from_number(number: u32) -> Refusal {
+        match number {
+            1 => Refusal::RecordEnds,
+            2 => Refusal::CellCode,
+            3 => Refusal::OffGrid,
+            4 => Refusal::UsedTwice,
+            5 => Refusal::Filler,
+            6 => Refusal::Board,
+            7 => Refusal::Index,
+            8 => Refusal::Value,
+            9 => Refusal::Decided,
+            10 => Refusal::NothingDecided,
+            11 => Refusal::OutputShort,
+            12 => Refusal::Decision,
+            _ => Refusal::Unknown(number),
+        }
     }
 
     /// The number in README's table.
     pub fn number(self) -> u32 {
-        self as u32 + 1
+        match self {
+            Refusal::RecordEnds => 1,
+            Refusal::CellCode => 2,
+            Refusal::OffGrid => 3,
+            Refusal::UsedTwice => 4,
+            Refusal::Filler => 5,
+            Refusal::Board => 6,
+            Refusal::Index => 7,
+            Refusal::Value => 8,
+            Refusal::Decided => 9,
+            Refusal::NothingDecided => 10,
+            Refusal::OutputShort => 11,
+            Refusal::Decision => 12,
+            Refusal::Unknown(number) => number,
+        }
     }
 }
 
@@ -94,6 +111,7 @@ impl fmt::Display for Refusal {
             Refusal::Decision => {
                 "a decision's five bits are not zero, or a single byte is left over"
             }
+            Refusal::Unknown(_) => "this package doesn't know why",
         };
         write!(f, "refused {}: {}", self.number(), what)
     }
@@ -118,10 +136,12 @@ pub fn find_bytes(record: &[u8], decisions: &[u8], output: &mut [u8]) -> Result<
             output.len(),
         )
     };
-    match usize::try_from(answer) {
-        Ok(count) => Ok(count),
-        Err(_) => Err(Refusal::from_number(answer.unsigned_abs()).expect("a number of the table")),
-    }
+    counted(answer)
+}
+
+/// What the exported call returned: a number of literals, or the negated number of a refusal.
+fn counted(answer: i32) -> Result<usize, Refusal> {
+    usize::try_from(answer).map_err(|_| Refusal::from_number(answer.unsigned_abs()))
 }
 
 /// Opens the record, decides in order and finds: why no board that agrees with the decisions can be finished, or `None`.
@@ -168,4 +188,18 @@ pub(crate) fn encode((index, value): Literal) -> Option<[u8; 2]> {
 pub(crate) fn decode(pair: &[u8]) -> Literal {
     let word = u16::from_be_bytes([pair[0], pair[1]]);
     ((word & 0x7FFF) as usize, word >> 15 == 1)
+}
+
+#[cfg(test)]
+mod tests {
+    use super::{counted, Refusal};
+
+    #[test]
+    fn what_is_returned() {
+        assert_eq!(counted(0), Ok(0));
+        assert_eq!(counted(3073), Ok(3073));
+        assert_eq!(counted(-12), Err(Refusal::Decision));
+        assert_eq!(counted(-13), Err(Refusal::Unknown(13)));
+        assert_eq!(counted(i32::MIN), Err(Refusal::Unknown(1 << 31)));
+    }
 }

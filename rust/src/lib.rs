@@ -4,6 +4,9 @@
 //! [`Constraint`] has `notify`, `undo` and `find_inconsistency` with the signatures of cspuz_core's `SimpleCustomConstraint`, so
 //! that it can stand where `EvolminoConstraint` stood.
 //!
+//! What is proved is the library's exported call. This package around it, which writes records, keeps decisions and reads the answer, is plain
+//! Rust: `compare constraint` holds it beside the original.
+//!
 //! ```
 //! use evolmino::{Problem, ProblemCell, Record};
 //!

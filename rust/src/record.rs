@@ -21,7 +21,11 @@ pub struct Problem {
 }
 
 /// Why a puzzle has no record.
+///
+/// It may gain cases, so a `match` needs an arm for those that it doesn't name. Only [`RecordError::UsedTwice`] says that the puzzle has
+/// no solution: see [`Constraint::new`](crate::Constraint::new).
 #[derive(Clone, Copy, Debug, PartialEq, Eq)]
+#[non_exhaustive]
 pub enum RecordError {
     /// The height is not 1 to 32.
     Height(usize),
@@ -182,7 +186,7 @@ struct Bits {
 impl Bits {
     fn put(&mut self, value: usize, width: usize) {
         for place in (0..width).rev() {
-            if self.count % 8 == 0 {
+            if self.count == 8 * self.bytes.len() {
                 self.bytes.push(0);
             }
             let bit = (value >> place & 1) as u8;

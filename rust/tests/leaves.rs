@@ -206,8 +206,16 @@ fn nothing_to_undo() {
 #[test]
 fn refusals_have_their_numbers() {
     for number in 1..=12 {
-        assert_eq!(Refusal::from_number(number).unwrap().number(), number);
+        let refusal = Refusal::from_number(number);
+        assert_eq!(refusal.number(), number);
+        assert_ne!(refusal, Refusal::Unknown(number));
     }
-    assert_eq!(Refusal::from_number(0), None);
-    assert_eq!(Refusal::from_number(13), None);
+    for number in [0, 13, 22, u32::MAX] {
+        assert_eq!(Refusal::from_number(number), Refusal::Unknown(number));
+        assert_eq!(Refusal::Unknown(number).number(), number);
+    }
+    assert_eq!(
+        Refusal::Unknown(22).to_string(),
+        "refused 22: this package doesn't know why"
+    );
 }

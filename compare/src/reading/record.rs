@@ -175,7 +175,7 @@ impl Writer {
 
     pub fn put(&mut self, field: usize, bits: usize) {
         for place in (0..bits).rev() {
-            if self.bits % 8 == 0 {
+            if self.bits == 8 * self.bytes.len() {
                 self.bytes.push(0);
             }
             let bit = (field >> place & 1) as u8;
