@@ -24,6 +24,14 @@ impl Access {
         None
     }
 
+    pub fn lazy_propagation(&self) -> bool {
+        unimplemented!()
+    }
+
+    pub fn initialize_sat(&mut self, _num_inputs: usize) {
+        unimplemented!()
+    }
+
     pub fn notify(&mut self, _index: usize, _value: bool) {
         unimplemented!()
     }

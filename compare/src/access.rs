@@ -39,6 +39,14 @@ impl Access {
         })
     }
 
+    pub fn lazy_propagation(&self) -> bool {
+        self.constraint.lazy_propagation()
+    }
+
+    pub fn initialize_sat(&mut self, num_inputs: usize) {
+        self.constraint.initialize_sat(num_inputs);
+    }
+
     pub fn notify(&mut self, index: usize, value: bool) {
         self.constraint.notify(index, value);
     }

@@ -32,14 +32,15 @@ mod standins;
 #[cfg(original)]
 use standins::{custom_constraints, graph, serializer, solver};
 
+// clippy's advice on the original's text is not for us.
 #[cfg(original)]
-#[allow(dead_code)]
+#[allow(dead_code, clippy::all)]
 mod util {
     include!(env!("EVOLMINO_UTIL_RS"));
 }
 
 #[cfg(original)]
-#[allow(dead_code)]
+#[allow(dead_code, clippy::all)]
 mod evolmino {
     include!(env!("EVOLMINO_RS"));
     include!("access.rs");
@@ -53,10 +54,10 @@ use std::process::ExitCode;
 const USAGE: &str = "\
 compare records|finds|calls|groups|small|all [--seed N] [--count N]
 compare lists FOLDER [--seed N]
-compare replay FOLDER
 compare program PATH [--seed N] [--count N]
 compare bench [--seed N] [--count ROUNDS]
 compare host [--seed N] [--count N]
+compare constraint [--seed N] [--count N]
 compare fuzz [--seed N] [--count N]
 compare reason < INPUT
 compare original";
@@ -84,11 +85,10 @@ fn run(options: &Options) -> Outcome {
         "records" => commands::records::run(seed, count(20_000)),
         "small" => commands::small::run(seed, count(1_000)),
         "all" => all(seed, count(100_000)),
-        "replay" => lists::replay::run(path()?),
         "program" => commands::program::run(seed, count(2_000), path()?),
         "reason" => reason(),
         "fuzz" => commands::fuzz::run(seed, count(1_000_000)),
-        "finds" | "calls" | "groups" | "lists" | "bench" | "host" | "original"
+        "finds" | "calls" | "groups" | "lists" | "bench" | "host" | "constraint" | "original"
             if !original::AT_HAND =>
         {
             Err(NOT_AT_HAND.to_string())
@@ -103,6 +103,10 @@ fn run(options: &Options) -> Outcome {
         "lists" => lists::run(seed, path()?),
         "bench" => commands::bench::run(seed, count(200)),
         "host" => commands::host::run(seed, count(100_000)),
+        #[cfg(feature = "host")]
+        "constraint" => commands::constraint::run(seed, count(20_000)),
+        #[cfg(not(feature = "host"))]
+        "constraint" => Err(host::MISSING.to_string()),
         _ => Err(USAGE.to_string()),
     }
 }

@@ -19,7 +19,7 @@ pub const AT_HAND: bool = cfg!(original);
 /// The commit of semiexp/cspuz_core that the original is.
 pub const COMMIT: &str = "2fba19520b";
 
-/// One of the original's assertions failed.
+/// An assertion of the original, or of what stands where it stood, failed.
 #[derive(Clone, Copy, Debug, PartialEq, Eq)]
 pub struct Panicked;
 
@@ -65,9 +65,9 @@ thread_local! {
     static PANICS_ARE_EXPECTED: Cell<bool> = const { Cell::new(false) };
 }
 
-/// Runs a call of the original. Its assertions come before any change, so that it can be used
-/// further after a panic.
-fn caught<T>(call: impl FnOnce() -> T) -> Result<T, Panicked> {
+/// Runs a call of the original, or of what stands where it stood. Their assertions come before any
+/// change, so that they can be used further after a panic.
+pub fn caught<T>(call: impl FnOnce() -> T) -> Result<T, Panicked> {
     static HOOK: Once = Once::new();
     HOOK.call_once(|| {
         let usual = take_hook();

@@ -2,6 +2,8 @@
 
 pub mod bench;
 pub mod calls;
+#[cfg(feature = "host")]
+pub mod constraint;
 pub mod finds;
 pub mod fuzz;
 pub mod groups;

@@ -1,7 +1,7 @@
 //! `compare records`: decode against encode, known damages against their refusals, and refusal 4
 //! against the original.
 
-use crate::generate::puzzles::any_puzzle;
+use crate::generate::puzzles::{add_short_arrows, any_puzzle};
 use crate::generate::records::{cut, damaged, zeros, Damaged};
 use crate::original::{Original, AT_HAND};
 use crate::progress::{hexadecimal, repeatedly, Outcome};
@@ -99,18 +99,7 @@ fn overlapping_arrows(random: &mut Random, mut puzzle: Puzzle, counts: &mut Coun
     if !AT_HAND {
         return Ok(());
     }
-    for _ in 0..random.below(3) {
-        let mut cell = random.below(puzzle.size.cells());
-        let mut arrow = vec![cell];
-        for _ in 0..random.below(4) {
-            let beside: Vec<usize> = puzzle.size.neighbours(cell).collect();
-            cell = *beside.get(random.below(4)).unwrap_or(&cell);
-            if cell != arrow[arrow.len() - 1] {
-                arrow.push(cell);
-            }
-        }
-        puzzle.arrows.push(arrow);
-    }
+    add_short_arrows(random, &mut puzzle);
     let refused = decode(&encode(&puzzle)) == Err(Refusal::UsedTwice);
     let none = Original::open(&puzzle).is_none();
     if refused != none {

@@ -83,6 +83,22 @@ pub fn puzzle(random: &mut Random, size: Size, style: Arrows) -> Puzzle {
     }
 }
 
+/// Adds up to two short arrows, which may take cells that are used already.
+pub fn add_short_arrows(random: &mut Random, puzzle: &mut Puzzle) {
+    for _ in 0..random.below(3) {
+        let mut cell = random.below(puzzle.size.cells());
+        let mut arrow = vec![cell];
+        for _ in 0..random.below(4) {
+            let beside: Vec<usize> = puzzle.size.neighbours(cell).collect();
+            cell = *beside.get(random.below(4)).unwrap_or(&cell);
+            if cell != arrow[arrow.len() - 1] {
+                arrow.push(cell);
+            }
+        }
+        puzzle.arrows.push(arrow);
+    }
+}
+
 fn codes(random: &mut Random, size: Size) -> Vec<Code> {
     let coded = random.pick(&[0, 10, 30, 100]);
     let code = |_| match random.percent(coded) {

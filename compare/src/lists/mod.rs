@@ -10,7 +10,6 @@ mod hosts;
 pub mod inputs;
 mod numbers;
 mod records;
-pub mod replay;
 mod strip;
 
 use crate::generate::boards::Decided;
