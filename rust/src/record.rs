@@ -22,8 +22,8 @@ pub struct Problem {
 
 /// Why a puzzle has no record.
 ///
-/// It may gain cases, so a `match` needs an arm for those that it doesn't name. Only [`RecordError::UsedTwice`] says that the puzzle has
-/// no solution: see [`Constraint::new`](crate::Constraint::new).
+/// It may gain cases, so a `match` needs an arm for those that it doesn't name. None of them but [`RecordError::UsedTwice`] is to be taken
+/// for "no solution": see [`Constraint::new`](crate::Constraint::new).
 #[derive(Clone, Copy, Debug, PartialEq, Eq)]
 #[non_exhaustive]
 pub enum RecordError {
