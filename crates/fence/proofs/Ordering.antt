@@ -148,7 +148,7 @@ module _ {K base part : List ℕ} {n c : ℕ} {S : ℕ → Bool} (O : Ordered K 
         let m : getD F p 0 ≡ i = sym (key-at p h) ∙ q ∙ key-x in
         subst (λ (j : ℕ). So (S j)) m (filter-mem S (upto n) (at-mem F p (omega (arith, O .number))) .1)
 
-    -- .. or not
+    -- the index is not there
     module _ (p : ℕ) (P : Place part c x p) (ne : p < c → key (getD part p 0) ≡ key x → ⊥) where
       strict : p < length F → i < getD F p 0
       strict h =

@@ -258,7 +258,7 @@ module _ (q : Problem) (f : Formed q) where
   unfolding coded
   code-facts = and-true (all (λ c. ltb c 3) (take (size (gridOf q)) (q .cells))) (behind 0 (size (gridOf q)) (q .cells)) (f .codes)
 
-  -- .. is a valid puzzle
+  -- the puzzle that the arrays show is valid
   pub formed-valid : Valid (puzzleOf q)
   unfolding puzzleOf es
   formed-valid =
@@ -275,7 +275,7 @@ module _ (q : Problem) (f : Formed q) where
             (rw line (r .1));
       }
 
-  -- .. and its own arrays
+  -- the arrays of that puzzle are these
   pub formed-again : problemOf (puzzleOf q) ≡ q
   unfolding puzzleOf problemOf gridOf es
   formed-again =

@@ -39,7 +39,7 @@ module _ (g : Grid) (i : ℕ) where
   unfolding gathered
   gathered-next k j e = rw (add-one k, gathered, beside-at g i k j e) refl
 
-  -- .. and one without adds nothing
+  -- a direction without a neighbour adds nothing
   pub gathered-same : (k : ℕ) → Off ≡ besideOf g i k → gathered g i (k + 1) ≡ gathered g i k
   unfolding gathered
   gathered-same k e = rw (add-one k, gathered, beside-off g i k e) (append-nil (gathered g i k))
@@ -72,7 +72,7 @@ module _ (g : Grid) (i : ℕ) where
         few = rw next (omega (arith, G .few, long));
       }
 
-  -- .. and one without
+  -- a direction without a neighbour
   pub gathered-off : (k : ℕ) (cells : List ℕ) (count : ℕ) → Gathered g i k cells count → Off ≡ besideOf g i k → Gathered g i (k + 1) cells count
   gathered-off k cells count G e =
       let same = gathered-same g i k e in
@@ -113,11 +113,11 @@ module _ (g : Grid) (i : ℕ) where
   unfolding aroundOf
   around-at k h = List·getD-append (neighbours g i) _ 0 k h
 
-  -- .. which is a neighbour
+  -- each of the places counted holds a neighbour
   pub around-mem : (k : ℕ) → k < aroundOf g i .count → List·Memᴰ (getD (aroundOf g i .cells) k 0) (neighbours g i)
   around-mem k h = rw (around-at k h) (at-mem (neighbours g i) k (omega (arith, around-count)))
 
-  -- .. and a cell of the grid
+  -- each of the places counted holds a cell of the grid
   pub around-in : i < size g → (k : ℕ) → k < aroundOf g i .count → getD (aroundOf g i .cells) k 0 < size g
   around-in l k h = on-grid g l (beside g i (around-mem k h))
 

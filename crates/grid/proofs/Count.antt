@@ -106,7 +106,7 @@ count-inj {P} R d (suc n) N inj Q e f = go (d n) (λ Q′ e′. count-inj R d n 
 pub count-mono : {P Q : ℕ → Type 0} (d : (i : ℕ) → Dec (P i)) (e : (i : ℕ) → Dec (Q i)) (n : ℕ) → ((i : ℕ) → i < n → P i → Q i) → count d n ≤ count e n
 count-mono {Q = Q} d e n f = count-inj (λ i k. i ≡ k) d n n (λ i j k _ _ p q. p ∙ sym q) Q e (λ i l p. (i, l, f i l p, refl))
 
--- .. and an element of Q that nothing is taken to
+-- a relation that takes each element of P to one of Q, no two to the same, and none to the element x of Q
 pub count-inj-suc : {P : ℕ → Type 0} (R : ℕ → ℕ → Type 0) (d : (i : ℕ) → Dec (P i)) (n N : ℕ)
     → ((i j k : ℕ) → P i → P j → R i k → R j k → i ≡ j)
     → {Q : ℕ → Type 0} (e : (i : ℕ) → Dec (Q i)) (x : ℕ) → x < N → Q x

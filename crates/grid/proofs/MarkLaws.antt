@@ -37,7 +37,7 @@ marks-more l q h k =
     marks-same (λ m. member m l || eqb q m) (λ m. member m (l ++ (q ∷ [])))
     (λ m _. ap (λ (b : Bool). member m l || b) (eqb-sym q m) ∙ sym (member-more m l q)) (marks-set (λ m. member m l) q h k)
 
--- .. the next of those at the first places
+-- the marks of a list's first k members: the next is marked
 pub marks-next : {M : List ℕ} (l : List ℕ) (k : ℕ) → k < length l → getD l k 0 < 1024 → Marks M (λ m. member m (take k l)) → Marks (set M (getD l k 0) 1) (λ m. member m (take (k + 1) l))
 marks-next l k h c m = rw (add-one k, take-suc l k 0 h) (marks-more (take k l) (getD l k 0) c m)
 

@@ -98,7 +98,7 @@ module _ (g : Grid) (f t c : ℕ) where
   pub landing-at : (d : ℕ) → (landing g f t c ≡ At d) ↔ Landed g f t c d
   landing-at d = (landing-to d, to-landing d)
 
-  -- .. and off the grid exactly when they say so of no cell
+  -- the signed offsets lead off the grid exactly when the sums hold for no cell
   pub landing-off : (landing g f t c ≡ Off) ↔ ((d : ℕ) → ¬ Landed g f t c d)
   landing-off = (λ e d h. let k = to-landing d h in let z : _≡_ {A = ℕ} 0 1 = cc in omega arith, λ n. off-by (landing g f t c) (λ d e. n d (landing-to d e)))
 

@@ -74,7 +74,7 @@ unfolding movedOf
 moved-to a (pos n) l r e = to-by (ltb (a + n) l) (a + n) l r refl e
 moved-to a (negsuc n) l r e = to-back (ltb n a) a n l r refl e
 
--- .. wherever there is one
+-- a place that many steps on, below the limit, is where the move leads
 pub to-moved : (a : ℕ) (d : ℤ) (l r : ℕ) → r < l → Reaches a d r → movedOf a d l ≡ To r
 unfolding movedOf
 to-moved a (pos n) l r h e = simp (lt-ltb (a + n) l (omega arith)) (ap To (sym e))
@@ -196,7 +196,7 @@ beside-at g i k j e = go (towards-one g i k)
     go (inl f) = let q : At j ≡ Off = rw f at e in let z : _≡_ {A = ℕ} 0 1 = cc in absurd (omega arith)
     go (inr (n, f)) = let q : At j ≡ At n = rw f at e in let s : j ≡ n = cc in rw s f
 
--- .. or that there is none
+-- the answer says that there is none
 pub beside-off : (g : Grid) (i k : ℕ) → Off ≡ besideOf g i k → towards g i k ≡ []
 unfolding besideOf sideOf
 beside-off g i k e = go (towards-one g i k)

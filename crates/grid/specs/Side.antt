@@ -43,7 +43,7 @@ pub record Landed (g : Grid) (f t c d : ℕ) : Type 0 where
   pub rows : row g d + row g f ≡ row g c + row g t
   pub cols : col g d + col g f ≡ col g c + col g t
 
--- the same as a test
+-- the two sums as a test, which does not ask whether d is a cell of the grid
 abbrev pub lands : Grid → ℕ → ℕ → ℕ → ℕ → Bool
 lands g f t c d = eqb (row g d + row g f) (row g c + row g t) && eqb (col g d + col g f) (col g c + col g t)
 

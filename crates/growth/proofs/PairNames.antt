@@ -60,7 +60,7 @@ module _ (p : Puzzle) (cells : List ℕ) (i : ℕ) (on : i < size (p .grid)) (sq
   unfolding ownerArray view viewWith ownerBy cellsOf
   owner-is = filled-at 1024 (λ j. ownerBy (getD (view p cells .floats) j 0) (getD (kindsOf p cells blocks) j vacant)) (size g) i on ∙ rw kind-is refl
 
-  -- .. and is a cell of the grid
+  -- the name of its block is a cell of the grid
   pub name-inside : getD (view p cells .blocks) i 0 < size g
   unfolding view viewWith
   name-inside = linked-size g (square cells) on (label-own g (square cells) i on sq)
@@ -83,7 +83,7 @@ module _ (p : Puzzle) (cells : List ℕ) (i : ℕ) (on : i < size (p .grid)) (sq
   unfolding kindAt
   name-kind = kind-get p cells blocks (getD blocks i 0) name-on ∙ rw (name-full, name-square, name-own, in-arrow-block) refl
 
-  -- .. whose number says so
+  -- the number of the kind at its name says arrow block
   pub name-code : getD (kindArray (view p cells)) (getD (view p cells .blocks) i 0) 0 ≡ 1
   unfolding kindArray view viewWith kindCode cellsOf
   name-code = filled-at 0 (λ j. kindCode (getD (kindsOf p cells blocks) j vacant)) (size g) (getD blocks i 0) name-on ∙ rw name-kind refl

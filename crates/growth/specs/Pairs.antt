@@ -68,7 +68,7 @@ pub record Line (h w : ℕ) (cells arrows kinds owners : List ℕ) (from to : �
   pub order : from ≤ to
   pub short : to ≤ 1024
 
--- .. and the places `last` and `cur` hold two squares of it
+-- the kinds are those of some board, and the places `last` and `cur` hold two squares of one of its arrows
 pub record Squares (h w : ℕ) (cells arrows kinds owners : List ℕ) (last cur : ℕ) : Type 0 where
   pub line : Line h w cells arrows kinds owners last (cur + 1)
   pub order : last < cur

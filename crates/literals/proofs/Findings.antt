@@ -21,7 +21,7 @@ pub found-none : (b : List ℕ) → FoundAs none b b Nothing
 unfolding findingBy bufferBy
 found-none b = record { answer = refl; buffer = refl }
 
--- .. which the answer says
+-- where the answer is Nothing, nothing was found and the buffer is as it was
 pub nothing-found : (f : Found) {b a : List ℕ} → FoundAs f b a Nothing → (f ≡ none) × (a ≡ b)
 unfolding findingBy bufferBy
 nothing-found none x = (refl, x .buffer)

@@ -185,7 +185,7 @@ module _ (owners : List ℕ) (n : ℕ) where
         follow j low h o (yes q) = rw q (getD-set-same next i (getD head e 0) 0 (omega (arith, C .next-long, C .small)) ∙ C .starts e l)
         follow j low h o (no ne) = getD-set-other next i j (getD head e 0) 0 ne ∙ C .follows j (omega (arith, ne)) h o
 
-    -- .. and without one
+    -- one more cell, without an owner
     pub chains-same : 1024 ≤ getD owners i 0 → ChainsFrom owners head next n i
     chains-same l = record {
       small = C .small;

@@ -59,7 +59,7 @@ module _ {owners head next : List ℕ} {n : ℕ} (C : Chains owners head next n)
       before = rw (W .before) (sym (passed-first owners n f (W .from) i (W .next) h));
     }
 
-    -- .. to a later cell
+    -- next leads to a later cell
     pub walk-less : i < 1024 → 1024 - getD next i 0 < 1024 - i
     unfolding walk-more
     walk-less h = go (decLt (getD next i 0) 1024)

@@ -49,7 +49,7 @@ module _ {owners sizes : List ℕ} {i : ℕ} (S : Sizes owners i sizes) where
   unfolding ownedBy
   size-same f ne = ap length (cells-are owners i f) ∙ sym (count-miss (ownedBy owners f) i (ne-eqb (getD owners i 0) f ne)) ∙ sym (ap length (cells-are owners (i + 1) f))
 
-  -- .. and has the owner f
+  -- cell i has the owner f
   size-next : (f : ℕ) → getD owners i 0 ≡ f → length (cellsFrom owners (i + 1) f 0) ≡ length (cellsFrom owners i f 0) + 1
   unfolding ownedBy
   size-next f e = ap length (cells-are owners (i + 1) f) ∙ count-hit (ownedBy owners f) i (eq-eqb (getD owners i 0) f e) ∙ sym (ap (λ (l : List ℕ). length l + 1) (cells-are owners i f))
@@ -58,7 +58,7 @@ module _ {owners sizes : List ℕ} {i : ℕ} (S : Sizes owners i sizes) where
   pub sizes-same : 1024 ≤ getD owners i 0 → Sizes owners (i + 1) sizes
   sizes-same l = record { long = S .long; at = λ f h. S .at f h ∙ size-same f (λ q. omega (arith, q)) }
 
-  -- .. and with one
+  -- one more cell, with an owner
   pub sizes-more : getD owners i 0 < 1024 → Sizes owners (i + 1) (set sizes (getD owners i 0) (getD sizes (getD owners i 0) 0 + 1))
   sizes-more l = record { long = length-set sizes o _ ∙ S .long; at = λ f h. go f h (ℕ-discrete f o) }
     where

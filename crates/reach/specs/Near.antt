@@ -25,7 +25,7 @@ pub record Listed (test : ℕ → Bool) (near groups : List ℕ) (c : ℕ) : Typ
   pub distinct : Distinct (take c groups)
   pub listed : (m : ℕ) → List·Memᴰ m (take c groups) ↔ ((m < 1024) × (test m ≡ true))
 
--- .. for some test
+-- some test passes for the names marked and listed
 pub record Listing (near groups : List ℕ) (c : ℕ) : Type 0 where
   pub test : ℕ → Bool
   pub so-far : Listed test near groups c

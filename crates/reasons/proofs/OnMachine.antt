@@ -5,7 +5,7 @@ use native.Mathlib.Omega.{arith}
 use mathlib.Core.Logic.{_↔_}
 use mathlib.Core.Path.{_≡_, ap}
 use mathlib.Core.Bool.{So}
-use mathlib.Core.List.{List, [], map, List·Memᴰ}
+use mathlib.Core.List.{List, map, List·Memᴰ}
 use mathlib.Core.Option.{none, some}
 use lib.ListN.{getD}
 use borrow.Author.Tests.{eqb-true}
@@ -15,7 +15,8 @@ use Rattle.record.proofs.LineLaws.{valid-arrows}
 use Rattle.record.specs.Record.{Puzzle, ok, readRecord}
 use Rattle.record.proofs.RecordLaws.{record-valid}
 use Rattle.grid.specs.Cells.{Agrees, Literal, undecided}
-use Rattle.board.specs.Board.{Full, SameCells, SameDecisions, Call, cellsAfter, afterAll}
+use Rattle.board.specs.Board.{Full, SameCells, SameDecisions, Call, cellsAfter}
+use Rattle.board.specs.Calls.{standing}
 use Rattle.grid.proofs.CellLaws.{undecided-below}
 use Rattle.board.proofs.Standing.{Standing, calls-standing, index, standing-distinct, same-board, cells-equal, cell-stands, cells-valid}
 use Rattle.groups.specs.Rules.{BlockRules}
@@ -26,17 +27,13 @@ use Rattle.reasons.proofs.Stands.{find-stands}
 use Rattle.reasons.proofs.Sound.{sound, complete}
 
 module _ (p : Puzzle) (cs : List Call) where
-  -- the decisions that stand after the calls cs on a fresh board
-  abbrev pub standing : List Literal
-  standing = afterAll (p .grid) cs []
-
-  -- the cells after the calls: 0 empty, 1 square, 2 undecided
+  -- the cells after the calls cs on a fresh board: 0 empty, 1 square, 2 undecided
   abbrev pub board : List ℕ
-  board = cellsAfter (p .grid) standing
+  board = cellsAfter (p .grid) (standing p cs)
 
   -- what find then says
   abbrev pub found : Found
-  found = findOn p standing
+  found = findOn p (standing p cs)
 
 -- of a puzzle and two lists of calls
 pub record OnMachine (p : Puzzle) (cs ds : List Call) : Type 0 where

@@ -33,7 +33,7 @@ count-in kinds passed i e = rw (block-more kinds passed i, eq-eqb (getD kinds i 
 pub count-out : (kinds passed : List ℕ) (i : ℕ) → (getD kinds i 0 ≡ 1 → ⊥) → length (blockOf kinds (passed ++ (i ∷ []))) ≡ length (blockOf kinds passed)
 count-out kinds passed i e = rw (block-more kinds passed i, ne-eqb (getD kinds i 0) 1 e, append-nil (blockOf kinds passed)) refl
 
--- .. and all of them
+-- the whole chain's block cells are the block
 pub block-all : (kinds owners : List ℕ) (n f : ℕ) → blockOf kinds (cellsFrom owners n f 0) ≡ blockIn kinds owners n f
 unfolding blockIn
 block-all kinds owners n f = owned-both owners n f (λ i. eqb (getD kinds i 0) 1)

@@ -45,11 +45,11 @@ module _ (h w : ℕ) (limits : Limits h w) (lines : List (List ℕ)) (cells : Li
   fits-own t = sym chains-are ∙ rw t refl
 
   module _ (none : any test (cellsFrom owners (h * w) e 0) ≡ false) where
-    -- .. or to one of the chain of a floating group
+    -- some shift to a cell of a floating group's chain fits
     pub fits-float : (k : ℕ) → k < total → any test (cellsFrom owners (h * w) (getD groups k 0) 0) ≡ true → shiftFits v f e ≡ true
     fits-float k l t = sym chains-are ∙ rw (none, some-taken (λ m. any test (cellsFrom owners (h * w) m 0)) groups total k l (omega (arith, floats .long, floats .few)) t) refl
 
-    -- .. or none does
+    -- no shift fits
     pub fits-none : ((k : ℕ) → k < total → any test (cellsFrom owners (h * w) (getD groups k 0) 0) ≡ false) → shiftFits v f e ≡ false
     fits-none t = sym chains-are ∙ rw (none, none-taken (λ m. any test (cellsFrom owners (h * w) m 0)) groups total t) refl
 

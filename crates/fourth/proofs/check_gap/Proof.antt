@@ -31,7 +31,7 @@ small c = area (c .args .h) (c .args .w) (c .pre .0 .tall) (c .pre .0 .wide)
 abbrev begun : tie.After-count-reach-arg2 → tie.Start
 begun c = c .before .before .before .before .before .before .before
 
--- .. and from behind it
+-- the start, seen from behind the count of the reach
 abbrev start : tie.After-count-reach → tie.Start
 start c = begun (c .before)
 
@@ -69,7 +69,7 @@ reached c lines k =
     let a = s .args in
     c .count-reach .ensures .0 lines (take (a .h * a .w) (a .cells .now)) (k .held) (s .pre .2 .counts) (scene-kind k (a .last) (omega arith) (omega (arith, s .pre .1 .order)) (s .pre .1 .first))
 
--- .. is small
+-- the size of that reach is at most 1,024
 reach-low : (c : tie.After-count-reach) → c .count-reach .result ≤ 1024
 reach-low c =
     let s = start c in

@@ -40,7 +40,7 @@ first c lines k =
     let a = start c .args in
     c .reason-for-arrow-block .ensures (viewOn (a .h) (a .w) lines (a .cells .now)) k (view-size (a .h) (a .w) lines (a .cells .now))
 
--- .. which leaves room
+-- the block leaves room behind it
 count-low : (c : tie.After-reason-for-arrow-block) → c .reason-for-arrow-block .result ≤ start c .args .h * start c .args .w
 count-low c =
     let s = start c in

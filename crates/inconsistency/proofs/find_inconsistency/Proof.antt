@@ -75,7 +75,7 @@ one c =
     let labels = c .before .before .before .before .compute-connected-components .ensures in
     c .check-potential-groups .ensures (lines s) (potentials-held (s .args .h) (s .args .w) (fit .tall) (fit .wide) (drawn (totalled c)) (s .args .cells .now) labels (marked c .mark-arrow-cells .ensures))
 
--- .. and where it found nothing
+-- the search for reason 1 found nothing
 none : (c : tie.After-enum-told) → searched c .check-potential-groups .result ≡ Nothing
 none c = c .enum-told .given .1
 

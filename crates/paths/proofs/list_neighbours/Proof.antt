@@ -36,7 +36,7 @@ start c = c .before .before .before .before .before
 around-is : (c : tie.At-loop Inv-loop μ-loop) → c .before .before .neighbours .result ≡ aroundOf (sized (start c .args .h) (start c .args .w)) (getD (start c .args .order .now) (start c .args .t) 0)
 around-is c = rw (← c .before .before .before .wide .ensures .0) (c .before .before .neighbours .ensures)
 
--- .. of which the k-th is next
+-- the k-th of the neighbours is next
 turn-at : (c : tie.In-loop Inv-loop μ-loop)
     → let a = start (c .before) .args in
     Turn (sized (a .h) (a .w)) (getD (a .order .now) (a .t) 0) (c .before .loop .k) (c .before .before .before .neighbours .result)
