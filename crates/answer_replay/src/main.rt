@@ -7,11 +7,14 @@ use replay::Run;
 use replay::Tally;
 ghost use Prim.Native.Nat.{_≤_, _<_};
 ghost use mathlib.Core.Path.{_≡_};
-ghost use lib.ListN.{length};
+ghost use lib.ListN.{length, replicate};
+ghost use Rattle.replay.specs.Comparisons.{DiffersUnless};
+ghost use Rattle.replay.specs.Lists.{byteIn, differs};
+ghost use Rattle.answer_replay.specs.Answers.{AnswersSo};
 
 // A byte that no text has stands in every place of a fresh room for the text.
 fn text_room() -> [u8; answer::TEXT]
-    ensures { λ r. ⌜ 21523 ≡ length r ⌝ }
+    ensures { λ r. ⌜ r ≡ replicate 21523 255 ⌝ }
 {
     [255; answer::TEXT]
 }
@@ -19,6 +22,7 @@ fn text_room() -> [u8; answer::TEXT]
 // Whether what was written differs from the text of the list from `at` on, with nothing written behind it.
 fn text_differs(list: &[u8], at: usize, count: usize, text: &[u8; answer::TEXT]) -> bool
     requires { ⌜ at ≤ length (now list) ⌝ }
+    ensures { λ r. ⌜ r ≡ differs (now (text .entry)) (byteIn (now (list .entry)) at count 0 255) 0 ⌝ }
 {
     replay::bytes_differ(list, at, count, text, 0, 255)
 }
@@ -26,6 +30,7 @@ fn text_differs(list: &[u8], at: usize, count: usize, text: &[u8; answer::TEXT])
 // Whether the answer to the input differs from the text of the list from `at` on.
 fn entry_differs(list: &[u8], input: &[u8], at: usize, count: usize) -> bool
     requires { ⌜ at ≤ length (now list) ⌝ }
+    ensures { λ r. ⌜ DiffersUnless r (AnswersSo (now (input .entry)) (now (list .entry)) at count) ⌝ }
 {
     let mut text = text_room();
     let n = answer::respond(input, &mut text);

@@ -1,2 +1,3 @@
+pub mod ComparisonLaws
 mod ListLaws
 mod TallyLaws
