@@ -10,20 +10,8 @@ use lib.Dec.{eqb}
 use lib.ListN.{length, getD, take}
 use lib.Seq.{take-suc, take-all, ext-getD}
 use borrow.Author.Tests.{eqb-true, eq-eqb, le-ltb, lt-leb}
+use Rattle.replay.specs.Comparisons.{DiffersUnless}
 use Rattle.replay.specs.Lists.{byteIn, differs}
-
--- an answer is false where the two are equal, and true where they are not
-abbrev pub Told : {A : Type 0} → Bool → A → A → Type 0
-Told r x y = (r ≡ false → x ≡ y) × (r ≡ true → x ≡ y → ⊥)
-
-module _ {A : Type 0} {x y : A} where
-  -- two that are equal
-  pub told-same : x ≡ y → Told false x y
-  told-same e = (λ _. e, λ t. absurd (true≢false (sym t)))
-
-  -- two that are not
-  pub told-apart : (x ≡ y → ⊥) → Told true x y
-  told-apart n = (λ f. absurd (true≢false f), λ _. n)
 
 module _ (a b : List ℕ) where
   -- the numbers at place i are equal, and those before it
@@ -70,7 +58,7 @@ module _ (a b : List ℕ) (la : length a ≡ 1024) (lb : length b ≡ 1024) wher
       rw (e, f, e, le-ltb k 0 (omega arith), lt-leb 1024 k h)
 
   -- an array of bytes, held against the bytes of the other
-  pub cells-told : (r : Bool) → r ≡ differs b (byteIn a 0 1024 0 0) 0 → Told r a b
+  pub cells-told : (r : Bool) → r ≡ differs b (byteIn a 0 1024 0 0) 0 → DiffersUnless r (a ≡ b)
   cells-told r e = (
     λ f. ext-getD 0 a b (la ∙ sym lb) (λ k h.
         sym (said-so b (byteIn a 0 1024 0 0) 0 (sym e ∙ f) k (omega arith) ∙ at-place k (omega arith))),

@@ -1,3 +1,2 @@
 mod ArrayLaws
 mod BoardLaws
-mod FindLaws

@@ -2,13 +2,13 @@
 use board::Board;
 use board::Decided;
 use record::Problem;
-ghost use mathlib.Core.Bool.{true, false};
 ghost use mathlib.Core.Path.{_≡_};
 ghost use Rattle.board.specs.Decide.{decideOf, undoOf};
+ghost use Rattle.replay.specs.Comparisons.{DiffersUnless};
 
 // Whether two lists of numbers differ.
 fn words_differ(a: &[u16], b: &[u16]) -> bool
-    ensures { λ r. ⌜ (r ≡ false → now (a .entry) ≡ now (b .entry)) × (r ≡ true → now (a .entry) ≡ now (b .entry) → ⊥) ⌝ }
+    ensures { λ r. ⌜ DiffersUnless r (now (a .entry) ≡ now (b .entry)) ⌝ }
 {
     if a.len() != b.len() {
         return true;
@@ -25,7 +25,7 @@ fn words_differ(a: &[u16], b: &[u16]) -> bool
 
 // Whether two puzzles differ in some field.
 fn problems_differ(p: Problem, q: Problem) -> bool
-    ensures { λ r. ⌜ (r ≡ false → p ≡ q) × (r ≡ true → p ≡ q → ⊥) ⌝ }
+    ensures { λ r. ⌜ DiffersUnless r (p ≡ q) ⌝ }
 {
     if p.height != q.height || p.width != q.width || p.count != q.count {
         return true;
@@ -47,7 +47,7 @@ fn problems_differ(p: Problem, q: Problem) -> bool
 
 // Whether two boards differ in some field.
 pub fn boards_differ(x: Board, y: Board) -> bool
-    ensures { λ r. ⌜ (r ≡ false → x ≡ y) × (r ≡ true → x ≡ y → ⊥) ⌝ }
+    ensures { λ r. ⌜ DiffersUnless r (x ≡ y) ⌝ }
 {
     let p = x.problem;
     let q = y.problem;

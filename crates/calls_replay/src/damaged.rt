@@ -1,7 +1,6 @@
 // Boards that no list of calls could leave: strip S with cell 0 square, damaged one field at a time. Each call must refuse each of them
 // with 6, and leave it and a lent buffer as they were.
 use super::boards;
-use super::finds;
 use board::Board;
 use board::Decided;
 use finished::Verdict;
@@ -39,8 +38,8 @@ fn accepted(b: Board) -> bool {
         || taken(boards::undo_lent(b), b)
         || taken(b.decide_all(b""), b)
         || taken(b.decide_all(b"\x80\x01"), b)
-        || finds::find_differs(b"", 0, 0, b, 4096, 6)
-        || finds::find_differs(b"", 0, 0, b, 0, 6)
+        || finds::find_differs(b"", 0, 0, b, 4096, 6, 1)
+        || finds::find_differs(b"", 0, 0, b, 0, 6, 1)
         || judged(finished::finished(b))
 }
 

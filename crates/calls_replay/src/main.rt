@@ -7,7 +7,6 @@
 // each cell. A u16 has its high byte first; a refusal is 0 for none.
 mod boards;
 mod damaged;
-mod finds;
 
 use board::Board;
 use board::Decided;
@@ -98,7 +97,7 @@ fn make_find(list: &[u8], at: usize, b: Board) -> Step
     if refusal != 0 {
         return Step {
             board: b,
-            differs: finds::find_differs(list, at + 4, 0, b, size, refusal),
+            differs: finds::find_differs(list, at + 4, 0, b, size, refusal, 1),
             end: at + 4,
         };
     }
@@ -109,7 +108,7 @@ fn make_find(list: &[u8], at: usize, b: Board) -> Step
     }
     Step {
         board: b,
-        differs: finds::find_differs(list, at + 6, count, b, size, 0),
+        differs: finds::find_differs(list, at + 6, count, b, size, 0, 1),
         end,
     }
 }

@@ -8,43 +8,17 @@
 // for a finished board and 0 for another. A u16 has its high byte first.
 use board::Board;
 use finished::Verdict;
-use literals::Finding;
 use replay::Run;
 use replay::Tally;
-ghost use Prim.Native.Nat.{_+_, _*_, _≤_, _<_};
+ghost use Prim.Native.Nat.{_+_, _*_, _<_};
 ghost use lib.ListN.{length};
-
-// Whether an answer is not the one for this many literals, 0 for no reason.
-fn count_differs(found: Finding, count: usize) -> bool {
-    match found {
-        Finding::Nothing => count != 0,
-        Finding::Reason(n) => n == 0 || n != count,
-        Finding::Refused(_) => true,
-    }
-}
-
-// Finds this many times and at least once, each time in the same buffer; the last answer.
-fn find_in_rounds(rounds: usize, board: Board, buffer: &mut [u16]) -> Finding {
-    let mut found = reasons::find(board, buffer);
-    let mut i = 1;
-    while i < rounds {
-        found = reasons::find(board, buffer);
-        i += 1;
-    }
-    found
-}
-
-// Whether find on the board differs from the literals of the list from `at` on.
-fn find_differs(list: &[u8], rounds: usize, at: usize, count: usize, board: Board) -> bool
-    requires { ⌜ at ≤ length (now list) ⌝ }
-{
-    let mut buffer = replay::fresh_buffer();
-    let found = find_in_rounds(rounds, board, &mut buffer);
-    count_differs(found, count) || replay::literals_differ(list, at, count, &buffer)
-}
+ghost use Rattle.replay.specs.Comparisons.{DiffersUnless};
+ghost use Rattle.find_replay.specs.Entries.{VerdictSo, BoardSo, EntrySo};
 
 // Whether a verdict is not the one for this number: 1 for a finished board, 0 for another.
-fn verdict_differs(verdict: Verdict, number: usize) -> bool {
+fn verdict_differs(verdict: Verdict, number: usize) -> bool
+    ensures { λ r. ⌜ DiffersUnless r (VerdictSo verdict number) ⌝ }
+{
     match verdict {
         Verdict::Yes => number != 1,
         Verdict::No => number != 0,
@@ -52,7 +26,19 @@ fn verdict_differs(verdict: Verdict, number: usize) -> bool {
     }
 }
 
-// Whether the board of a record with these decisions is refused, or find or finished on it differs from the list from `at` on.
+// Whether find or finished on the board differs from the list from `at` on. The whole buffer is lent.
+fn board_differs(list: &[u8], rounds: usize, at: usize, count: usize, board: Board) -> bool
+    requires { ⌜ at + 2 * count < length (now list) ⌝ }
+    ensures { λ r. ⌜ DiffersUnless r (BoardSo board (now (list .entry)) at count) ⌝ }
+{
+    finds::find_differs(list, at, count, board, 4096, 0, rounds)
+        || verdict_differs(
+            finished::finished(board),
+            replay::byte_at(list, at + 2 * count),
+        )
+}
+
+// Whether the board of a record with these decisions is refused, or differs from the list from `at` on.
 fn entry_differs(
     list: &[u8],
     rounds: usize,
@@ -62,6 +48,7 @@ fn entry_differs(
     count: usize,
 ) -> bool
     requires { ⌜ at + 2 * count < length (now list) ⌝ }
+    ensures { λ r. ⌜ DiffersUnless r (EntrySo (now («record» .entry)) (now (decisions .entry)) (now (list .entry)) at count) ⌝ }
 {
     let o = Board::open(record);
     let answer = o.answer;
@@ -72,12 +59,7 @@ fn entry_differs(
     let d = fresh.decide_all(decisions);
     let answer = d.answer;
     let board = d.board;
-    replay::number(answer) != 0
-        || find_differs(list, rounds, at, count, board)
-        || verdict_differs(
-            finished::finished(board),
-            replay::byte_at(list, at + 2 * count),
-        )
+    replay::number(answer) != 0 || board_differs(list, rounds, at, count, board)
 }
 
 // Goes through the entry at `at`.

@@ -6,7 +6,9 @@ use mathlib.Core.Logic.{⊎-elim}
 use lib.ListN.{length}
 use borrow.Author.Tests.{eqb-true, eqb-false, not-true, not-false}
 use Rattle.board.specs.declared.Board.{Board}
-use Rattle.calls_replay.proofs.ArrayLaws.{Told, told-apart, cells-told}
+use Rattle.replay.specs.Comparisons.{DiffersUnless}
+use Rattle.replay.proofs.ComparisonLaws.{fails}
+use Rattle.calls_replay.proofs.ArrayLaws.{cells-told}
 use Rattle.calls_replay.proofs.BoardLaws.{board-same}
 use Rattle.calls_replay.proofs.boards.boards_differ.Statement.{statement}
 use Rattle.calls_replay.proofs.boards.boards_differ.Tie as tie
@@ -25,7 +27,7 @@ long-cells c = (search needs, search needs)
 long-order : (c : tie.Start) → (length (c .args .x .order) ≡ 1024) × (length (c .args .y .order) ≡ 1024)
 long-order c = (search needs, search needs)
 
-told-cells : (c : tie.After-cells-differ) → Told (c .cells-differ .result) (start (counts c) .args .x .cells) (start (counts c) .args .y .cells)
+told-cells : (c : tie.After-cells-differ) → DiffersUnless (c .cells-differ .result) (start (counts c) .args .x .cells ≡ start (counts c) .args .y .cells)
 told-cells c =
     let s = start (counts c) in
     cells-told (s .args .x .cells) (s .args .y .cells) (long-cells s .0) (long-cells s .1) (c .cells-differ .result) (c .cells-differ .ensures)
@@ -34,7 +36,7 @@ problems-differ-requires : tie.Need-problems-differ-requires
 problems-differ-requires c κs = search needs
 
 returns : tie.Need-returns
-returns c = told-apart (λ e.
+returns c = fails (λ e.
     ⊎-elim
     (λ w. c .before .problems-differ .ensures .1 (w .taken) (ap (λ (b : Board). b .problem) e))
     (λ w. eqb-false _ _ (not-true _ (w .3 .taken)) (ap (λ (b : Board). b .decided) e))
@@ -47,7 +49,7 @@ cells-differ-requires : tie.Need-cells-differ-requires
 cells-differ-requires c κs = search needs
 
 returns-2 : tie.Need-returns-2
-returns-2 c = told-apart (λ e. told-cells (c .before) .1 (c .if3 .taken) (ap (λ (b : Board). b .cells) e))
+returns-2 c = fails (λ e. told-cells (c .before) .1 (c .if3 .taken) (ap (λ (b : Board). b .cells) e))
 
 slice-aggregate-words-differ : tie.Need-slice-aggregate-words-differ
 slice-aggregate-words-differ c = sym (long-order (start (counts (c .before .before .before .before))) .0)

@@ -6,7 +6,9 @@ use mathlib.Core.Logic.{⊎-elim}
 use lib.ListN.{length}
 use borrow.Author.Tests.{eqb-true, eqb-false, not-true, not-false}
 use Rattle.record.specs.declared.Problem.{Problem}
-use Rattle.calls_replay.proofs.ArrayLaws.{Told, told-apart, cells-told}
+use Rattle.replay.specs.Comparisons.{DiffersUnless}
+use Rattle.replay.proofs.ComparisonLaws.{fails}
+use Rattle.calls_replay.proofs.ArrayLaws.{cells-told}
 use Rattle.calls_replay.proofs.BoardLaws.{problem-same}
 use Rattle.calls_replay.proofs.boards.problems_differ.Statement.{statement}
 use Rattle.calls_replay.proofs.boards.problems_differ.Tie as tie
@@ -32,13 +34,13 @@ long-arrows c = (search needs, search needs)
 long-ends : (c : tie.Start) → (length (c .args .p .ends) ≡ 1024) × (length (c .args .q .ends) ≡ 1024)
 long-ends c = (search needs, search needs)
 
-told-cells : (c : tie.After-cells-differ) → Told (c .cells-differ .result) (start (numbers c) .args .p .cells) (start (numbers c) .args .q .cells)
+told-cells : (c : tie.After-cells-differ) → DiffersUnless (c .cells-differ .result) (start (numbers c) .args .p .cells ≡ start (numbers c) .args .q .cells)
 told-cells c =
     let s = start (numbers c) in
     cells-told (s .args .p .cells) (s .args .q .cells) (long-cells s .0) (long-cells s .1) (c .cells-differ .result) (c .cells-differ .ensures)
 
 returns : tie.Need-returns
-returns c = told-apart (λ e.
+returns c = fails (λ e.
     ⊎-elim
     (λ w. w .taken (ap (λ (x : Problem). x .height) e))
     (⊎-elim (λ w. eqb-false _ _ (not-true _ (w .3 .taken)) (ap (λ (x : Problem). x .width) e)) (λ w. eqb-false _ _ (not-true _ (w .6 .taken)) (ap (λ (x : Problem). x .count) e)))
@@ -51,7 +53,7 @@ cells-differ-requires : tie.Need-cells-differ-requires
 cells-differ-requires c κs = search needs
 
 returns-2 : tie.Need-returns-2
-returns-2 c = told-apart (λ e. told-cells (c .before) .1 (c .if4 .taken) (ap (λ (x : Problem). x .cells) e))
+returns-2 c = fails (λ e. told-cells (c .before) .1 (c .if4 .taken) (ap (λ (x : Problem). x .cells) e))
 
 slice-aggregate-words-differ : tie.Need-slice-aggregate-words-differ
 slice-aggregate-words-differ c = sym (long-arrows (start (numbers (c .before .before .before .before))) .0)
@@ -63,7 +65,7 @@ words-differ-requires : tie.Need-words-differ-requires
 words-differ-requires c κs = search needs
 
 returns-3 : tie.Need-returns-3
-returns-3 c = told-apart (λ e. c .before .words-differ .ensures .1 (c .if5 .taken) (ap (λ (x : Problem). x .arrows) e))
+returns-3 c = fails (λ e. c .before .words-differ .ensures .1 (c .if5 .taken) (ap (λ (x : Problem). x .arrows) e))
 
 slice-aggregate-words-differ-3 : tie.Need-slice-aggregate-words-differ-3
 slice-aggregate-words-differ-3 c = sym (long-ends (start (numbers (cells (c .before .before .before .before)))) .0)

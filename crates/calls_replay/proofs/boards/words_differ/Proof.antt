@@ -6,7 +6,8 @@ use native.Mathlib.Omega.{arith}
 use mathlib.Core.Path.{_≡_, refl, ap}
 use mathlib.Core.List.{List}
 use lib.ListN.{length, getD, take}
-use Rattle.calls_replay.proofs.ArrayLaws.{told-same, told-apart, one-more, whole}
+use Rattle.replay.proofs.ComparisonLaws.{holds, fails}
+use Rattle.calls_replay.proofs.ArrayLaws.{one-more, whole}
 use Rattle.calls_replay.proofs.boards.words_differ.Statement.{statement}
 use Rattle.calls_replay.proofs.boards.words_differ.Tie as tie
 
@@ -17,7 +18,7 @@ abbrev μ-loop : tie.MeasureT-loop
 μ-loop a b i₀ i = length a - i
 
 returns : tie.Need-returns Inv-loop μ-loop
-returns c = told-apart (λ e. c .if1 .taken (ap (λ (l : List ℕ). length l) e))
+returns c = fails (λ e. c .if1 .taken (ap (λ (l : List ℕ). length l) e))
 
 loop-holds : tie.Need-loop-holds Inv-loop μ-loop
 loop-holds c = refl
@@ -37,7 +38,7 @@ shared-slice-read-if2-2 c = search needs
 returns-2 : tie.Need-returns-2 Inv-loop μ-loop
 returns-2 c =
     let t = c .before .before .before .before .loop in
-    told-apart (λ e. c .if2 .taken (ap (λ (l : List ℕ). getD l (t .i) 0) e))
+    fails (λ e. c .if2 .taken (ap (λ (l : List ℕ). getD l (t .i) 0) e))
 
 add-i : tie.Need-add-i Inv-loop μ-loop
 add-i c = search needs
@@ -55,7 +56,7 @@ returns-3 : tie.Need-returns-3 Inv-loop μ-loop
 returns-3 c =
     let s = c .before .before .before in
     let t = c .before .loop in
-    told-same (whole (s .args .a .now) (s .args .b .now) (t .i) (omega arith) (omega arith) (t .inv))
+    holds (whole (s .args .a .now) (s .args .b .now) (t .i) (omega arith) (omega arith) (t .inv))
 
 pub words-differ-spec : {M : Type 1} → statement M
 words-differ-spec =
