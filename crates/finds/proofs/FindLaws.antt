@@ -18,7 +18,7 @@ use Rattle.literals.specs.Literals.{Found}
 use Rattle.literals.specs.Buffer.{bufferBy}
 use Rattle.replay.specs.Comparisons.{DiffersUnless}
 use Rattle.replay.specs.Lists.{differs}
-use Rattle.replay.proofs.ComparisonLaws.{holds, fails, either-differs, same-differs, test-told}
+use Rattle.replay.proofs.ComparisonLaws.{holds, fails, fails-so, then-differs, same-differs, test-told}
 use Rattle.reasons.specs.Find.{reasonOn, findRefusal, findOf, bufferAfter}
 use Rattle.finds.specs.Finds.{findingOf, lent, left, FindsSo}
 
@@ -68,13 +68,13 @@ module _ (b : Board) (size refusal count : ℕ) (said : ℕ → ℕ) (fresh : Li
 
   -- another answer than the one that is said
   pub other-answer : t ≡ true → DiffersUnless t (FindsSo b size refusal count said)
-  other-answer q = rw q (fails (λ s. answer-told .1 q (s .0)))
+  other-answer q = fails-so t q (λ s. answer-told .1 q (s .0))
 
   -- the answer that is said: then the buffer decides
   pub this-answer : t ≡ false → (r : Bool) → r ≡ differs (bufferAfter b (take size fresh) ++ drop size fresh) said 0 → DiffersUnless r (FindsSo b size refusal count said)
   this-answer q r d =
       let h : r ≡ differs (left b size) said 0 = unfold left lent in rw e at d in
-      either-differs false r (holds (answer-told .0 q)) (test-told _ r h)
+      then-differs (answer-told .0 q) r (test-told _ r h)
 
 -- a buffer after the literals were written to it once more
 written-again : (k : ℕ) (f : Found) (buffer : List ℕ) → bufferBy k f (bufferBy k f buffer) ≡ bufferBy k f buffer

@@ -16,6 +16,10 @@ module _ {P : Type 0} where
   pub fails : (P → ⊥) → DiffersUnless true P
   fails n = (λ f. absurd (true≢false f), λ _. n)
 
+  -- the same for an answer that was found true
+  pub fails-so : (t : Bool) → t ≡ true → (P → ⊥) → DiffersUnless t P
+  fails-so t e n = (λ f. absurd (true≢false (sym e ∙ f)), λ _. n)
+
   module _ (t u : Bool) (w : DiffersUnless (t || u) P) where
     -- a first test that finds a difference decides
     pub first-decides : t ≡ true → DiffersUnless t P
@@ -34,6 +38,10 @@ module _ {P Q : Type 0} where
   pub either-differs : (t u : Bool) → DiffersUnless t P → DiffersUnless u Q → DiffersUnless (t || u) (P × Q)
   either-differs true u d e = fails (λ w. d .1 refl (w .0))
   either-differs false u d e = (λ f. (d .0 refl, e .0 f), λ f w. e .1 f (w .1))
+
+  -- a second fact decides where the first holds
+  pub then-differs : P → (u : Bool) → DiffersUnless u Q → DiffersUnless u (P × Q)
+  then-differs p u d = (λ f. (p, d .0 f), λ f w. d .1 f (w .1))
 
 -- two numbers
 pub numbers-told : (a b : ℕ) → DiffersUnless (not (eqb a b)) (a ≡ b)

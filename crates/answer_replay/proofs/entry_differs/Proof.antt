@@ -13,7 +13,7 @@ use Rattle.text.specs.Text.{Written, written}
 use Rattle.answer.specs.Program.{printed}
 use Rattle.replay.specs.Comparisons.{DiffersUnless}
 use Rattle.replay.specs.Lists.{byteIn, differs}
-use Rattle.replay.proofs.ComparisonLaws.{holds, fails, either-differs, test-told}
+use Rattle.replay.proofs.ComparisonLaws.{fails, then-differs, test-told}
 use Rattle.answer_replay.specs.Answers.{left, AnswersSo}
 use Rattle.answer_replay.proofs.entry_differs.Statement.{statement}
 use Rattle.answer_replay.proofs.entry_differs.Tie as tie
@@ -33,7 +33,7 @@ module _ (input list fresh after : List ℕ) (at count n : ℕ) (e : fresh ≡ r
   this-length q r d =
       let left-so : after ≡ left input = unfold left in rw e at w .whole in
       let h : r ≡ differs (left input) (byteIn list at count 0 255) 0 = rw left-so at d in
-      either-differs false r (holds (sym answered ∙ q)) (test-told _ r h)
+      then-differs (sym answered ∙ q) r (test-told _ r h)
 
 text-room-requires : tie.Need-text-room-requires
 text-room-requires c κs = search needs
