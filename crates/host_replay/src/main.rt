@@ -9,6 +9,9 @@ use replay::Tally;
 ghost use Prim.Native.Nat.{_≤_, _<_};
 ghost use mathlib.Core.Path.{_≡_};
 ghost use lib.ListN.{length};
+ghost use Rattle.replay.specs.Comparisons.{DiffersUnless};
+ghost use Rattle.replay.specs.Lists.{byteIn, differs};
+ghost use Rattle.host_replay.specs.HostCalls.{fresh, CallSo};
 
 // What stands in every place of the array before a call.
 const BEFORE: u8 = 170;
@@ -18,7 +21,7 @@ const GUARD: usize = 64;
 
 // The array that a call's output is a part of.
 fn fresh_array() -> [u8; 8192]
-    ensures { λ r. ⌜ 8192 ≡ length r ⌝ }
+    ensures { λ r. ⌜ r ≡ fresh ⌝ }
 {
     [BEFORE; 8192]
 }
@@ -69,6 +72,7 @@ fn literal_bytes(high: usize, low: usize) -> usize
 // Whether the array differs from what a call that wrote the n bytes of the list from `at` on leaves.
 fn array_differs(list: &[u8], at: usize, n: usize, array: &[u8; 8192]) -> bool
     requires { ⌜ at ≤ length (now list) ⌝ }
+    ensures { λ r. ⌜ r ≡ differs (now (array .entry)) (byteIn (now (list .entry)) at n 64 170) 0 ⌝ }
 {
     replay::bytes_differ(list, at, n, array, GUARD, BEFORE)
 }
@@ -84,6 +88,7 @@ fn call_differs(
     n: usize,
 ) -> bool
     requires { ⌜ (at ≤ length (now list)) × (size ≤ 8000) ⌝ }
+    ensures { λ r. ⌜ DiffersUnless r (CallSo (now («record» .entry)) (now (decisions .entry)) size expected (byteIn (now (list .entry)) at n 64 170)) ⌝ }
 {
     let mut array = fresh_array();
     let returned = host::evolmino_find(record, decisions, &mut array[GUARD..GUARD + size]);
