@@ -1,8 +1,31 @@
 // The arrow blocks of a board: the reach and the fence of each, compared with those that the list has.
 use super::arrays;
 use replay::Run;
-ghost use Prim.Native.Nat.{_+_, _≤_, _<_};
-ghost use lib.ListN.{length};
+ghost use Prim.Native.Nat.{ℕ, _+_, _*_, _≤_, _<_};
+ghost use mathlib.Core.List.{List};
+ghost use lib.ListN.{length, take};
+ghost use Rattle.grid.specs.Side.{sized};
+ghost use Rattle.kinds.specs.Kinds.{view};
+ghost use Rattle.kinds.specs.Inside.{puzzleWith, Held};
+ghost use Rattle.replay.specs.Comparisons.{DiffersUnless};
+ghost use Rattle.replay.specs.Lists.{areaOf};
+ghost use Rattle.groups_replay.specs.Blocks.{ReachSo, FenceSo, BlockSo};
+
+// Whether the size and the marks of a reach differ from those of the block that the list has at `at`, with a mark for each of n cells.
+fn reach_differs(list: &[u8], at: usize, n: usize, size: usize, marks: &[u8; 1024]) -> bool
+    requires { ⌜ at + 4 ≤ length (now list) ⌝ }
+    ensures { λ r. ⌜ DiffersUnless r (ReachSo (now (list .entry)) at n size (now (marks .entry))) ⌝ }
+{
+    replay::number_at(list, at + 2) != size || replay::cells_differ(list, at + 4, n, marks, 0)
+}
+
+// Whether a fence of this size in a fresh buffer differs from the one that the list has at `at`, with so many literals.
+fn fence_differs(list: &[u8], at: usize, count: usize, size: usize, part: &[u16; 4096]) -> bool
+    requires { ⌜ at + 2 ≤ length (now list) ⌝ }
+    ensures { λ r. ⌜ DiffersUnless r (FenceSo (now (list .entry)) at count size (now (part .entry))) ⌝ }
+{
+    count != size || replay::literals_differ(list, at + 2, count, part)
+}
 
 // Whether the reach and the fence of the arrow block f differ from those that the list has at `at` and at `fence`, with so many literals.
 fn block_differs(
@@ -18,6 +41,9 @@ fn block_differs(
     f: usize,
 ) -> bool
     requires { ⌜ (at + 4 ≤ length (now list)) × (fence + 2 ≤ length (now list)) × (h ≤ 32) × (w ≤ 32) × (f < 1024) ⌝ }
+    ensures { λ r. ⌜ ((arrows : List (List ℕ))
+        → Held (view (puzzleWith (sized h w) arrows) (take (h * w) (now (cells .entry)))) (now (kinds .entry)) (now (owners .entry))
+        → DiffersUnless r (BlockSo (view (puzzleWith (sized h w) arrows) (take (h * w) (now (cells .entry)))) f (now (list .entry)) at (areaOf h w) fence count)) ⌝ }
 {
     let name = f as u16;
     let mut near = arrays::no_marks();
@@ -34,10 +60,8 @@ fn block_differs(
         name,
         &mut part,
     );
-    replay::number_at(list, at + 2) != size
-        || replay::cells_differ(list, at + 4, replay::area(h, w), &marks, 0)
-        || count != written
-        || replay::literals_differ(list, fence + 2, count, &part)
+    reach_differs(list, at, replay::area(h, w), size, &marks)
+        || fence_differs(list, fence, count, written, &part)
 }
 
 // Compares the arrow block f with the block that the list has at `at`.

@@ -19,6 +19,8 @@ use rounds::Rounds;
 ghost use mathlib.Core.Path.{_≡_};
 ghost use Prim.Native.Nat.{_+_, _*_, _≤_, _<_};
 ghost use lib.ListN.{length};
+ghost use Rattle.replay.specs.Comparisons.{DiffersUnless};
+ghost use Rattle.groups_replay.specs.Blocks.{KindsSo};
 
 // Whether the names of the potential groups differ from those that the list has at `at`. A list that says no rounds differs: nothing would be
 // computed.
@@ -48,10 +50,15 @@ fn kinds_differ(
     owners: &[u16; 1024],
 ) -> bool
     requires { ⌜ (at + 5 * n ≤ length (now list)) × (n ≤ 1024) ⌝ }
+    ensures { λ r. ⌜ DiffersUnless r (KindsSo (now (list .entry)) at n (now (blocks .entry)) (now (kinds .entry)) (now (owners .entry))) ⌝ }
 {
-    replay::names_differ(list, at, n, blocks)
-        || replay::cells_differ(list, at + 2 * n, n, kinds, 0)
-        || replay::names_differ(list, at + 3 * n, n, owners)
+    if replay::names_differ(list, at, n, blocks) {
+        return true;
+    }
+    if replay::cells_differ(list, at + 2 * n, n, kinds, 0) {
+        return true;
+    }
+    replay::names_differ(list, at + 3 * n, n, owners)
 }
 
 // Computes kinds and owners, and compares them, the blocks and the arrow blocks with those that the list has at `at`.

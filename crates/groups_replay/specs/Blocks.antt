@@ -1,0 +1,33 @@
+-- What a list says of the reach and the fence of an arrow block, and of the names and kinds of a board.
+-- Assumes nothing.
+use Prim.Native.Nat.{ℕ, _+_, _*_}
+use mathlib.Core.Bool.{false}
+use mathlib.Core.Path.{_≡_}
+use mathlib.Core.List.{List, _++_, map}
+use lib.ListN.{length, drop, replicate}
+use Rattle.grid.specs.Cells.{word}
+use Rattle.kinds.specs.Kinds.{View, reach, fence}
+use Rattle.kinds.specs.Arrays.{reachMask}
+use Rattle.replay.specs.Lists.{numberAt, byteIn, numberIn, differs}
+
+-- a reach has the size that a list has behind a block's name, and the n marks behind that
+abbrev pub ReachSo : List ℕ → ℕ → ℕ → ℕ → List ℕ → Type 0
+ReachSo list at n size marks = (numberAt list (at + 2) ≡ size) × (differs marks (byteIn list (at + 4) n 0 0) 0 ≡ false)
+
+-- a fence has so many literals, those of a list behind their number, and nothing is written behind them
+abbrev pub FenceSo : List ℕ → ℕ → ℕ → ℕ → List ℕ → Type 0
+FenceSo list at count size part = (count ≡ size) × (differs part (numberIn list (at + 2) count 65535) 0 ≡ false)
+
+-- a fresh buffer after the fence of a block was written to it
+unfoldable pub left : View → ℕ → List ℕ
+left v f = map word (fence v f) ++ drop (length (fence v f)) (replicate 4096 65535)
+
+-- the reach and the fence of a block are those of a list at two places, with n marks and so many literals
+abbrev pub BlockSo : View → ℕ → List ℕ → ℕ → ℕ → ℕ → ℕ → Type 0
+BlockSo v f list at n place count = ReachSo list at n (length (reach v f)) (reachMask v f) × FenceSo list place count (length (fence v f)) (left v f)
+
+-- the names of blocks, the kinds and the owners are those of a list at a place, n each
+pub record KindsSo (list : List ℕ) (at n : ℕ) (blocks kinds owners : List ℕ) : Type 0 where
+  pub blocks-so : differs blocks (numberIn list at n 1024) 0 ≡ false
+  pub kinds-so : differs kinds (byteIn list (at + 2 * n) n 0 0) 0 ≡ false
+  pub owners-so : differs owners (numberIn list (at + 3 * n) n 1024) 0 ≡ false
