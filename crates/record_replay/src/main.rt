@@ -10,6 +10,8 @@ use replay::Tally;
 ghost use mathlib.Core.Path.{_≡_};
 ghost use Prim.Native.Nat.{_+_, _≤_, _<_};
 ghost use lib.ListN.{length, replicate};
+ghost use Rattle.replay.specs.Comparisons.{DiffersUnless};
+ghost use Rattle.record_replay.specs.Problems.{ZerosFrom, ArrowsSo, areaAt, ProblemSo, RecordSo};
 
 // A record that is far too long.
 fn zeros() -> [u8; 131072]
@@ -21,7 +23,7 @@ fn zeros() -> [u8; 131072]
 // The product of the two bytes from `at` on: the number of cells of a grid.
 fn area_at(list: &[u8], at: usize) -> usize
     requires { ⌜ at ≤ length (now list) ⌝ }
-    ensures { λ r. ⌜ r < 65536 ⌝ }
+    ensures { λ r. ⌜ (r ≡ areaAt (now (list .entry)) at) × (r < 65536) ⌝ }
 {
     replay::byte_at(list, at) * replay::byte_at(list, at + 1)
 }
@@ -51,6 +53,7 @@ fn problem_end(list: &[u8], at: usize) -> usize
 // Whether something but zeros stands among the numbers from place `from` on.
 fn tail_differs(numbers: &[u16], from: usize) -> bool
     requires { ⌜ from ≤ length (now numbers) ⌝ }
+    ensures { λ r. ⌜ DiffersUnless r (ZerosFrom (now (numbers .entry)) from) ⌝ }
 {
     replay::numbers_differ(b"", 0, 0, &numbers[from..], 0)
 }
@@ -58,6 +61,7 @@ fn tail_differs(numbers: &[u16], from: usize) -> bool
 // Whether the arrows of the list, from start on, differ from those in the two arrays, with zeros behind them.
 fn arrows_differ(list: &[u8], start: usize, arrows: usize, line: &[u16], ends: &[u16]) -> bool
     requires { ⌜ (arrows ≤ 1024) × (length (now line) ≡ 1024) × (length (now ends) ≡ 1024) ⌝ }
+    ensures { λ r. ⌜ DiffersUnless r (ArrowsSo (now (list .entry)) start arrows (now (line .entry)) (now (ends .entry)) 0 0) ⌝ }
 {
     let mut at = start;
     let mut end = 0;
@@ -90,25 +94,35 @@ fn arrows_differ(list: &[u8], start: usize, arrows: usize, line: &[u16], ends: &
 // Whether the problem differs from the one that the list says from `at` on.
 fn problem_differs(list: &[u8], at: usize, p: Problem) -> bool
     requires { ⌜ at + 2 ≤ length (now list) ⌝ }
+    ensures { λ r. ⌜ DiffersUnless r (ProblemSo (now (list .entry)) at p) ⌝ }
 {
     let n = area_at(list, at);
     let count = replay::number_at(list, at + 2 + n);
     if 1024 < count {
         return true;
     }
+    if p.height != replay::byte_at(list, at) {
+        return true;
+    }
+    if p.width != replay::byte_at(list, at + 1) {
+        return true;
+    }
+    if p.count != count {
+        return true;
+    }
     let cells = p.cells;
+    if replay::cells_differ(list, at + 2, n, &cells, 0) {
+        return true;
+    }
     let line = p.arrows;
     let ends = p.ends;
-    p.height != replay::byte_at(list, at)
-        || p.width != replay::byte_at(list, at + 1)
-        || p.count != count
-        || replay::cells_differ(list, at + 2, n, &cells, 0)
-        || arrows_differ(list, at + 4 + n, count, &line, &ends)
+    arrows_differ(list, at + 4 + n, count, &line, &ends)
 }
 
 // Whether what is read of a record differs from this refusal or from the problem that the list says from `at` on.
 fn record_differs(record: &[u8], refusal: usize, list: &[u8], at: usize) -> bool
     requires { ⌜ at + 2 ≤ length (now list) ⌝ }
+    ensures { λ r. ⌜ DiffersUnless r (RecordSo (now («record» .entry)) refusal (now (list .entry)) at) ⌝ }
 {
     let r = record::read(record);
     let answer = r.answer;

@@ -1,4 +1,4 @@
--- `record_replay::area_at` meets its contract.
+-- `record_replay::area_at` is the product of the two bytes.
 -- Assumes nothing.
 use borrow.Author.Needs.{needs}
 use Prim.Native.Nat.{ℕ, _*_, _≤_, _<_}
@@ -26,7 +26,10 @@ mul-result : tie.Need-mul-result
 mul-result c = omega (arith, small (c .before .byte-at .result) (c .byte-at2 .result) (c .before .byte-at .ensures .1) (c .byte-at2 .ensures .1))
 
 returns : tie.Need-returns
-returns c = small (c .before .byte-at .result) (c .byte-at2 .result) (c .before .byte-at .ensures .1) (c .byte-at2 .ensures .1)
+returns c = (
+      rw (c .before .byte-at .ensures .0, c .byte-at2 .ensures .0),
+      small (c .before .byte-at .result) (c .byte-at2 .result) (c .before .byte-at .ensures .1) (c .byte-at2 .ensures .1),
+    )
 
 pub area-at-spec : {M : Type 1} → statement M
 area-at-spec =
