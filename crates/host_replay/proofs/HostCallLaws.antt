@@ -26,7 +26,7 @@ fresh-long = length-replicate {A = ℕ} 8192 170
 
 -- a call whose output was a part of a fresh array, and what it returned
 module _ (s decisions : List ℕ) (size : ℕ) (small : size ≤ 8000) (array : List ℕ) (e : array ≡ fresh) (r : ℤ)
-  (h : r ≡ returned (hostFinds s decisions (length (midOf 64 (64 + size - 64) array)))) where
+    (h : r ≡ returned (hostFinds s decisions (length (midOf 64 (64 + size - 64) array)))) where
   -- the output's length
   part-long : length (midOf 64 (64 + size - 64) array) ≡ size
   part-long =

@@ -47,7 +47,7 @@ module _ (list line ends : List ℕ) (at end i : ℕ) where
 
 -- the i-th of the arrows, which has n cells, where those from it on decide for all
 module _ (list line ends : List ℕ) (start arrows at end i n : ℕ) (e : n ≡ numberAt list at) (lt : i < arrows)
-  (inv : (r : Bool) → DiffersUnless r (ArrowsSo list at (arrows - i) line ends end i) → DiffersUnless r (ArrowsSo list start arrows line ends 0 0)) where
+    (inv : (r : Bool) → DiffersUnless r (ArrowsSo list at (arrows - i) line ends end i) → DiffersUnless r (ArrowsSo list start arrows line ends 0 0)) where
   -- it is not as the list says
   other-arrow : (ArrowSo list at line ends end i → ⊥) → DiffersUnless true (ArrowsSo list start arrows line ends 0 0)
   other-arrow z = inv true (fails (λ w. z (first-arrow list line ends at end i (arrows - i) (omega arith) w)))

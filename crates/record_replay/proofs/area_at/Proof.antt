@@ -27,9 +27,9 @@ mul-result c = omega (arith, small (c .before .byte-at .result) (c .byte-at2 .re
 
 returns : tie.Need-returns
 returns c = (
-      rw (c .before .byte-at .ensures .0, c .byte-at2 .ensures .0),
-      small (c .before .byte-at .result) (c .byte-at2 .result) (c .before .byte-at .ensures .1) (c .byte-at2 .ensures .1),
-    )
+  rw (c .before .byte-at .ensures .0, c .byte-at2 .ensures .0),
+  small (c .before .byte-at .result) (c .byte-at2 .result) (c .before .byte-at .ensures .1) (c .byte-at2 .ensures .1),
+)
 
 pub area-at-spec : {M : Type 1} → statement M
 area-at-spec =
