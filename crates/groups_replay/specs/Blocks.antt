@@ -1,6 +1,6 @@
 -- What a list says of the reach and the fence of an arrow block, and of the names and kinds of a board.
 -- Assumes nothing.
-use Prim.Native.Nat.{ℕ, _+_, _*_}
+use Prim.Native.Nat.{ℕ, _+_, _*_, _<_}
 use mathlib.Core.Bool.{false}
 use mathlib.Core.Path.{_≡_}
 use mathlib.Core.List.{List, _++_, map}
@@ -31,3 +31,9 @@ pub record KindsSo (list : List ℕ) (at n : ℕ) (blocks kinds owners : List �
   pub blocks-so : differs blocks (numberIn list at n 1024) 0 ≡ false
   pub kinds-so : differs kinds (byteIn list (at + 2 * n) n 0 0) 0 ≡ false
   pub owners-so : differs owners (numberIn list (at + 3 * n) n 1024) 0 ≡ false
+
+-- both are computed at least once, and the names of potential groups are those of a list at a place, n of them
+pub record PotentialSo (labels kinds : ℕ) (list : List ℕ) (at n : ℕ) (names : List ℕ) : Type 0 where
+  pub labelled : 0 < labels
+  pub told : 0 < kinds
+  pub names-so : differs names (numberIn list at n 1024) 0 ≡ false

@@ -18,9 +18,12 @@ use replay::Tally;
 use rounds::Rounds;
 ghost use mathlib.Core.Path.{_≡_};
 ghost use Prim.Native.Nat.{_+_, _*_, _≤_, _<_};
-ghost use lib.ListN.{length};
+ghost use mathlib.Core.Bool.{true};
+ghost use lib.ListN.{length, take};
+ghost use Rattle.grid.specs.Side.{sized};
+ghost use Rattle.groups.specs.Arrays.{counts, labelArray};
 ghost use Rattle.replay.specs.Comparisons.{DiffersUnless};
-ghost use Rattle.groups_replay.specs.Blocks.{KindsSo};
+ghost use Rattle.groups_replay.specs.Blocks.{KindsSo, PotentialSo};
 
 // Whether the names of the potential groups differ from those that the list has at `at`. A list that says no rounds differs: nothing would be
 // computed.
@@ -34,10 +37,17 @@ fn potential_groups_differ(
     w: usize,
 ) -> bool
     requires { ⌜ (at + 2 * n ≤ length (now list)) × (h ≤ 32) × (w ≤ 32) ⌝ }
+    ensures { λ r. ⌜ DiffersUnless r (PotentialSo (rounds .labels) (rounds .kinds) (now (list .entry)) at n (labelArray (sized h w) (counts true (take (h * w) (now (cells .entry)))))) ⌝ }
 {
+    if rounds.labels == 0 {
+        return true;
+    }
+    if rounds.kinds == 0 {
+        return true;
+    }
     let mut names = arrays::no_names();
     rounds::label_in_rounds(rounds.labels, cells, true, h, w, &mut names);
-    rounds.labels == 0 || rounds.kinds == 0 || replay::names_differ(list, at, n, &names)
+    replay::names_differ(list, at, n, &names)
 }
 
 // Whether the names of the blocks, the kinds or the owners differ from those that the list has at `at`.

@@ -1,6 +1,10 @@
 // Names and kinds, computed as often as the list says.
 use super::arrays;
-ghost use Prim.Native.Nat.{_≤_};
+ghost use Prim.Native.Nat.{_*_, _≤_, _<_};
+ghost use mathlib.Core.Path.{_≡_};
+ghost use lib.ListN.{take};
+ghost use Rattle.grid.specs.Side.{sized};
+ghost use Rattle.groups.specs.Arrays.{counts, labelArray};
 
 // How often labels and kinds are computed.
 pub struct Rounds {
@@ -18,6 +22,7 @@ pub fn label_in_rounds(
     names: &mut [u16; 1024],
 )
     requires { ⌜ (h ≤ 32) × (w ≤ 32) ⌝ }
+    ensures { λ _. ⌜ (0 < rounds → now (names .exit) ≡ labelArray (sized h w) (counts «is_potential» (take (h * w) (now (cells .entry))))) ⌝ }
 {
     let mut i = 0;
     while i < rounds {
