@@ -99,17 +99,18 @@ module _ (g : Grid) (line : List ℕ) where
 
 -- ---- all arrows
 
-module _ (g : Grid) (line l : List ℕ) {total : Bool} (good : Bool) (at k : ℕ) where
-  pub arrows-on : k < length l → total ≡ (good && all (isPath g) (arrowsFrom line at (drop k l))) → true ≡ isPath g (take (getD l k 0 - at) (drop at line))
-      → total ≡ (good && all (isPath g) (arrowsFrom line (getD l k 0) (drop (k + 1) l)))
+-- a pass over the arrows that keeps whether every one so far passes a test
+module _ (test : List ℕ → Bool) (line l : List ℕ) {total : Bool} (good : Bool) (at k : ℕ) where
+  pub arrows-on : k < length l → total ≡ (good && all test (arrowsFrom line at (drop k l))) → true ≡ test (take (getD l k 0 - at) (drop at line))
+      → total ≡ (good && all test (arrowsFrom line (getD l k 0) (drop (k + 1) l)))
   unfolding all arrowsFrom
   arrows-on h e q = e ∙ rw (add-one k, drop-cons l k 0 h, ← q) refl
 
-  pub arrows-fail : k < length l → total ≡ (good && all (isPath g) (arrowsFrom line at (drop k l))) → false ≡ isPath g (take (getD l k 0 - at) (drop at line)) → total ≡ false
+  pub arrows-fail : k < length l → total ≡ (good && all test (arrowsFrom line at (drop k l))) → false ≡ test (take (getD l k 0 - at) (drop at line)) → total ≡ false
   unfolding all arrowsFrom
   arrows-fail h e q = e ∙ rw (drop-cons l k 0 h, ← q, and-false good) refl
 
-  pub arrows-end : length l ≤ k → total ≡ (good && all (isPath g) (arrowsFrom line at (drop k l))) → good ≡ total
+  pub arrows-end : length l ≤ k → total ≡ (good && all test (arrowsFrom line at (drop k l))) → good ≡ total
   unfolding all arrowsFrom
   arrows-end h e = rw (e, drop-of-length-le l {i = k} h, and-true good) refl
 

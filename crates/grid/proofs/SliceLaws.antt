@@ -1,13 +1,13 @@
 -- Laws of the parts of a list, from one place to another.
 -- Assumes nothing.
-use Prim.Native.Nat.{ℕ, suc, _+_, _-_, _≤_, _<_, max}
+use Prim.Native.Nat.{ℕ, zero, suc, _+_, _-_, _≤_, _<_, max}
 use native.Mathlib.Omega.{arith}
 use native.Mathlib.Numerals.{add-one}
 use native.Mathlib.Decide.{decLe, decLt}
 use mathlib.Core.Path.{_≡_, refl, sym, ap, _∙_}
 use mathlib.Core.List.{List, [], _∷_, _++_, List·Memᴰ}
 use lib.ListN.{length, getD, take, drop, length-take, length-drop, take-append-drop, drop-of-length-le}
-use lib.Seq.{slice, slice-cons, length-slice, take-suc, take-take, length-take-le, drop-append-le, getD-take, getD-drop}
+use lib.Seq.{slice, slice-cons, length-slice, take-nil, drop-nil, take-suc, take-take, length-take-le, drop-append-le, getD-take, getD-drop}
 use Rattle.grid.specs.Lists.{init, tail}
 use Rattle.grid.proofs.ListLaws.{mem-at, at-mem}
 use Rattle.grid.proofs.AppendLaws.{init-more}
@@ -68,3 +68,10 @@ module _ (l : List ℕ) where
       go : Dec (a ≤ t) → init (slice a (t + 1) l) ≡ slice a t l
       go (yes h) = rw (slice-more l a t h r) (init-more (slice a t l) (getD l t 0))
       go (no h) = rw (slice-none l a (t + 1) (omega arith), slice-none l a t (omega arith)) refl
+
+-- as many as lie between two places, from the first on
+pub slice-taken : (l : List ℕ) (a e : ℕ) → take (e - a) (drop a l) ≡ slice a e l
+slice-taken l zero e = let z : e - 0 ≡ e = omega arith in rw z refl
+slice-taken [] (suc a) e = take-nil (e - suc a) ∙ sym (ap (drop (suc a)) (take-nil e) ∙ drop-nil (suc a))
+slice-taken (x ∷ l) (suc a) zero = let z : 0 - suc a ≡ 0 = omega arith in rw z refl
+slice-taken (x ∷ l) (suc a) (suc e) = let z : suc e - suc a ≡ e - a = omega arith in rw z (slice-taken l a e)

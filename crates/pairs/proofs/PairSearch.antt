@@ -1,18 +1,18 @@
 -- The first reason among the pairs of one arrow, and of all arrows, by their places.
 -- Assumes nothing.
-use Prim.Native.Nat.{ℕ, zero, suc, _+_, _-_, _*_, _≤_, _<_}
+use Prim.Native.Nat.{ℕ, _+_, _*_, _≤_, _<_}
 use native.Mathlib.Omega.{arith}
 use native.Mathlib.Numerals.{add-one}
-use mathlib.Core.Path.{_≡_, refl, sym, ap, _∙_}
+use mathlib.Core.Path.{_≡_, refl, ap, _∙_}
 use mathlib.Core.Bool.{Bool, true}
 use mathlib.Core.List.{List, [], _∷_, List·Memᴰ, List·Memᴰ·head, List·Memᴰ·tail}
 use mathlib.Core.Option.{none}
 use lib.ListN.{length, getD, take, drop, length-take, drop-of-length-le}
-use lib.Seq.{slice, slice-cons, length-slice, take-nil, drop-nil}
+use lib.Seq.{slice, slice-cons, length-slice}
 use Rattle.grid.proofs.CellLaws.{square-taken}
 use Rattle.grid.specs.Lists.{flatMap, member}
 use Rattle.grid.proofs.ListLaws.{mem-any, mem-member}
-use Rattle.grid.proofs.SliceLaws.{slice-none, slice-at}
+use Rattle.grid.proofs.SliceLaws.{slice-none, slice-at, slice-taken}
 use Rattle.grid.specs.Cells.{square}
 use Rattle.record.specs.Problem.{arrowsFrom}
 use Rattle.groups.specs.Arrows.{onArrow, Pair, pairs}
@@ -77,12 +77,6 @@ module _ (fourth : Bool) {h w : ℕ} {lines : List (List ℕ)} {cells arrows kin
 
 -- ---- all arrows
 
-take-drop : (l : List ℕ) (a e : ℕ) → take (e - a) (drop a l) ≡ drop a (take e l)
-take-drop l zero e = let z : e - 0 ≡ e = omega arith in rw z refl
-take-drop [] (suc a) e = take-nil (e - suc a) ∙ sym (ap (drop (suc a)) (take-nil e) ∙ drop-nil (suc a))
-take-drop (x ∷ l) (suc a) zero = let z : 0 - suc a ≡ 0 = omega arith in rw z refl
-take-drop (x ∷ l) (suc a) (suc e) = let z : suc e - suc a ≡ e - a = omega arith in rw z (take-drop l a e)
-
 -- the arrows from the a-th on, which starts at the place `from`
 abbrev pub linesFrom : List ℕ → List ℕ → ℕ → ℕ → ℕ → List (List ℕ)
 linesFrom arrows ends number from a = arrowsFrom arrows from (drop a (take number ends))
@@ -90,7 +84,7 @@ linesFrom arrows ends number from a = arrowsFrom arrows from (drop a (take numbe
 lines-more : (arrows ends : List ℕ) (number from a : ℕ) → a < number → number ≤ length ends
     → linesFrom arrows ends number from a ≡ slice from (getD ends a 0) arrows ∷ linesFrom arrows ends number (getD ends a 0) (a + 1)
 unfolding arrowsFrom
-lines-more arrows ends number from a h k = rw (slice-cons a number ends 0 h k, take-drop arrows from (getD ends a 0), add-one a) refl
+lines-more arrows ends number from a h k = rw (slice-cons a number ends 0 h k, slice-taken arrows from (getD ends a 0), add-one a) refl
 
 lines-end : (arrows ends : List ℕ) (number from a : ℕ) → number ≤ a → linesFrom arrows ends number from a ≡ []
 unfolding arrowsFrom

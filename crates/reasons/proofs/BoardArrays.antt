@@ -26,7 +26,7 @@ use Rattle.form.specs.Form.{rises, ended, behind}
 use Rattle.board.specs.Form.{wellFormed}
 use Rattle.board.specs.declared.Board.{Board}
 use Rattle.board.proofs.BoardForm.{whole-is}
-use Rattle.form.proofs.ProblemForm.{valid-formed, formed-valid, formed-again, rises-last, ends-taken, last-end, line-below}
+use Rattle.form.proofs.ProblemForm.{Formed, valid-formed, formed-valid, formed-again, rises-last, ends-taken, last-end, line-below}
 use Rattle.kinds.specs.Kinds.{arrowBlock, blocksTouched, kindAt, kindsOf, view, viewWith}
 use Rattle.kinds.specs.Inside.{puzzleWith}
 use Rattle.literals.specs.declared.Finding.{Finding}
@@ -109,7 +109,15 @@ module _ (p : Puzzle) (v : Valid p) where
         cells-are = rw (lines-are, ends-taken p v, last-end p v) (array-take 0 (arrowCells (p .arrows)));
       }
 
--- a well-formed board has a grid of at valid-size v 32 by 32
+-- the arrays of an accepted record hold its arrows
+pub problem-arrays : (q : Problem) → Formed q → ArrowArrays (q .height * q .width) (q .arrows) (q .ends) (q .count) (last 0 (take (q .count) (q .ends)))
+unfolding puzzleOf gridOf size
+problem-arrays q f =
+    subst
+    (λ (r : Problem). ArrowArrays (q .height * q .width) (r .arrows) (r .ends) (r .count) (last 0 (take (r .count) (r .ends))))
+    (formed-again q f) (arrow-arrays (puzzleOf q) (formed-valid q f))
+
+-- a well-formed board has a grid of at most 32 by 32
 pub board-sizes : (b : Board) → wellFormed b ≡ true → (b .problem .height ≤ 32) × (b .problem .width ≤ 32)
 unfolding gridOf
 board-sizes b h = whole-is b h .problem .sizes .high
@@ -117,12 +125,7 @@ board-sizes b h = whole-is b h .problem .sizes .high
 -- and its arrays hold its arrows
 pub board-arrays : (b : Board) → wellFormed b ≡ true
     → ArrowArrays (b .problem .height * b .problem .width) (b .problem .arrows) (b .problem .ends) (b .problem .count) (last 0 (take (b .problem .count) (b .problem .ends)))
-unfolding puzzleOf gridOf size
-board-arrays b h =
-    let f = whole-is b h .problem in
-    subst
-    (λ (q : Problem). ArrowArrays (b .problem .height * b .problem .width) (q .arrows) (q .ends) (q .count) (last 0 (take (q .count) (q .ends))))
-    (formed-again (b .problem) f) (arrow-arrays (puzzleOf (b .problem)) (formed-valid (b .problem) f))
+board-arrays b h = problem-arrays (b .problem) (whole-is b h .problem)
 
 -- what find answers: 6, 11, or what was found
 pub find-ill : (b : Board) (buffer : List ℕ) → wellFormed b ≡ false → (Refused 6 ≡ findOf b buffer) × (buffer ≡ bufferAfter b buffer)

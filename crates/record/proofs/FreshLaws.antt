@@ -88,3 +88,9 @@ arrows-length p v = fresh-length (size (p .grid)) [] (together (p .arrows)) (arr
   where
     all : (x : ℕ) → List·Memᴰ x (together (p .arrows)) → x < size (p .grid)
     all x m = let r = flatMap-mem (λ a. a) (p .arrows) m in arrows-size (v .arrows) (r .0) (r .1) x (r .2)
+
+-- no cell comes twice on an arrow
+pub arrow-distinct : {g : Grid} {u : List ℕ} {l : List (List ℕ)} → Arrows g u l → (a : List ℕ) → List·Memᴰ a l → Distinct a
+arrow-distinct Arrows.nil a m = absurd (List·Memᴰ·not-nil m)
+arrow-distinct (Arrows.cons w f r) a (List·Memᴰ·head e) = rw e (fresh-distinct f)
+arrow-distinct (Arrows.cons w f r) a (List·Memᴰ·tail m) = arrow-distinct r a m

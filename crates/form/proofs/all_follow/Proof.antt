@@ -100,8 +100,8 @@ loop-again c =
           let r : c .before .follows .result ≡ isPath g (take (getD (cuts s) (t .k) 0 - t .at) (drop (t .at) line)) =
           rw (← e) at (c .before .follows .ensures g u (λ i h. b i (omega (arith, e, n .below, h)))) in
           ⊎-elim
-          (λ w. rw (w .1) (arrows-fail g line (cuts s) (t .good) (t .at) (t .k) (n .lt) (t .inv .same g u b) (sym (not-true (c .before .follows .result) (w .0 .taken)) ∙ r)))
-          (λ w. rw (w .1, ← e) (arrows-on g line (cuts s) (t .good) (t .at) (t .k) (n .lt) (t .inv .same g u b) (sym (not-false (c .before .follows .result) (w .0 .left)) ∙ r)))
+          (λ w. rw (w .1) (arrows-fail (isPath g) line (cuts s) (t .good) (t .at) (t .k) (n .lt) (t .inv .same g u b) (sym (not-true (c .before .follows .result) (w .0 .taken)) ∙ r)))
+          (λ w. rw (w .1, ← e) (arrows-on (isPath g) line (cuts s) (t .good) (t .at) (t .k) (n .lt) (t .inv .same g u b) (sym (not-false (c .before .follows .result) (w .0 .left)) ∙ r)))
           (c .if1 .came);
     }
 
@@ -110,7 +110,7 @@ returns c =
     let s = c .before .before in
     let t = c .before .loop in
     let len : length (cuts s) ≡ s .args .count = length-take-le (s .args .count) (s .args .ends .now) (omega arith) in
-    λ g u b. arrows-end g (s .args .arrows .now) (cuts s) (t .good) (t .at) (t .k) (omega arith) (t .inv .same g u b)
+    λ g u b. arrows-end (isPath g) (s .args .arrows .now) (cuts s) (t .good) (t .at) (t .k) (omega arith) (t .inv .same g u b)
 
 pub all-follow-spec : {M : Type 1} → statement M
 all-follow-spec =
