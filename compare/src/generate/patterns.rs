@@ -39,8 +39,8 @@ impl Pattern {
             let (row, column) = (size.row(cell), size.column(cell));
             match self {
                 Pattern::All => true,
-                Pattern::Checkerboard => (row + column) % 2 == 0,
-                Pattern::Comb => row == 0 || column % 2 == 0,
+                Pattern::Checkerboard => (row + column) & 1 == 0,
+                Pattern::Comb => row == 0 || column & 1 == 0,
                 Pattern::Serpentine => match row % 4 {
                     1 => column == size.width - 1,
                     3 => column == 0,
