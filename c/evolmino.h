@@ -37,6 +37,15 @@ int32_t evolmino_find(const uint8_t *record, size_t record_len,
                       const uint8_t *decisions, size_t decisions_len,
                       uint8_t *output, size_t output_len);
 
+/* Opens the record, decides in order and tells whether the leaf is finished: every cell is decided, black cells are empty, given squares are
+ * square, the block rules hold, and two squares or more stand on every arrow. Decisions and pointers are as for evolmino_find.
+ *
+ * Returns 1 for yes, 0 for no, or the negated number of a refusal: the record's 1 to 5, then for each decision in turn 12, 7, 9, and 12 for a
+ * single byte that is left over. It keeps nothing either, and takes up to about 60 kilobytes of stack.
+ */
+int32_t evolmino_finished(const uint8_t *record, size_t record_len,
+                          const uint8_t *decisions, size_t decisions_len);
+
 #ifdef __cplusplus
 }
 #endif

@@ -1,4 +1,4 @@
-//! The port's host call, by the package that links it, with the feature `host`.
+//! The port's exported calls, by the package that links them, with the feature `host`.
 
 /// Record, decisions, output; the literal count or the negated refusal number.
 pub type HostCall = fn(&[u8], &[u8], &mut [u8]) -> i32;
@@ -9,6 +9,15 @@ pub const HOST_CALL: Option<HostCall> = Some(call);
 #[cfg(not(feature = "host"))]
 pub const HOST_CALL: Option<HostCall> = None;
 
+/// Record, decisions; 1 for a finished leaf, 0 for another, or the negated refusal number.
+pub type FinishedCall = fn(&[u8], &[u8]) -> i32;
+
+/// The call that tells whether a leaf is finished, if this program was built with it.
+#[cfg(feature = "host")]
+pub const FINISHED_CALL: Option<FinishedCall> = Some(finished_call);
+#[cfg(not(feature = "host"))]
+pub const FINISHED_CALL: Option<FinishedCall> = None;
+
 pub const MISSING: &str = "the host call is not linked: build with --features host, \
                            with libhost.a in the folder that EVOLMINO_HOST names";
 
@@ -16,6 +25,14 @@ pub const MISSING: &str = "the host call is not linked: build with --features ho
 fn call(record: &[u8], decisions: &[u8], output: &mut [u8]) -> i32 {
     match evolmino::find_bytes(record, decisions, output) {
         Ok(count) => count as i32,
+        Err(refusal) => -(refusal.number() as i32),
+    }
+}
+
+#[cfg(feature = "host")]
+fn finished_call(record: &[u8], decisions: &[u8]) -> i32 {
+    match evolmino::finished_bytes(record, decisions) {
+        Ok(yes) => i32::from(yes),
         Err(refusal) => -(refusal.number() as i32),
     }
 }

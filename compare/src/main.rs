@@ -1,4 +1,4 @@
-//! Compares the Rust original of the Evolmino constraint with a literal reading of document 01,
+//! Compares the Rust original of the Evolmino constraint with a literal reading of documents 01 and 02,
 //! writes fixed lists of answers, and measures. See README.md.
 
 mod answers;
@@ -58,7 +58,7 @@ compare program PATH [--seed N] [--count N]
 compare bench [--seed N] [--count ROUNDS]
 compare host [--seed N] [--count N]
 compare constraint [--seed N] [--count N]
-compare fuzz [--seed N] [--count N]
+compare fuzz|finished [--seed N] [--count N]
 compare reason < INPUT
 compare original";
 
@@ -88,6 +88,7 @@ fn run(options: &Options) -> Outcome {
         "program" => commands::program::run(seed, count(2_000), path()?),
         "reason" => reason(),
         "fuzz" => commands::fuzz::run(seed, count(1_000_000)),
+        "finished" => commands::finished::run(seed, count(1_000)),
         "finds" | "calls" | "groups" | "lists" | "bench" | "host" | "constraint" | "original"
             if !original::AT_HAND =>
         {

@@ -1,4 +1,4 @@
-//! The exported call, made safe.
+//! The exported calls, made safe.
 
 use std::fmt;
 
@@ -11,6 +11,13 @@ extern "C" {
         output: *mut u8,
         output_len: usize,
     ) -> i32;
+
+    fn evolmino_finished(
+        record: *const u8,
+        record_len: usize,
+        decisions: *const u8,
+        decisions_len: usize,
+    ) -> i32;
 }
 
 /// A cell's index, row × width + column, with its value: `true` for a square, `false` for empty.
@@ -19,8 +26,8 @@ pub type Literal = (usize, bool);
 /// The bytes that suffice for a reason on the largest grid: 2 × (3 × 32 × 32 + 1).
 const OUTPUT_LIMIT: usize = 2 * (3 * 32 * 32 + 1);
 
-/// Why there is no answer, by the number in README's table of refusals. The exported call never gives [`Refusal::Board`],
-/// [`Refusal::Value`] and [`Refusal::NothingDecided`]: its board is its own, and a decision has one bit of value.
+/// Why there is no answer, by the number in README's table of refusals. The exported calls never give [`Refusal::Board`],
+/// [`Refusal::Value`] and [`Refusal::NothingDecided`]: their board is their own, and a decision has one bit of value.
 ///
 /// The table grows, so a `match` needs an arm for the refusals that it doesn't name.
 #[derive(Clone, Copy, Debug, PartialEq, Eq, Hash)]
@@ -139,7 +146,7 @@ pub fn find_bytes(record: &[u8], decisions: &[u8], output: &mut [u8]) -> Result<
     counted(answer)
 }
 
-/// What the exported call returned: a number of literals, or the negated number of a refusal.
+/// What an exported call returned: its number, or the negated number of a refusal.
 fn counted(answer: i32) -> Result<usize, Refusal> {
     usize::try_from(answer).map_err(|_| Refusal::from_number(answer.unsigned_abs()))
 }
@@ -149,23 +156,65 @@ fn counted(answer: i32) -> Result<usize, Refusal> {
 /// Each literal of a reason is one of the decisions; one may stand twice. An index that doesn't fit a decision's ten bits is
 /// [`Refusal::Index`].
 pub fn find(record: &[u8], decisions: &[Literal]) -> Result<Option<Vec<Literal>>, Refusal> {
-    let mut bytes = Vec::with_capacity(2 * decisions.len());
-    let mut fits = decisions.len();
-    for (place, &literal) in decisions.iter().enumerate() {
-        match encode(literal) {
-            Some(pair) => bytes.extend_from_slice(&pair),
-            None => {
-                fits = place;
-                break;
-            }
-        }
-    }
     let mut output = [0; OUTPUT_LIMIT];
-    let count = find_bytes(record, &bytes, &mut output)?;
-    if fits < decisions.len() {
+    let count = decided(decisions, |bytes| find_bytes(record, bytes, &mut output))?;
+    Ok(literals(&output, count))
+}
+
+/// The exported call that tells whether a leaf is finished, on bytes: a record, and decisions of two bytes each.
+///
+/// It keeps nothing, takes nothing from the heap and up to about 60 kilobytes of stack.
+pub fn finished_bytes(record: &[u8], decisions: &[u8]) -> Result<bool, Refusal> {
+    // Safe: each pointer comes from a slice and goes with its length; the call reads both and keeps neither.
+    let answer = unsafe {
+        evolmino_finished(
+            record.as_ptr(),
+            record.len(),
+            decisions.as_ptr(),
+            decisions.len(),
+        )
+    };
+    Ok(counted(answer)? != 0)
+}
+
+/// Opens the record, decides in order and tells whether the leaf is finished: every cell is decided, black cells are empty, given
+/// squares are square, the block rules hold, and two squares or more stand on every arrow.
+///
+/// An index that doesn't fit a decision's ten bits is [`Refusal::Index`].
+///
+/// ```
+/// use evolmino::{Problem, ProblemCell, Record};
+///
+/// // A row of five cells with an arrow along its first four.
+/// let problem = Problem {
+///     cells: vec![vec![ProblemCell::Empty; 5]],
+///     arrows: vec![(0..4).map(|x| (0, x)).collect()],
+/// };
+/// let record = Record::new(&problem).unwrap();
+/// let leaf = |squares: &[usize]| -> Vec<_> {
+///     (0..5).map(|cell| (cell, squares.contains(&cell))).collect()
+/// };
+/// // A block of one square, then a block of two.
+/// assert_eq!(evolmino::finished(record.bytes(), &leaf(&[0, 3, 4])), Ok(true));
+/// // No block at all: there is no reason against it, but the arrow passes no two blocks.
+/// assert_eq!(evolmino::finished(record.bytes(), &leaf(&[])), Ok(false));
+/// ```
+pub fn finished(record: &[u8], decisions: &[Literal]) -> Result<bool, Refusal> {
+    decided(decisions, |bytes| finished_bytes(record, bytes))
+}
+
+/// What a call says of decisions, which it takes as bytes. One whose index has more than ten bits can't be among them: it is
+/// refused as the call would refuse it, after all that come before it.
+fn decided<T>(
+    decisions: &[Literal],
+    call: impl FnOnce(&[u8]) -> Result<T, Refusal>,
+) -> Result<T, Refusal> {
+    let fit: Vec<[u8; 2]> = decisions.iter().map_while(|&d| encode(d)).collect();
+    let answer = call(&fit.concat())?;
+    if fit.len() < decisions.len() {
         return Err(Refusal::Index);
     }
-    Ok(literals(&output, count))
+    Ok(answer)
 }
 
 /// The first `count` literals of an output, `None` where there are none.

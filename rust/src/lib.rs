@@ -1,11 +1,11 @@
 //! The proved Evolmino constraint, for Rust.
 //!
-//! [`find`] asks the proved library why a board can't be finished; [`Record`] writes a [`Problem`] in the form that it reads; and
-//! [`Constraint`] has `notify`, `undo` and `find_inconsistency` with the signatures of cspuz_core's `SimpleCustomConstraint`, so
-//! that it can stand where `EvolminoConstraint` stood.
+//! [`find`] asks the proved library why a board can't be finished, [`finished`] whether it is; [`Record`] writes a [`Problem`] in
+//! the form that they read; and [`Constraint`] has `notify`, `undo` and `find_inconsistency` with the signatures of cspuz_core's
+//! `SimpleCustomConstraint`, so that it can stand where `EvolminoConstraint` stood.
 //!
-//! What is proved is the library's exported call. This package around it, which writes records, keeps decisions and reads the answer, is plain
-//! Rust: `compare constraint` holds it beside the original.
+//! What is proved are the library's exported calls. This package around them, which writes records, keeps decisions and reads the
+//! answer, is plain Rust: `compare constraint` holds it beside the original.
 //!
 //! ```
 //! use evolmino::{Problem, ProblemCell, Record};
@@ -26,5 +26,5 @@ mod host;
 mod record;
 
 pub use constraint::Constraint;
-pub use host::{find, find_bytes, Literal, Refusal};
+pub use host::{find, find_bytes, finished, finished_bytes, Literal, Refusal};
 pub use record::{Problem, ProblemCell, Record, RecordError};

@@ -1,6 +1,9 @@
-//! The leaves of document 01, and the refusals that a caller can meet.
+//! The leaves of documents 01 and 02, and the refusals that a caller can meet.
 
-use evolmino::{find, find_bytes, Constraint, Problem, ProblemCell, Record, RecordError, Refusal};
+use evolmino::{
+    find, find_bytes, finished, finished_bytes, Constraint, Problem, ProblemCell, Record,
+    RecordError, Refusal,
+};
 
 /// Strip S: one row of three cells, an arrow along it.
 const S: [u8; 7] = [0x00, 0x80, 0x08, 0x00, 0x00, 0x05, 0xE0];
@@ -62,6 +65,49 @@ fn two_by_five() {
             (5, false),
             (2, false)
         ]))
+    );
+}
+
+/// Whether a leaf is finished when its cells have these values.
+fn filled(record: &[u8], values: &[u8]) -> Result<bool, Refusal> {
+    let decisions: Vec<_> = values.iter().map(|&value| value == 1).enumerate().collect();
+    finished(record, &decisions)
+}
+
+#[test]
+fn finished_leaves() {
+    // S with no square, and with one; T
+    assert_eq!(filled(&S, &[0, 0, 0]), Ok(false));
+    assert_eq!(filled(&S, &[1, 0, 0]), Ok(false));
+    assert_eq!(filled(&T, &[0, 0]), Ok(true));
+    assert_eq!(finished(&T, &[(0, false)]), Ok(false));
+    let leaf = |width: usize, arrows: &[&[usize]]| {
+        let place = |&cell: &usize| (cell / width, cell % width);
+        let problem = Problem {
+            cells: vec![vec![ProblemCell::Empty; width]],
+            arrows: arrows
+                .iter()
+                .map(|a| a.iter().map(place).collect())
+                .collect(),
+        };
+        Record::new(&problem).unwrap()
+    };
+    // An arrow of one cell.
+    assert_eq!(filled(leaf(1, &[&[0]]).bytes(), &[1]), Ok(false));
+    // Blocks of 1 and 2.
+    let row = leaf(5, &[&[0, 1, 2, 3]]);
+    assert_eq!(filled(row.bytes(), &[1, 0, 0, 1, 1]), Ok(true));
+    assert_eq!(finished(&S[..6], &[(3, true)]), Err(Refusal::RecordEnds));
+    assert_eq!(finished(&S, &[(3, true)]), Err(Refusal::Index));
+    assert_eq!(
+        finished(&S, &[(0, true), (4000, true)]),
+        Err(Refusal::Index)
+    );
+    assert_eq!(finished(&S, &[(0, true), (0, true)]), Err(Refusal::Decided));
+    assert_eq!(finished_bytes(&S, &[0x84, 0x03]), Err(Refusal::Decision));
+    assert_eq!(
+        finished_bytes(&S, &[0x80, 0x00, 0x00]),
+        Err(Refusal::Decision)
     );
 }
 

@@ -1,4 +1,4 @@
-//! `compare fuzz`: the linked host call on mutated input, for a run under a memory checker.
+//! `compare fuzz`: the linked calls on mutated input, for a run under a memory checker.
 //!
 //! Record, decisions and output lie in boxes of exactly their length, so that a checker sees every
 //! byte that is read or written beside them; in some calls the output has guard bytes about it in
@@ -9,10 +9,11 @@ use crate::generate::boards::{board_of_size, Decided};
 use crate::generate::hosts::{host_input, HostInput};
 use crate::generate::mutations::mutated;
 use crate::generate::puzzles::{any_size, size_up_to};
-use crate::host::{HostCall, HOST_CALL, MISSING};
+use crate::generate::small::finished_leaves;
+use crate::host::{FinishedCall, HostCall, FINISHED_CALL, HOST_CALL, MISSING};
 use crate::progress::{Outcome, Progress};
 use crate::random::Random;
-use crate::reading::host::{literal_bytes, opened_and_found};
+use crate::reading::host::{finished_call, literal_bytes, opened_and_found};
 use crate::reading::reasons::Reason;
 use crate::reading::Refusal;
 use crate::tally::Tally;
@@ -21,27 +22,38 @@ use std::time::Instant;
 /// So many calls on mutations of the same input.
 const CALLS_OF_A_BOARD: usize = 10;
 
+/// So many finished leaves, of which some calls are mutations.
+const FINISHED: usize = 50;
+
 #[derive(Default)]
 struct Counts {
     /// None, and reasons 1, 2, 3, 4 (a) and 4 (b).
     found: [usize; Tally::COLUMNS],
     /// By refusal number.
     refused: [usize; 13],
+    /// Leaves that are finished.
+    finished: usize,
 }
 
 pub fn run(seed: u64, count: usize) -> Outcome {
     let host_call = HOST_CALL.ok_or(MISSING)?;
+    let finished = FINISHED_CALL.ok_or(MISSING)?;
     let start = Instant::now();
     let mut random = Random::new(seed);
     let mut progress = Progress::new("fuzz", count);
     let mut counts = Counts::default();
+    let leaves = finished_leaves(&mut random, FINISHED);
     let mut done = 0;
     while done < count {
         progress.at(done);
-        let board = board(&mut random);
+        let board = match random.percent(5) {
+            true => leaves[random.below(leaves.len())].clone(),
+            false => board(&mut random),
+        };
         let input = host_input(&mut random, &board);
         for _ in 0..CALLS_OF_A_BOARD.min(count - done) {
             let input = mutated(&mut random, &input);
+            counts.finished += usize::from(check_finished(finished, &input)?);
             match check(&mut random, host_call, &input)? {
                 Ok(reason) => counts.found[Tally::column(reason.as_ref())] += 1,
                 Err(refusal) => counts.refused[usize::from(refusal.number())] += 1,
@@ -58,6 +70,7 @@ pub fn run(seed: u64, count: usize) -> Outcome {
         counts.found,
         &counts.refused[1..]
     );
+    println!("finished: {} leaves", counts.finished);
     Ok(())
 }
 
@@ -111,4 +124,19 @@ fn check(
         return Ok(expected);
     };
     Err(format!("{}\n{what}", host_facts(input)))
+}
+
+/// Whether the leaf of the same input is finished, if the call that tells it says as the reading.
+fn check_finished(finished: FinishedCall, input: &HostInput) -> Result<bool, String> {
+    let expected = finished_call(&input.record, &input.decisions);
+    let record: Box<[u8]> = input.record.as_slice().into();
+    let decisions: Box<[u8]> = input.decisions.as_slice().into();
+    let returned = finished(&record, &decisions);
+    if returned != expected {
+        let facts = host_facts(input);
+        return Err(format!(
+            "{facts}\nfinished: the call returns {returned} and not {expected}"
+        ));
+    }
+    Ok(returned == 1)
 }

@@ -5,6 +5,7 @@ pub mod calls;
 #[cfg(feature = "host")]
 pub mod constraint;
 pub mod finds;
+pub mod finished;
 pub mod fuzz;
 pub mod groups;
 pub mod host;

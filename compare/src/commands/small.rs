@@ -3,19 +3,18 @@
 
 use super::finds::compare;
 use crate::generate::boards::{board_of_puzzle, Decided};
-use crate::generate::puzzles::{puzzle_of_size, size_up_to};
+use crate::generate::small::{decisions, small_puzzle};
 use crate::original::AT_HAND;
 use crate::progress::{facts, repeatedly, Outcome};
 use crate::random::Random;
 use crate::reading::board::{Board, Cell};
 use crate::reading::finished::finished;
-use crate::reading::groups::block_rules_hold;
+use crate::reading::groups::{block_rules_hold, blocks};
 use crate::reading::reasons::{find_reason, Reason};
 use crate::reading::record::{Code, Puzzle};
 use crate::reading::Literal;
 use crate::tally::Tally;
-
-const MOST_CELLS: usize = 12;
+use std::collections::HashSet;
 
 /// Grids up to this size have all their boards tried, larger ones random boards.
 const ALL_BOARDS: usize = 8;
@@ -45,16 +44,6 @@ pub fn run(seed: u64, count: usize) -> Outcome {
     Ok(())
 }
 
-fn small_puzzle(random: &mut Random) -> Puzzle {
-    let longest = random.pick(&[4, 4, 4, MOST_CELLS]);
-    loop {
-        let size = size_up_to(random, longest);
-        if size.cells() <= MOST_CELLS {
-            return puzzle_of_size(random, size);
-        }
-    }
-}
-
 /// All boards of a puzzle where there are few, else some.
 fn boards(random: &mut Random, puzzle: Puzzle) -> Vec<Decided> {
     let cells = puzzle.size.cells();
@@ -69,15 +58,6 @@ fn boards(random: &mut Random, puzzle: Puzzle) -> Vec<Decided> {
     (0..RANDOM_BOARDS).map(board).collect()
 }
 
-/// The digits of a number are the cells: 0 empty, 1 square, 2 undecided.
-fn decisions(number: usize, cells: usize, base: usize) -> Vec<Literal> {
-    let digit = |cell: usize| (number / base.pow(cell as u32) % base) as u8;
-    (0..cells)
-        .map(|cell| (cell, digit(cell)))
-        .filter(|&(_, value)| value < 2)
-        .collect()
-}
-
 /// The reading's reason; where the original is at hand it has the same.
 fn find(board: &Decided) -> Result<Option<Reason>, String> {
     if AT_HAND {
@@ -88,7 +68,8 @@ fn find(board: &Decided) -> Result<Option<Reason>, String> {
 }
 
 /// For each full board, by its number, whether the block rules hold. Find says none exactly then,
-/// and it is finished exactly when black and given cells are kept too.
+/// and it is finished exactly when black and given cells are kept too, and each arrow passes two
+/// different blocks or more.
 fn every_full_board(puzzle: &Puzzle, tally: &mut Tally) -> Result<Vec<bool>, String> {
     let cells = puzzle.size.cells();
     let mut rules = Vec::new();
@@ -101,7 +82,9 @@ fn every_full_board(puzzle: &Puzzle, tally: &mut Tally) -> Result<Vec<bool>, Str
         let hold = block_rules_hold(puzzle, &after.cells());
         let reason = find(&board)?;
         tally.add(puzzle.size, reason.as_ref());
-        if hold != reason.is_none() || finished(&after) != (hold && kept(puzzle, &after.cells())) {
+        let cells = after.cells();
+        let solved = hold && kept(puzzle, &cells) && passes_two_blocks(puzzle, &cells);
+        if hold != reason.is_none() || finished(&after) != solved {
             return Err(format!(
                 "{}\nthe block rules: {hold}, finished: {}, find: {reason:?}",
                 facts(puzzle, &board.decisions),
@@ -118,6 +101,15 @@ fn kept(puzzle: &Puzzle, cells: &[Cell]) -> bool {
         Code::Plain => true,
         Code::Black => cells[cell] == Cell::Empty,
         Code::Given => cells[cell] == Cell::Square,
+    })
+}
+
+/// Each arrow passes two different blocks or more.
+fn passes_two_blocks(puzzle: &Puzzle, cells: &[Cell]) -> bool {
+    let blocks = blocks(puzzle.size, cells);
+    puzzle.arrows.iter().all(|arrow| {
+        let names: HashSet<usize> = arrow.iter().filter_map(|&i| blocks.name_of[i]).collect();
+        names.len() >= 2
     })
 }
 

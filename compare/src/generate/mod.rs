@@ -9,3 +9,4 @@ pub mod mutations;
 pub mod patterns;
 pub mod puzzles;
 pub mod records;
+pub mod small;

@@ -5,6 +5,7 @@ use crate::commands::finds::compare;
 use crate::generate::boards::{board_of_size, Decided};
 use crate::generate::long::long_reasons;
 use crate::generate::puzzles::{any_size, square};
+use crate::generate::small::finished_leaves;
 use crate::quota::boards_of_each_kind;
 use crate::random::Random;
 use crate::reading::board::Board;
@@ -15,7 +16,7 @@ use crate::tally::Tally;
 use std::ops::RangeInclusive;
 
 const FORMAT: [&str; 6] = [
-    "Finished is document 01's, by the literal reading.",
+    "Finished is document 02's, by the literal reading.",
     "u16 rounds: how often find is called on each board before its answer is compared.",
     "Entries to the end of the file: u16 record length, the record, u16 number of decisions,",
     "  that many u16 decisions, then u16 count (0 for none) and that many u16 literals, and a",
@@ -30,6 +31,9 @@ const QUOTAS: [(RangeInclusive<usize>, [usize; Tally::COLUMNS]); 3] = [
     (400..=1_024, [7; Tally::COLUMNS]),
 ];
 
+/// So many finished leaves beside them.
+const FINISHED: usize = 100;
+
 pub fn finds(seed: u64) -> Result<List, String> {
     let mut random = Random::new(seed);
     let mut boards = Vec::new();
@@ -40,6 +44,10 @@ pub fn finds(seed: u64) -> Result<List, String> {
     for (cells, wanted) in QUOTAS {
         let next = || board_with_cells(&mut random, &cells);
         boards.extend(boards_of_each_kind(wanted, next)?);
+    }
+    for board in finished_leaves(&mut random, FINISHED) {
+        let reason = compare(&board)?;
+        boards.push((board, reason));
     }
     let mut tally = Tally::default();
     for (board, reason) in &boards {

@@ -1,10 +1,11 @@
-//! "Finished".
+//! "Finished", with document 02 §1: two squares or more on every arrow.
 
 use super::board::{Board, Cell};
 use super::groups::block_rules_hold;
 use super::record::Code;
 
-/// Every cell is decided, black cells are empty, given squares are square, the block rules hold.
+/// Every cell is decided, black cells are empty, given squares are square, the block rules hold, and
+/// two squares or more stand on every arrow.
 pub fn finished(board: &Board) -> bool {
     let puzzle = board.puzzle();
     let cells = board.cells();
@@ -13,7 +14,12 @@ pub fn finished(board: &Board) -> bool {
         Code::Black => cell == Cell::Empty,
         Code::Given => cell == Cell::Square,
     };
+    let two_squares = |arrow: &Vec<usize>| {
+        let squares = arrow.iter().filter(|&&cell| cells[cell] == Cell::Square);
+        squares.count() >= 2
+    };
     !cells.contains(&Cell::Undecided)
         && puzzle.codes.iter().zip(&cells).all(kept)
         && block_rules_hold(puzzle, &cells)
+        && puzzle.arrows.iter().all(two_squares)
 }

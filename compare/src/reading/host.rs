@@ -1,6 +1,7 @@
-//! The host call: a record, decisions and an output as bytes, a number back.
+//! The exported calls: a record, decisions and, for find, an output as bytes, a number back.
 
 use super::board::Board;
+use super::finished::finished;
 use super::reasons::{find, most_literals, Reason};
 use super::{Literal, Refusal};
 
@@ -36,6 +37,28 @@ pub fn opened_and_found(
     if output_length < 2 * most_literals(board.puzzle().size) {
         return Err(Refusal::OutputShort);
     }
+    decide_all(&mut board, decisions)?;
+    find(&board, output_length / 2)
+}
+
+/// 1 for a finished leaf, 0 for another, or the negated refusal number (document 02 §1).
+pub fn finished_call(record: &[u8], decisions: &[u8]) -> i32 {
+    match opened_and_judged(record, decisions) {
+        Err(refusal) => -i32::from(refusal.number()),
+        Ok(yes) => i32::from(yes),
+    }
+}
+
+/// Opens, decides in order and tells whether the leaf is finished.
+/// Refusals: 1 to 5, then per decision 12, 7, 9, the odd byte last.
+pub fn opened_and_judged(record: &[u8], decisions: &[u8]) -> Result<bool, Refusal> {
+    let mut board = Board::open(record)?;
+    decide_all(&mut board, decisions)?;
+    Ok(finished(&board))
+}
+
+/// Per decision 12, 7, 9, the odd byte last.
+fn decide_all(board: &mut Board, decisions: &[u8]) -> Result<(), Refusal> {
     let whole = decisions.chunks_exact(2);
     let odd_byte = !whole.remainder().is_empty();
     for decision in whole {
@@ -45,7 +68,7 @@ pub fn opened_and_found(
     if odd_byte {
         return Err(Refusal::Decision);
     }
-    find(&board, output_length / 2)
+    Ok(())
 }
 
 /// Most significant first: value (1 bit), five zero bits, index (10).

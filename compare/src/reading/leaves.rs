@@ -1,9 +1,10 @@
-//! "Leaves to check", the program's example, and the boards that tell two tempting faults.
+//! "Leaves to check", the program's example, the boards that tell two tempting faults, and the
+//! leaves that document 02 names.
 
 use super::board::{Board, Cell};
 use super::finished::finished;
 use super::groups::block_rules_hold;
-use super::host::host_call;
+use super::host::{finished_call, host_call};
 use super::program::reason;
 use super::reasons::{find, find_reason};
 use super::record::{decode, encode, plain, Code};
@@ -94,22 +95,67 @@ fn four_waits_for_three() {
     assert_eq!(found(&record, &decisions), Some(reason));
 }
 
+/// The decisions that fill a board with these values, cell by cell.
+fn filling(values: &[u8]) -> Vec<Literal> {
+    values.iter().copied().enumerate().collect()
+}
+
 #[test]
 fn finished_boards() {
-    assert!(finished(&board(&S, &[(0, 0), (1, 0), (2, 0)])));
-    assert!(!finished(&board(&S, &[(0, 0), (1, 0)])));
     let mut puzzle = plain(2, 3, vec![vec![0, 1, 2]]);
     puzzle.codes[3] = Code::Black;
     puzzle.codes[5] = Code::Given;
-    let values = [1, 0, 1, 0, 0, 1];
-    let decisions: Vec<Literal> = values.into_iter().enumerate().collect();
+    let decisions = filling(&[1, 0, 1, 0, 0, 1]);
     let solved = board(&encode(&puzzle), &decisions);
     assert!(finished(&solved));
     assert_eq!(find_reason(&puzzle, &solved.cells()), None);
+    assert!(!finished(&board(&encode(&puzzle), &decisions[..5])));
     puzzle.codes[0] = Code::Black;
     let black_square = board(&encode(&puzzle), &decisions);
     assert!(!finished(&black_square));
     assert!(block_rules_hold(&puzzle, &black_square.cells()));
+}
+
+/// Document 02 §1.
+#[test]
+fn one_lonely_block() {
+    for values in [[0, 0, 0], [1, 0, 0]] {
+        let lonely = board(&S, &filling(&values));
+        assert!(!finished(&lonely));
+        assert!(block_rules_hold(lonely.puzzle(), &lonely.cells()));
+    }
+    assert!(finished(&board(&T, &filling(&[0, 0]))));
+    assert!(!finished(&board(&T, &filling(&[0, 1]))));
+    // An arrow of one cell.
+    let short = encode(&plain(1, 1, vec![vec![0]]));
+    assert!(!finished(&board(&short, &filling(&[0]))));
+    assert!(!finished(&board(&short, &filling(&[1]))));
+    // Blocks of 1 and 2.
+    let row = encode(&plain(1, 5, vec![vec![0, 1, 2, 3]]));
+    assert!(finished(&board(&row, &filling(&[1, 0, 0, 1, 1]))));
+    // A second arrow that passes one block.
+    let two = encode(&plain(2, 5, vec![vec![0, 1, 2, 3], vec![5, 6]]));
+    assert!(!finished(&board(
+        &two,
+        &filling(&[1, 0, 0, 1, 1, 0, 0, 0, 0, 0])
+    )));
+    // A square is given where no arrow leads.
+    let mut given = plain(1, 2, vec![]);
+    given.codes[1] = Code::Given;
+    assert!(!finished(&board(&encode(&given), &filling(&[0, 0]))));
+    assert!(!finished(&board(&encode(&given), &filling(&[0, 1]))));
+}
+
+#[test]
+fn finished_refusals_in_order() {
+    assert_eq!(finished_call(&S, &[0x00, 0x00, 0x00, 0x01, 0x00, 0x02]), 0);
+    assert_eq!(finished_call(&T, &[0x00, 0x00, 0x00, 0x01]), 1);
+    assert_eq!(finished_call(&T, &[0x00, 0x00]), 0);
+    assert_eq!(finished_call(&S[..6], &[0x04]), -1);
+    assert_eq!(finished_call(&S, &[0x84, 0x03]), -12);
+    assert_eq!(finished_call(&S, &[0x80, 0x03, 0x04, 0x00]), -7);
+    assert_eq!(finished_call(&S, &[0x80, 0x00, 0x00, 0x00, 0x00]), -9);
+    assert_eq!(finished_call(&S, &[0x80, 0x00, 0x00]), -12);
 }
 
 #[test]

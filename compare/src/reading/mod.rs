@@ -1,6 +1,7 @@
-//! A literal reading of document 01, one module for each of its sections and in their order.
+//! A literal reading of document 01, one module for each of its sections and in their order, and of
+//! the requests of document 02.
 //!
-//! It is written from the document, not from the original, and for the reader: where the document
+//! It is written from the documents, not from the original, and for the reader: where the document
 //! says "each" there is a loop, and nothing is clever.
 
 pub mod board;

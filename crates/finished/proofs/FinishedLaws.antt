@@ -4,19 +4,24 @@ use Prim.Native.Nat.{ℕ, _≤_, _<_}
 use native.Mathlib.Omega.{arith}
 use native.Mathlib.Decide.{ℕ-discrete}
 use mathlib.Core.Logic.{_↔_}
-use mathlib.Core.Path.{_≡_}
-use mathlib.Core.Bool.{Bool, true, So, cond}
-use mathlib.Core.List.{List, List·Memᴰ}
+use mathlib.Core.Path.{_≡_, refl, sym, _∙_}
+use mathlib.Core.Bool.{Bool, true, So, cond, _&&_}
+use mathlib.Core.List.{List, [], _∷_, List·Memᴰ, List·Memᴰ·head, List·Memᴰ·tail, List·Memᴰ·not-nil}
 use lib.Dec.{eqb, ltb}
 use lib.ListN.{length, getD}
-use borrow.Author.Tests.{eqb-true, eq-eqb, ne-eqb, ltb-true, lt-ltb}
-use Rattle.grid.specs.Lists.{upto, all}
+use borrow.Author.Tests.{eqb-true, eq-eqb, ne-eqb, leb-true, le-leb, ltb-true, lt-ltb}
+use Rattle.grid.specs.Lists.{upto, all, filter, Distinct}
 use Rattle.grid.specs.Grid.{size}
-use Rattle.grid.proofs.ListLaws.{and-true, true-and, all-mem, mem-all, upto-mem, mem-upto}
+use Rattle.grid.specs.Cells.{square}
+use Rattle.grid.proofs.ListLaws.{and-true, true-and, all-mem, mem-all, upto-mem, mem-upto, filter-mem, mem-filter, distinct-filter}
 use Rattle.record.specs.Record.{Puzzle}
+use Rattle.record.specs.Valid.{Valid}
+use Rattle.record.proofs.FreshLaws.{arrow-distinct}
 use Rattle.groups.specs.Rules.{rulesTest}
 use Rattle.groups.proofs.RulesLaws.{rules-test, test-rules}
-use Rattle.finished.specs.Finished.{Finished, keeps, keepsAll, finishedTest}
+use Rattle.finished.specs.Finished.{Finished, TwoSquares, keeps, keepsAll, twoSquares, allButRules, finishedTest}
+
+-- ---- one cell
 
 -- what the test says of one cell with the code c and the state v
 pub record Kept (c v : ℕ) : Type 0 where
@@ -49,32 +54,69 @@ module _ (c v : ℕ) where
       go (no n) (yes e) = rw (ne-eqb c 1 n, eq-eqb c 2 e) (eq-eqb v 1 (k .given e))
       go (no n) (no m) = rw (ne-eqb c 1 n, ne-eqb c 2 m) (lt-ltb v 2 (omega (arith, k .decided)))
 
--- of the cells of a board, one state for each cell of the grid
-module _ (p : Puzzle) (cells : List ℕ) (long : length cells ≡ size (p .grid)) where
+-- ---- one arrow
+
+two-of : (l : List ℕ) → Distinct l → 2 ≤ length l → (x : ℕ) × (y : ℕ) × List·Memᴰ x l × List·Memᴰ y l × (¬ (x ≡ y))
+two-of [] d h = absurd (omega arith)
+two-of (x ∷ []) d h = absurd (omega arith)
+two-of (x ∷ y ∷ l) d h = (x, y, List·Memᴰ·head refl, List·Memᴰ·tail (List·Memᴰ·head refl), λ e. d .0 (List·Memᴰ·head e))
+
+of-two : (l : List ℕ) {x y : ℕ} → List·Memᴰ x l → List·Memᴰ y l → ¬ (x ≡ y) → 2 ≤ length l
+of-two [] m k n = absurd (List·Memᴰ·not-nil m)
+of-two (z ∷ []) (List·Memᴰ·head e) (List·Memᴰ·head d) n = absurd (n (e ∙ sym d))
+of-two (z ∷ []) (List·Memᴰ·head e) (List·Memᴰ·tail k) n = absurd (List·Memᴰ·not-nil k)
+of-two (z ∷ []) (List·Memᴰ·tail m) k n = absurd (List·Memᴰ·not-nil m)
+of-two (z ∷ w ∷ l) m k n = omega arith
+
+module _ (cells a : List ℕ) where
+  -- of an arrow that has no cell twice
+  pub test-two : Distinct a → So (twoSquares cells a) → TwoSquares cells a
+  unfolding twoSquares
+  test-two d t =
+      let s = filter (square cells) a in
+      let r = two-of s (distinct-filter (square cells) a d) (leb-true 2 (length s) t) in
+      let x = filter-mem (square cells) a (r .2) in
+      let y = filter-mem (square cells) a (r .3) in
+      record { first = r .0; second = r .1; on = (x .0, y .0); squares = (x .1, y .1); apart = r .4 }
+
+  pub two-test : TwoSquares cells a → So (twoSquares cells a)
+  unfolding twoSquares
+  two-test w =
+      le-leb 2 (length (filter (square cells) a))
+      (of-two (filter (square cells) a) (mem-filter (square cells) a (w .on .0) (w .squares .0)) (mem-filter (square cells) a (w .on .1) (w .squares .1)) (w .apart))
+
+-- ---- the board
+
+-- of the cells of an accepted record's board, one state for each cell of the grid
+module _ (p : Puzzle) (v : Valid p) (cells : List ℕ) (long : length cells ≡ size (p .grid)) where
   at : ℕ → Bool
   at i = keeps (getD (p .given) i 0) (getD cells i 0)
 
   test-finished : finishedTest p cells ≡ true → Finished p cells
-  unfolding finishedTest keepsAll at
+  unfolding finishedTest allButRules keepsAll at
   test-finished t =
-      let s = and-true (all at (upto (size (p .grid)))) (rulesTest p cells) t in
+      let s = and-true (all at (upto (size (p .grid))) && all (twoSquares cells) (p .arrows)) (rulesTest p cells) t in
+      let r = and-true (all at (upto (size (p .grid)))) (all (twoSquares cells) (p .arrows)) (s .0) in
       let k : (i : ℕ) → i < size (p .grid) → Kept (getD (p .given) i 0) (getD cells i 0) =
-      λ i h. kept (getD (p .given) i 0) (getD cells i 0) (all-mem at (upto (size (p .grid))) (s .0) i (mem-upto (size (p .grid)) h)) in
+      λ i h. kept (getD (p .given) i 0) (getD cells i 0) (all-mem at (upto (size (p .grid))) (r .0) i (mem-upto (size (p .grid)) h)) in
       record {
         decided = record { long = long; each = λ i h. k i h .decided };
-        black = λ i h. k i h .black;
-        given = λ i h. k i h .given;
+        kept = record { black = λ i h. k i h .black; given = λ i h. k i h .given };
         rules = test-rules p cells long (s .1);
+        two = λ a m. test-two cells a (arrow-distinct (v .arrows) a m) (all-mem (twoSquares cells) (p .arrows) (r .1) a m);
       }
 
   finished-test : Finished p cells → finishedTest p cells ≡ true
-  unfolding finishedTest keepsAll at
-  finished-test f = true-and (mem-all at (upto (size (p .grid))) each) (rules-test p cells long (f .rules))
+  unfolding finishedTest allButRules keepsAll at
+  finished-test f =
+      true-and
+      (true-and (mem-all at (upto (size (p .grid))) each) (mem-all (twoSquares cells) (p .arrows) (λ a m. two-test cells a (f .two a m))))
+      (rules-test p cells long (f .rules))
     where
       each : (i : ℕ) → List·Memᴰ i (upto (size (p .grid))) → So (keeps (getD (p .given) i 0) (getD cells i 0))
       each i m =
           let h = upto-mem (size (p .grid)) m in
-          keep (getD (p .given) i 0) (getD cells i 0) (record { decided = f .decided .each i h; black = f .black i h; given = f .given i h })
+          keep (getD (p .given) i 0) (getD cells i 0) (record { decided = f .decided .each i h; black = f .kept .black i h; given = f .kept .given i h })
 
   -- the test passes exactly where the board is finished
   pub finished-means : (finishedTest p cells ≡ true) ↔ Finished p cells

@@ -1,2 +1,4 @@
+pub mod ArrowSquares
 pub mod FinishedLaws
+pub mod TwoBlocks
 pub mod VerdictLaws

@@ -1,153 +1,174 @@
--- On a well-formed board: what `finished` answers follows from the codes kept and from what find gives.
+-- On the arrays of an accepted record and the states of its cells: whether the board is finished follows from its codes, its arrows and the first reason.
 -- Assumes nothing.
-use Prim.Native.Nat.{ℕ, _+_, _*_, _≤_, _<_}
+use Prim.Native.Nat.{ℕ, _*_, _≤_, _<_}
 use native.Mathlib.Omega.{arith}
 use native.Mathlib.Decide.{decLt}
 use mathlib.Core.Path.{_≡_, refl, sym, _∙_}
-use mathlib.Core.Bool.{Bool, true, false}
+use mathlib.Core.Bool.{Bool, true, false, _&&_}
 use mathlib.Core.Logic.{_↔_}
-use mathlib.Core.List.{List}
+use mathlib.Core.List.{List, [], _∷_, List·Memᴰ, List·Memᴰ·head, List·Memᴰ·tail}
 use mathlib.Core.Option.{none, some}
 use lib.ListN.{length, getD, take, List·getD-eq-default}
 use lib.Seq.{getD-take, length-take-le}
-use borrow.Author.Tests.{eqb-true, le-ltb}
-use Rattle.grid.specs.Lists.{upto}
+use borrow.Author.Tests.{eqb-true}
+use Rattle.grid.specs.Lists.{upto, all, filter}
 use Rattle.grid.specs.Grid.{size}
-use Rattle.grid.proofs.ListLaws.{all-mem, mem-upto, upto-mem, so-false}
-use Rattle.grid.proofs.AppendLaws.{all-agree}
+use Rattle.grid.specs.Side.{sized}
+use Rattle.grid.specs.Cells.{square, undecided}
+use Rattle.grid.proofs.ListLaws.{and-true, all-mem, mem-upto, upto-mem, so-false}
+use Rattle.grid.proofs.AppendLaws.{all-agree, filter-agree}
+use Rattle.grid.proofs.CellLaws.{square-taken}
+use Rattle.grid.proofs.GridLaws.{size-most}
 use Rattle.record.specs.Problem.{puzzleOf, gridOf}
+use Rattle.record.specs.declared.Problem.{Problem}
 use Rattle.record.proofs.LineLaws.{valid-arrows}
-use Rattle.form.proofs.ProblemForm.{formed-valid}
-use Rattle.grid.specs.Cells.{Literal, undecided}
-use Rattle.board.specs.Board.{enough}
+use Rattle.form.proofs.ProblemForm.{Formed, formed-valid}
 use Rattle.board.specs.Form.{wellFormed}
 use Rattle.board.specs.declared.Board.{Board}
-use Rattle.board.proofs.BoardForm.{whole-is, whole-most}
+use Rattle.board.proofs.BoardForm.{whole-is}
+use Rattle.groups.specs.Arrays.{linesOf}
 use Rattle.groups.specs.Rules.{BlockRules, rulesTest}
 use Rattle.groups.proofs.RulesLaws.{rules-test, test-rules}
+use Rattle.kinds.specs.Inside.{puzzleWith}
 use Rattle.kinds.specs.Meaning.{Setting}
 use Rattle.literals.specs.Literals.{Found}
-use Rattle.reasons.specs.Find.{cellsOn, reasonOn, findRefusal, findOf}
 use Rattle.literals.specs.Buffer.{findingBy}
-use Rattle.literals.specs.declared.Finding.the-variants.{Nothing, Reason, Refused}
+use Rattle.literals.specs.Inside.{FoundAs}
+use Rattle.literals.specs.declared.Finding.the-variants.{Nothing, Reason}
+use Rattle.reasons.specs.Reasons.{findReason}
+use Rattle.reasons.specs.Find.{cellsOn}
+use Rattle.reasons.proofs.BoardArrays.{problem-arrays, codes-aside}
 use Rattle.reasons.proofs.Sound.{complete}
-use Rattle.finished.specs.Finished.{Finished, keeps, keepsAll, finishedTest}
+use Rattle.finished.specs.Finished.{Finished, keeps, keepsAll, twoSquares, allButRules, finishedTest}
 use Rattle.finished.specs.Verdicts.{verdict, finishedOf}
 use Rattle.finished.specs.declared.Verdict.the-variants as verdicts
 use Rattle.finished.proofs.FinishedLaws.{kept, finished-means}
+
+module _ (q : Problem) (f : Formed q) where
+  -- the grid has few cells
+  pub few : q .height * q .width ≤ 1024
+  unfolding size gridOf
+  few = size-most (gridOf q) (f .sizes .high .0) (f .sizes .high .1)
+
+  module _ (states : List ℕ) (room : length states ≡ 1024) where
+    -- the states of the cells of the grid
+    abbrev cells : List ℕ
+    cells = take (q .height * q .width) states
+
+    long : length cells ≡ size (puzzleOf q .grid)
+    unfolding size gridOf puzzleOf
+    long = length-take-le (q .height * q .width) states (omega (arith, few))
+
+    -- the arrays keep the codes and the states of the board's cells
+    kept-same : keepsAll (q .height * q .width) (q .cells) states ≡ keepsAll (size (puzzleOf q .grid)) (puzzleOf q .given) cells
+    unfolding keepsAll puzzleOf gridOf size
+    kept-same =
+        all-agree
+        (λ i. keeps (getD (q .cells) i 0) (getD states i 0))
+        (λ i. keeps (getD (take (q .height * q .width) (q .cells)) i 0) (getD cells i 0))
+        (upto (q .height * q .width))
+        (λ i m. let l = upto-mem (q .height * q .width) m in
+        rw (getD-take (q .height * q .width) (q .cells) i 0 l, getD-take (q .height * q .width) states i 0 l) refl)
+
+    -- and the squares of its arrows
+    two-same : (l : List (List ℕ)) → ((a : List ℕ) → List·Memᴰ a l → (i : ℕ) → List·Memᴰ i a → i < q .height * q .width) → all (twoSquares states) l ≡ all (twoSquares cells) l
+    unfolding all twoSquares
+    two-same [] h = refl
+    two-same (a ∷ l) h =
+        let e : filter (square states) a ≡ filter (square cells) a =
+        filter-agree (square states) (square cells) a (λ i m. sym (square-taken states (q .height * q .width) i (h a (List·Memᴰ·head refl) i m))) in
+        rw (e, two-same l (λ b m. h b (List·Memᴰ·tail m))) refl
+
+    -- all but the block rules, by the arrays
+    abbrev onArrays : Bool
+    onArrays = keepsAll (q .height * q .width) (q .cells) states && all (twoSquares states) (linesOf (q .arrows) (q .ends) (q .count))
+
+    but-rules : onArrays ≡ allButRules (puzzleOf q) cells
+    unfolding allButRules puzzleOf
+    but-rules = rw (kept-same, two-same (linesOf (q .arrows) (q .ends) (q .count)) (problem-arrays q f .drawn .inside)) refl
+
+    -- something else than the block rules fails
+    pub fails-before : onArrays ≡ false → false ≡ finishedTest (puzzleOf q) cells
+    unfolding finishedTest
+    fails-before k = rw (sym but-rules ∙ k) refl
+
+    -- all but the block rules holds
+    module _ (k : onArrays ≡ true) where
+      each : (i : ℕ) → getD cells i 0 ≤ 1
+      each i = go (decLt i (size (puzzleOf q .grid)))
+        where
+          all-kept : keepsAll (size (puzzleOf q .grid)) (puzzleOf q .given) cells ≡ true
+          all-kept = sym kept-same ∙ and-true (keepsAll (q .height * q .width) (q .cells) states) (all (twoSquares states) (linesOf (q .arrows) (q .ends) (q .count))) k .0
+
+          go : Dec (i < size (puzzleOf q .grid)) → getD cells i 0 ≤ 1
+          go (yes l) =
+              kept (getD (puzzleOf q .given) i 0) (getD cells i 0)
+              (all-mem (λ j. keeps (getD (puzzleOf q .given) j 0) (getD cells j 0)) (upto (size (puzzleOf q .grid))) (unfold keepsAll in all-kept) i (mem-upto (size (puzzleOf q .grid)) l)) .decided
+          go (no l) = rw (List·getD-eq-default cells 0 {n = i} (omega (arith, long))) (omega arith)
+
+      setting : Setting
+      setting = record {
+        puzzle = puzzleOf q;
+        lines = valid-arrows (puzzleOf q) (formed-valid q f);
+        cells = cells;
+        valid = record { long = long; three = λ i. omega (arith, each i) };
+      }
+
+      -- there is no reason exactly when the block rules hold
+      rules : (findReason (puzzleOf q) cells ≡ none) ↔ BlockRules (puzzleOf q) cells
+      unfolding undecided setting
+      rules = complete setting (λ c u. omega (arith, eqb-true (getD cells c 0) 2 u, each c))
+
+      -- the verdict is that of the block rules
+      by-rules : (t : Bool) → rulesTest (puzzleOf q) cells ≡ t → t ≡ finishedTest (puzzleOf q) cells
+      unfolding finishedTest
+      by-rules t r = rw (sym but-rules ∙ k, r) refl
+
+      by-reason : (r : Found) → findReason (puzzleOf q) cells ≡ r → (findingBy 0 r ≡ Nothing → true ≡ finishedTest (puzzleOf q) cells) × ((m : ℕ) → findingBy 0 r ≡ Reason m → false ≡ finishedTest (puzzleOf q) cells)
+      unfolding findingBy
+      by-reason none e = (
+        λ _. by-rules true (rules-test (puzzleOf q) cells long (rules .0 e)),
+        λ m x. let z : _≡_ {A = ℕ} 0 1 = cc in absurd (omega arith),
+      )
+      by-reason (some r) e = (
+        λ x. let z : _≡_ {A = ℕ} 0 1 = cc in absurd (omega arith),
+        λ m _. by-rules false (so-false (rulesTest (puzzleOf q) cells) (λ t. clash (rules .1 (test-rules (puzzleOf q) cells long t)))),
+      )
+        where
+          clash : findReason (puzzleOf q) cells ≡ none → ⊥
+          clash n = let z : _≡_ {A = ℕ} 0 1 = cc in omega arith
+
+      -- the reason is looked for by the grid and the arrows alone
+      same : findReason (puzzleWith (sized (q .height) (q .width)) (linesOf (q .arrows) (q .ends) (q .count))) cells ≡ findReason (puzzleOf q) cells
+      unfolding puzzleOf gridOf
+      same = codes-aside (puzzleOf q) cells
+
+      -- what the search for it on the arrays tells
+      pub no-reason : {before after : List ℕ} → FoundAs (findReason (puzzleWith (sized (q .height) (q .width)) (linesOf (q .arrows) (q .ends) (q .count))) cells) before after Nothing
+          → true ≡ finishedTest (puzzleOf q) cells
+      no-reason x = by-reason (findReason (puzzleOf q) cells) refl .0 (rw same at (sym (x .answer)))
+
+      pub some-reason : {before after : List ℕ} {m : ℕ} → FoundAs (findReason (puzzleWith (sized (q .height) (q .width)) (linesOf (q .arrows) (q .ends) (q .count))) cells) before after (Reason m)
+          → false ≡ finishedTest (puzzleOf q) cells
+      some-reason {m} x = by-reason (findReason (puzzleOf q) cells) refl .1 m (rw same at (sym (x .answer)))
+
+-- ---- of a board
 
 -- 6
 pub finished-ill : (b : Board) → wellFormed b ≡ false → verdicts.Refused 6 ≡ finishedOf b
 unfolding finishedOf
 finished-ill b h = rw h refl
 
-module _ (b : Board) (h : wellFormed b ≡ true) where
-  few : size (gridOf (b .problem)) ≤ 1024
-  few = whole-most b (whole-is b h)
+-- what its arrays say
+pub finished-by : (b : Board) → wellFormed b ≡ true → (t : Bool) → t ≡ finishedTest (puzzleOf (b .problem)) (take (b .problem .height * b .problem .width) (b .cells)) → verdict t ≡ finishedOf b
+unfolding finishedOf cellsOn gridOf size
+finished-by b h t e = rw (h, ← e) refl
 
-  -- the arrays keep the codes and the states of the board's cells
-  kept-same : keepsAll (size (gridOf (b .problem))) (b .problem .cells) (b .cells) ≡ keepsAll (size (gridOf (b .problem))) (puzzleOf (b .problem) .given) (cellsOn b)
-  unfolding keepsAll puzzleOf cellsOn
-  kept-same =
-      all-agree
-      (λ i. keeps (getD (b .problem .cells) i 0) (getD (b .cells) i 0))
-      (λ i. keeps (getD (take (size (gridOf (b .problem))) (b .problem .cells)) i 0) (getD (take (size (gridOf (b .problem))) (b .cells)) i 0))
-      (upto (size (gridOf (b .problem))))
-      (λ i m. let l = upto-mem (size (gridOf (b .problem))) m in
-      rw (getD-take (size (gridOf (b .problem))) (b .problem .cells) i 0 l, getD-take (size (gridOf (b .problem))) (b .cells) i 0 l) refl)
-
-  long : length (cellsOn b) ≡ size (gridOf (b .problem))
-  unfolding cellsOn
-  long = length-take-le (size (gridOf (b .problem))) (b .cells) (omega (arith, whole-is b h .cells-long, few))
-
-  -- a cell that does not keep what is given
-  pub finished-open : keepsAll (size (gridOf (b .problem))) (b .problem .cells) (b .cells) ≡ false → verdicts.No ≡ finishedOf b
-  unfolding finishedOf finishedTest verdict
-  finished-open k =
-      let e : keepsAll (size (puzzleOf (b .problem) .grid)) (puzzleOf (b .problem) .given) (cellsOn b) ≡ false = unfold puzzleOf in sym kept-same ∙ k in
-      rw (h, e) refl
-
-  -- every cell keeps what is given
-  module _ (k : keepsAll (size (gridOf (b .problem))) (b .problem .cells) (b .cells) ≡ true) where
-    each : (i : ℕ) → getD (cellsOn b) i 0 ≤ 1
-    each i = go (decLt i (size (gridOf (b .problem))))
-      where
-        go : Dec (i < size (gridOf (b .problem))) → getD (cellsOn b) i 0 ≤ 1
-        go (yes l) =
-            kept (getD (puzzleOf (b .problem) .given) i 0) (getD (cellsOn b) i 0)
-            (all-mem (λ j. keeps (getD (puzzleOf (b .problem) .given) j 0) (getD (cellsOn b) j 0)) (upto (size (gridOf (b .problem)))) (unfold keepsAll in sym kept-same ∙ k) i (mem-upto (size (gridOf (b .problem))) l)) .decided
-        go (no l) = rw (List·getD-eq-default (cellsOn b) 0 {n = i} (omega (arith, long))) (omega arith)
-
-    setting : Setting
-    setting = record {
-      puzzle = puzzleOf (b .problem);
-      lines = valid-arrows (puzzleOf (b .problem)) (formed-valid (b .problem) (whole-is b h .problem));
-      cells = cellsOn b;
-      valid = record { long = unfold puzzleOf in long; three = λ i. omega (arith, each i) };
-    }
-
-    -- find gives none exactly when the block rules hold
-    rules : (reasonOn b ≡ none) ↔ BlockRules (puzzleOf (b .problem)) (cellsOn b)
-    unfolding reasonOn undecided setting
-    rules = complete setting (λ c u. omega (arith, eqb-true (getD (cellsOn b) c 0) 2 u, each c))
-
-    -- every given cell is kept, so the verdict is that of the block rules
-    by-rules : (t : Bool) → rulesTest (puzzleOf (b .problem)) (cellsOn b) ≡ t → verdict t ≡ finishedOf b
-    unfolding finishedOf finishedTest
-    by-rules t r =
-        let e : keepsAll (size (puzzleOf (b .problem) .grid)) (puzzleOf (b .problem) .given) (cellsOn b) ≡ true = unfold puzzleOf in sym kept-same ∙ k in
-        rw (h, e, r) refl
-
-    pub finished-none : reasonOn b ≡ none → verdicts.Yes ≡ finishedOf b
-    unfolding verdict
-    finished-none e = by-rules true (rules-test (puzzleOf (b .problem)) (cellsOn b) (unfold puzzleOf in long) (rules .0 e))
-
-    pub finished-some : {r : List Literal} → reasonOn b ≡ some r → verdicts.No ≡ finishedOf b
-    unfolding verdict
-    finished-some {r} e =
-        by-rules false
-        (so-false (rulesTest (puzzleOf (b .problem)) (cellsOn b))
-        (λ t. clash (rules .1 (test-rules (puzzleOf (b .problem)) (cellsOn b) (unfold puzzleOf in long) t))))
-      where
-        clash : reasonOn b ≡ none → ⊥
-        clash q = let z : _≡_ {A = ℕ} 0 1 = cc in omega arith
-
-    -- so it is with what find answers, lent a buffer of 3,073 literals
-    module _ (buffer : List ℕ) (room : length buffer ≡ 3073) where
-      answer : findOf b buffer ≡ findingBy 0 (reasonOn b)
-      unfolding findOf findRefusal enough
-      answer = rw (h, le-ltb (length buffer) (3 * size (gridOf (b .problem)) + 1) (omega (arith, few))) refl
-
-      pub finished-yes : findOf b buffer ≡ Nothing → verdicts.Yes ≡ finishedOf b
-      unfolding findingBy
-      finished-yes e = go (reasonOn b) refl (sym answer ∙ e)
-        where
-          go : (f : Found) → reasonOn b ≡ f → findingBy 0 f ≡ Nothing → verdicts.Yes ≡ finishedOf b
-          go none q x = finished-none q
-          go (some r) q x = let z : _≡_ {A = ℕ} 0 1 = cc in absurd (omega arith)
-
-      pub finished-no : {k : ℕ} → findOf b buffer ≡ Reason k → verdicts.No ≡ finishedOf b
-      unfolding findingBy
-      finished-no {k} e = go (reasonOn b) refl (sym answer ∙ e)
-        where
-          go : (f : Found) → reasonOn b ≡ f → findingBy 0 f ≡ Reason k → verdicts.No ≡ finishedOf b
-          go none q x = let z : _≡_ {A = ℕ} 0 1 = cc in absurd (omega arith)
-          go (some r) q x = finished-some q
-
-      pub not-refused : {k : ℕ} → findOf b buffer ≡ Refused k → ⊥
-      unfolding findingBy
-      not-refused {k} e = go (reasonOn b) (sym answer ∙ e)
-        where
-          go : (f : Found) → findingBy 0 f ≡ Refused k → ⊥
-          go none x = let z : _≡_ {A = ℕ} 0 1 = cc in omega arith
-          go (some r) x = let z : _≡_ {A = ℕ} 0 1 = cc in omega arith
-
--- `finished` says yes of a well-formed board exactly when its cells are all decided, black cells are empty, given squares are square and the
--- block rules hold
+-- `finished` says yes of a well-formed board exactly when it is finished
 pub finished-exact : (b : Board) → wellFormed b ≡ true → (finishedOf b ≡ verdicts.Yes) ↔ Finished (puzzleOf (b .problem)) (cellsOn b)
 unfolding finishedOf
 finished-exact b h =
-    let m = finished-means (puzzleOf (b .problem)) (cellsOn b) (unfold puzzleOf in long b h) in
+    let m = finished-means (puzzleOf (b .problem)) (formed-valid (b .problem) (whole-is b h .problem)) (cellsOn b) (unfold cellsOn gridOf size in long (b .problem) (whole-is b h .problem) (b .cells) (whole-is b h .cells-long)) in
     (λ e. m .0 (yes-passes (finishedTest (puzzleOf (b .problem)) (cellsOn b)) (rw h at e)), λ f. rw (h, m .1 f) (unfold verdict in refl))
   where
     yes-passes : (t : Bool) → verdict t ≡ verdicts.Yes → t ≡ true

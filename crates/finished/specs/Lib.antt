@@ -1,2 +1,3 @@
 pub mod Finished
+pub mod Inside
 pub mod Verdicts

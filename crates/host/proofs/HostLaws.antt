@@ -67,7 +67,7 @@ module _ (p : Puzzle) (v : Valid p) (b₀ : Board) where
           (placedFrom (boardOf p (after (p .grid) (decide i x) ds)) rest) (next (after (p .grid) (decide i x) ds) (after-standing (p .grid) (decide i x) s)))
 
 -- the decisions that are accepted stand
-bytes-standing : (g : Grid) (bytes : List ℕ) {ds es : List Literal} → Standing g ds → decideBytes g ds bytes ≡ ok es → Standing g es
+pub bytes-standing : (g : Grid) (bytes : List ℕ) {ds es : List Literal} → Standing g ds → decideBytes g ds bytes ≡ ok es → Standing g es
 unfolding decideBytes acceptOr
 bytes-standing g [] {ds} {es} s e = let q : ds ≡ es = cc in rw (← q) s
 bytes-standing g (a ∷ []) s e = let z : _≡_ {A = ℕ} 0 1 = cc in absurd (omega arith)

@@ -1,7 +1,8 @@
--- The leaves of document 01: those that it stars as one computed theorem, and the others beside it.
+-- The leaves of document 01: those that it stars as one computed theorem, and the others beside it; and those of document 02.
 -- Assumes nothing.
 use Prim.Native.Nat.{ℕ, _*_}
 use mathlib.Core.Path.{_≡_, refl}
+use mathlib.Core.Bool.{Bool, true, false}
 use mathlib.Core.List.{List, [], _∷_, _++_}
 use mathlib.Core.Option.{none, some}
 use lib.ListN.{replicate}
@@ -12,14 +13,16 @@ use Rattle.grid.specs.Cells.{empty, square, undecided, potential}
 use Rattle.board.specs.Board.{valueAt, cellsAfter, decided, after, refusal, afterAll, Call, decide, find, enough}
 use Rattle.groups.specs.Groups.{rename, join, joinAll, edges, labels, group, names}
 use Rattle.groups.specs.Arrows.{onArrow, pairsFrom, pairs}
-use Rattle.groups.specs.Rules.{fits}
+use Rattle.groups.specs.Rules.{fits, oneTest, grownTest, rulesTest}
 use Rattle.kinds.specs.Kinds.{isFloating, isIn, isNeighbour, kindTouching, arrowBlock, blocksTouched, kindAt, kindsOf, has, viewWith, view, block, floatNear, inReach, reach, disturbing, fenceAt, fence}
 use Rattle.literals.specs.Literals.{orElse, reasonIf, firstOf, each, Found}
 use Rattle.units.specs.Units.{reason1At, reason1}
 use Rattle.paths.specs.Paths.{appended, breadthFirst, parent, path, reason2At, reason2}
 use Rattle.growth.specs.Growth.{mostApart, blockName, reasonGrow, reason3At, gap, reasonShrink, reason4At, reason4aAt, reason4bAt, reason34}
 use Rattle.reasons.specs.Reasons.{findReason, findOn}
+use Rattle.finished.specs.Finished.{keeps, keepsAll, twoSquares, allButRules, finishedTest}
 use Rattle.host.specs.Host.{acceptOr, decideBytes, hostFinds}
+use Rattle.host.specs.Judged.{hostFinished}
 
 -- open a record, decide in order, find
 abbrev pub findAfter : List ℕ → List Call → Outcome Found
@@ -104,6 +107,27 @@ pub hosts :
     (ok (some ((0, 1) ∷ (2, 1) ∷ (0, 1) ∷ [])) ∷ refused 11 ∷ refused 12 ∷ refused 7 ∷ refused 9 ∷ refused 12 ∷ [])
 unfolding range upto filter any all flatMap member once size cellsOf row col only up down left right neighbours touches rename join joinAll edges labels group names _>>=_ unless bit number field cellCodes there stepFrom stepCells arrowAt filler arrowsAt readRecord valueAt cellsAfter empty square undecided potential decided after refusal isFloating isIn isNeighbour kindTouching onArrow arrowBlock blocksTouched kindAt kindsOf has viewWith view block inReach reach disturbing fenceAt fence orElse reasonIf firstOf each reason1At reason1 reason2At reason2 pairsFrom pairs fits blockName reasonGrow reason3At reason4At reason4aAt reason34 findReason findOn acceptOr decideBytes enough hostFinds
 hosts = refl
+
+-- a row of five cells, an arrow along its first four
+abbrev pub row5 : List ℕ
+row5 = 0x01 ∷ 0x00 ∷ 0x08 ∷ 0x00 ∷ 0x00 ∷ 0x00 ∷ 0x7F ∷ 0x80 ∷ []
+
+-- document 02, §1: S with no square, and with one; T with none; blocks of one square and of two on an arrow. Then the refusals in their order
+pub crowned :
+    _≡_ {A = List (Outcome Bool)}
+    (hostFinished (S 0xE0) (0x00 ∷ 0x00 ∷ 0x00 ∷ 0x01 ∷ 0x00 ∷ 0x02 ∷ [])
+    ∷ hostFinished (S 0xE0) (0x80 ∷ 0x00 ∷ 0x00 ∷ 0x01 ∷ 0x00 ∷ 0x02 ∷ [])
+    ∷ hostFinished pairT (0x00 ∷ 0x00 ∷ 0x00 ∷ 0x01 ∷ [])
+    ∷ hostFinished row5 (0x80 ∷ 0x00 ∷ 0x00 ∷ 0x01 ∷ 0x00 ∷ 0x02 ∷ 0x80 ∷ 0x03 ∷ 0x80 ∷ 0x04 ∷ [])
+    ∷ hostFinished (S 0xE1) (0x04 ∷ [])
+    ∷ hostFinished (S 0xE0) (0x84 ∷ 0x03 ∷ [])
+    ∷ hostFinished (S 0xE0) (0x80 ∷ 0x03 ∷ 0x04 ∷ 0x00 ∷ [])
+    ∷ hostFinished (S 0xE0) (0x80 ∷ 0x00 ∷ 0x00 ∷ 0x00 ∷ 0x00 ∷ [])
+    ∷ hostFinished (S 0xE0) (0x80 ∷ 0x00 ∷ 0x00 ∷ [])
+    ∷ [])
+    (ok false ∷ ok false ∷ ok true ∷ ok true ∷ refused 5 ∷ refused 12 ∷ refused 7 ∷ refused 9 ∷ refused 12 ∷ [])
+unfolding range upto filter any all flatMap member size cellsOf row col only up down left right neighbours rename join joinAll edges labels group names _>>=_ unless bit number field cellCodes there stepFrom stepCells arrowAt filler arrowsAt readRecord valueAt cellsAfter square decided after refusal onArrow pairsFrom pairs fits oneTest grownTest rulesTest keeps keepsAll twoSquares allButRules finishedTest acceptOr decideBytes hostFinished
+crowned = refl
 
 -- a puzzle of h rows and w columns, all plain, with one arrow
 abbrev pub plain : ℕ → ℕ → List ℕ → Puzzle

@@ -6,3 +6,4 @@ pub mod NegatedLaws
 pub mod FoundLaws
 pub mod Returns
 pub mod Behind
+pub mod JudgedLaws

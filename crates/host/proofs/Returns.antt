@@ -1,4 +1,4 @@
--- What the host call can return: a count from 0 to 3 × H × W + 1, or a negated refusal of 1 to 5, 7, 9, 11 and 12. Never 6, 8 or 10.
+-- What the exported calls can return. The host call: a count from 0 to 3 × H × W + 1, or a negated refusal of 1 to 5, 7, 9, 11 and 12. Never 6, 8 or 10.
 -- Assumes nothing.
 use Prim.Native.Nat.{ℕ, zero, suc, _+_, _*_, _/_, _%_, _≤_, _<_}
 use native.Mathlib.Omega.{arith}
@@ -24,6 +24,7 @@ use Rattle.reasons.proofs.NonEmpty.{reason-some}
 use Rattle.reasons.proofs.ReasonLaws.{found-length}
 use Rattle.reasons.proofs.OnMachine.{on-machine}
 use Rattle.host.specs.Host.{acceptOr, decideBytes, hostFinds, returned}
+use Rattle.host.specs.Judged.{hostFinished}
 use Rattle.host.specs.Returns.{refusals, Returns, negated-refusal, literal-count, Possible, refusal-of, value-of, FoundOn, no-reason, some-reason, FoundWith}
 
 -- ---- an outcome step by step
@@ -238,3 +239,10 @@ never-returned s decisions k low n o e = go (host-returns s decisions k low) e
     go : {z : ℤ} → Returns s z → z ≡ negℤ (pos n) → ⊥
     go (negated-refusal {k = j} m) q = false≢true (sym (other n o .1) ∙ in-list (Memᴰ·cast (sym (negated-same j n q)) m))
     go (literal-count {n = c} p r h) q = not-count n c (other n o .0) q
+
+-- the call that tells whether a leaf is finished: yes or no, or a refusal of the record or of a decision, and never 6, 8, 10 or 11
+pub finished-possible : (s decisions : List ℕ) → Bytes decisions → Possible refusals (λ (t : Bool). Unit {0}) (hostFinished s decisions)
+unfolding hostFinished
+finished-possible s decisions low =
+    then-possible (read-possible s) λ p _.
+    then-possible (decide-possible (λ _ m. m) (p .grid) decisions (λ a b m n h. absurd (byte-value low a b m n h)) none) λ ds _. value-of tt

@@ -1,2 +1,4 @@
 pub mod Host
+pub mod Inside
+pub mod Judged
 pub mod Returns

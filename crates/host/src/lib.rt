@@ -1,5 +1,6 @@
-// The call that is exported for Rust and C.
+// The calls that are exported for Rust and C.
 use board::Board;
+use finished::Verdict;
 use literals::Finding;
 use record::Answer;
 ghost use mathlib.Core.Path.{_≡_};
@@ -14,7 +15,10 @@ ghost use Rattle.kinds.specs.Inside.{puzzleWith};
 ghost use Rattle.reasons.specs.Reasons.{findReason};
 ghost use Rattle.groups.specs.Arrays.{linesOf};
 ghost use Rattle.inconsistency.specs.Arrays.{ArrowArrays};
+ghost use Rattle.board.specs.Decide.{decideAllOf};
 ghost use Rattle.host.specs.Host.{bytesOf, hostFinds, returned, outputAfter, Opens};
+ghost use Rattle.host.specs.Inside.{verdictNumber, judgedBy};
+ghost use Rattle.host.specs.Judged.{hostFinished, judged};
 
 // The number of a refusal, negated.
 fn negated(k: u8) -> i32
@@ -107,6 +111,42 @@ pub extern "C" fn evolmino_find(record: &[u8], decisions: &[u8], output: &mut [u
     let answer = opened.answer;
     match answer {
         Answer::Done => decide_and_find(opened.board, decisions, output),
+        Answer::Refused(k) => negated(k),
+    }
+}
+
+// A verdict as a number: 1 for yes, 0 for no, or the number of a refusal, negated.
+fn verdict_number(verdict: Verdict) -> i32
+    ensures { λ r. ⌜ r ≡ verdictNumber verdict ⌝ }
+{
+    match verdict {
+        Verdict::Yes => 1,
+        Verdict::No => 0,
+        Verdict::Refused(k) => negated(k),
+    }
+}
+
+// Decides in order and tells whether the board is finished then: the decisions' refusals come first.
+fn decide_and_judge(board: Board, decisions: &[u8]) -> i32
+    ensures { λ r. ⌜ r ≡ judgedBy (decideAllOf board (now (decisions .entry))) ⌝ }
+{
+    let decided = board.decide_all(decisions);
+    let answer = decided.answer;
+    match answer {
+        Answer::Done => verdict_number(finished::finished(decided.board)),
+        Answer::Refused(k) => negated(k),
+    }
+}
+
+// Opens the record, decides in order and tells whether the leaf is finished: 1 for yes, 0 for no, or the negated number of a refusal.
+#[no_mangle]
+pub extern "C" fn evolmino_finished(record: &[u8], decisions: &[u8]) -> i32
+    ensures { λ r. ⌜ r ≡ judged (hostFinished (now («record» .entry)) (now (decisions .entry))) ⌝ }
+{
+    let fresh = Board::open(record);
+    let answer = fresh.answer;
+    match answer {
+        Answer::Done => decide_and_judge(fresh.board, decisions),
         Answer::Refused(k) => negated(k),
     }
 }

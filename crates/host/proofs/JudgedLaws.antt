@@ -1,0 +1,119 @@
+-- The steps of the call that tells whether a leaf is finished, and what it returns: 1 exactly for an accepted record with accepted decisions whose
+-- board is finished.
+-- Assumes nothing.
+use Prim.Native.Nat.{ℕ, zero, suc}
+use native.Mathlib.Omega.{arith}
+use mathlib.Core.Logic.{_↔_}
+use mathlib.Core.Path.{_≡_, refl, sym, ap, _∙_}
+use mathlib.Core.Bool.{Bool, true, false}
+use mathlib.Core.List.{List, []}
+use lib.IntN.{pos, negℤ}
+use Rattle.grid.specs.Cells.{Literal}
+use Rattle.record.specs.Record.{Outcome, ok, refused, _>>=_, Puzzle, readRecord}
+use Rattle.record.specs.Valid.{Valid}
+use Rattle.record.specs.declared.Answer.the-variants.{Done, Refused}
+use Rattle.record.proofs.ProblemLaws.{problem-puzzle}
+use Rattle.record.proofs.RecordLaws.{record-valid}
+use Rattle.board.specs.Board.{cellsAfter}
+use Rattle.board.specs.Kept.{boardOf, opening, openOf}
+use Rattle.board.specs.Decide.{refusedWith, decideAllOf}
+use Rattle.board.specs.declared.Board.{Board}
+use Rattle.board.specs.declared.Decided.{Decided}
+use Rattle.board.specs.declared.Opened.{Opened}
+use Rattle.board.proofs.Standing.{Standing, none, cells-valid}
+use Rattle.board.proofs.CallLaws.{standing-well}
+use Rattle.reasons.proofs.Demand3.{cells-on}
+use Rattle.finished.specs.Finished.{Finished, finishedTest}
+use Rattle.finished.specs.Verdicts.{verdict, finishedOf}
+use Rattle.finished.proofs.FinishedLaws.{finished-means}
+use Rattle.host.specs.Host.{decideBytes, Opens}
+use Rattle.host.specs.Inside.{verdictNumber, judgedOn, judgedBy}
+use Rattle.host.specs.Judged.{hostFinished, judged, FinishedBy}
+use Rattle.host.proofs.HostLaws.{decidedBy, decided-bytes, bytes-standing, opens-as}
+
+-- the decisions are accepted, or one is refused
+pub done-judged : (d : Decided) → d .answer ≡ Done → verdictNumber (finishedOf (d .board)) ≡ judgedBy d
+unfolding judgedBy judgedOn
+done-judged d e = rw e refl
+
+pub refused-judged : (d : Decided) {k : ℕ} → d .answer ≡ Refused k → negℤ (pos k) ≡ judgedBy d
+unfolding judgedBy judgedOn
+refused-judged d e = rw e refl
+
+verdict-number : (t : Bool) → verdictNumber (verdict t) ≡ judged (ok t)
+unfolding verdictNumber verdict judged
+verdict-number true = refl
+verdict-number false = refl
+
+-- on the board of standing decisions
+finished-on : (p : Puzzle) → Valid p → {ds : List Literal} → Standing (p .grid) ds → finishedOf (boardOf p ds) ≡ verdict (finishedTest p (cellsAfter (p .grid) ds))
+unfolding finishedOf boardOf
+finished-on p v {ds} s = rw (standing-well p v s, cells-on p v s, problem-puzzle p v) refl
+
+-- what the decisions leave, by the outcome of their bytes
+judged-decided : (p : Puzzle) → Valid p → (decisions : List ℕ) (r : Outcome (List Literal)) → decideBytes (p .grid) [] decisions ≡ r
+    → judgedBy (decidedBy (boardOf p []) p r) ≡ judged (r >>= λ ds. ok (finishedTest p (cellsAfter (p .grid) ds)))
+unfolding decidedBy refusedWith judgedBy judgedOn judged _>>=_
+judged-decided p v decisions (refused k) q = refl
+judged-decided p v decisions (ok ds) q = rw (finished-on p v (bytes-standing (p .grid) decisions none q)) (verdict-number (finishedTest p (cellsAfter (p .grid) ds)))
+
+-- on a fresh board
+judged-fresh : (p : Puzzle) → Valid p → (decisions : List ℕ)
+    → judgedBy (decideAllOf (boardOf p []) decisions) ≡ judged (decideBytes (p .grid) [] decisions >>= λ ds. ok (finishedTest p (cellsAfter (p .grid) ds)))
+unfolding decideAllOf
+judged-fresh p v decisions =
+    rw (standing-well p v none, decided-bytes p v (boardOf p []) decisions none) (judged-decided p v decisions (decideBytes (p .grid) [] decisions) refl)
+
+-- what comes after an accepted record
+pub judged-open : (s : List ℕ) (b : Board) → Opens s b → (decisions : List ℕ) → judgedBy (decideAllOf b decisions) ≡ judged (hostFinished s decisions)
+unfolding hostFinished _>>=_
+judged-open s b e decisions =
+    let o = opens-as s b e in
+    ap (λ (c : Board). judgedBy (decideAllOf c decisions)) (o .fresh) ∙ judged-fresh (o .puzzle) (record-valid s (o .reads)) decisions ∙ rw (o .reads) refl
+
+-- a refused record
+pub judged-refused : (s : List ℕ) (o : Opened) {k : ℕ} → o ≡ openOf s → o .answer ≡ Refused k → (decisions : List ℕ) → negℤ (pos k) ≡ judged (hostFinished s decisions)
+unfolding hostFinished openOf opening _>>=_ judged
+judged-refused s o {k} e f decisions = rw (go (readRecord s) (sym (ap (λ (o : Opened). o .answer) e) ∙ f)) refl
+  where
+    go : (r : Outcome Puzzle) → opening r .answer ≡ Refused k → r ≡ refused k
+    go (refused m) q = let z : m ≡ k = cc in ap refused z
+    go (ok p) q = let z : _≡_ {A = ℕ} 0 1 = cc in absurd (omega arith)
+
+-- ---- what it returns
+
+never-one : (k : ℕ) → negℤ (pos k) ≡ pos 1 → ⊥
+never-one zero e = let z : _≡_ {A = ℕ} 0 1 = cc in omega arith
+never-one (suc k) e = let z : _≡_ {A = ℕ} 0 1 = cc in omega arith
+
+one-is-yes : (t : Bool) → judged (ok t) ≡ pos 1 → t ≡ true
+unfolding judged
+one-is-yes true e = refl
+one-is-yes false e = let z : _≡_ {A = ℕ} 0 1 = cc in absurd (omega arith)
+
+module _ (s decisions : List ℕ) where
+  -- the cells that accepted decisions leave on the board of an accepted record
+  means : (p : Puzzle) → readRecord s ≡ ok p → (ds : List Literal) → decideBytes (p .grid) [] decisions ≡ ok ds
+      → (finishedTest p (cellsAfter (p .grid) ds) ≡ true) ↔ Finished p (cellsAfter (p .grid) ds)
+  means p e ds d = finished-means p (record-valid s e) (cellsAfter (p .grid) ds) (cells-valid (bytes-standing (p .grid) decisions none d) .long)
+
+  decided-as : (p : Puzzle) → readRecord s ≡ ok p → (r : Outcome (List Literal)) → decideBytes (p .grid) [] decisions ≡ r
+      → judged (r >>= λ ds. ok (finishedTest p (cellsAfter (p .grid) ds))) ≡ pos 1 → FinishedBy s decisions
+  unfolding judged _>>=_
+  decided-as p e (refused k) d h = absurd (never-one k h)
+  decided-as p e (ok ds) d h =
+      record { puzzle = p; reads = e; accepted = ds; decides = d; finished = means p e ds d .0 (one-is-yes (finishedTest p (cellsAfter (p .grid) ds)) h) }
+
+  read-as : (r : Outcome Puzzle) → readRecord s ≡ r
+      → judged (r >>= λ p. decideBytes (p .grid) [] decisions >>= λ ds. ok (finishedTest p (cellsAfter (p .grid) ds))) ≡ pos 1 → FinishedBy s decisions
+  unfolding judged _>>=_
+  read-as (refused k) e h = absurd (never-one k h)
+  read-as (ok p) e h = decided-as p e (decideBytes (p .grid) [] decisions) refl h
+
+  -- the call returns 1 exactly where the record and the decisions are accepted and the board that they leave is finished
+  pub judged-exact : (judged (hostFinished s decisions) ≡ pos 1) ↔ FinishedBy s decisions
+  unfolding hostFinished judged _>>=_
+  judged-exact = (
+    λ e. read-as (readRecord s) refl e,
+    λ f. rw (f .reads, f .decides, means (f .puzzle) (f .reads) (f .accepted) (f .decides) .1 (f .finished)) refl,
+  )
