@@ -68,8 +68,8 @@ fn smallest(board: &Decided) -> Decided {
 
 /// From the board after the calls.
 fn by_reading(puzzle: &Puzzle, decisions: &[Literal]) -> Option<Reason> {
-    let board = Board::after(puzzle, decisions);
-    find(&board, most_literals(puzzle.size)).expect("the buffer is long enough")
+    let mut board = Board::after(puzzle, decisions);
+    find(&mut board, most_literals(puzzle.size)).expect("the buffer is long enough")
 }
 
 fn by_original(puzzle: &Puzzle, decisions: &[Literal]) -> Result<Option<Vec<Literal>>, Panicked> {

@@ -16,35 +16,43 @@ use crate::reading::reasons::most_literals;
 use crate::reading::record::encode;
 use crate::reading::Literal;
 
-const FORMAT: [&str; 8] = [
-    "Entries to the end of the file: u16 record length, the record, u16 number of calls, the calls.",
+const FORMAT: [&str; 9] = [
+    "Entries to the end of the file: u16 record length, the record, u16 count of hints, u16 number",
+    "of calls, the calls; after each call u16, the expected count of hints on the board.",
     "A call is u8 kind and:",
     "  0 decide: u16 index, u8 value, u8 expected refusal or 0",
     "  1 undo: u8 expected refusal or 0",
     "  2 find: u16 buffer length in literals, u8 expected refusal or 0; if 0, u16 count (0 for none)",
     "    and that many u16 literals, value * 32768 + index",
     "  3 cells: height * width bytes, the expected cells (0 empty, 1 square, 2 undecided)",
-    "Each entry starts on a fresh board of its record.",
+    "Each entry starts on a fresh board of its record, handed in with that count of hints.",
 ];
+
+/// The counts of hints that random boards are handed in with, in turn.
+const HANDED_IN: [u16; 8] = [0, 0, 0, 1, 255, 256, 65_530, 65_535];
 
 pub fn call_lists(seed: u64) -> Result<List, String> {
     let what = "Lists of decide, undo and find on one board.";
     let mut list = List::of_the_original("calls.list", 400_000, seed, what);
-    list.line("Its panics are refusals 9 and 10, and 7; it has no counterpart to 8 and 11.");
+    list.line("Its panics are refusals 9 and 10, and 7; it has no counterpart to 8 and 11,");
+    list.line("and none to the count of hints, which is the reading's.");
     list.lines(&FORMAT);
     let fresh = Decided {
         puzzle: strip(),
         decisions: Vec::new(),
     };
-    add_entry(&mut list, &fresh, &leaf_calls())?;
+    add_entry(&mut list, &fresh, 0, &leaf_calls())?;
+    for hints in [0, 65_533, 65_534, 65_535] {
+        add_entry(&mut list, &fresh, hints, &hint_calls())?;
+    }
     let mut random = Random::new(seed);
-    for goal in goals(&mut random) {
-        let wanted = length(&mut random, &goal);
-        let calls = calls(&mut random, &goal, wanted);
-        add_entry(&mut list, &goal, &calls)?;
+    for (goal, hints) in goals(&mut random).iter().zip(HANDED_IN.iter().cycle()) {
+        let wanted = length(&mut random, goal);
+        let calls = calls(&mut random, goal, wanted);
+        add_entry(&mut list, goal, *hints, &calls)?;
     }
     let largest = full_board(&mut random, square(32));
-    add_entry(&mut list, &largest, &there_and_back(&largest))?;
+    add_entry(&mut list, &largest, 0, &there_and_back(&largest))?;
     Ok(list)
 }
 
@@ -57,6 +65,17 @@ fn leaf_calls() -> Vec<Call> {
     calls.extend([decide(1, 1), find(10), Call::Undo]);
     calls.extend([decide(2, 1), find(10), Call::Undo]);
     calls.extend([Call::Undo, Call::Undo, Call::Cells]);
+    calls
+}
+
+/// Finds on S, refused ones among accepted ones, and decisions taken back after them.
+fn hint_calls() -> Vec<Call> {
+    let decide = |index, value| Call::Decide { index, value };
+    let find = |buffer| Call::Find { buffer };
+    let mut calls = vec![find(9), find(10), find(0), find(10), find(9)];
+    calls.extend([decide(0, 1), find(10), decide(2, 1), find(9), find(10)]);
+    calls.extend([Call::Undo, Call::Undo, Call::Undo, Call::Cells]);
+    calls.extend([find(3), find(100), decide(3, 1), find(9), Call::Cells]);
     calls
 }
 
@@ -102,11 +121,12 @@ fn length(random: &mut Random, goal: &Decided) -> usize {
     }
 }
 
-fn add_entry(list: &mut List, goal: &Decided, calls: &[Call]) -> Result<(), String> {
-    let mut board = Board::fresh(goal.puzzle.clone());
+fn add_entry(list: &mut List, goal: &Decided, hints: u16, calls: &[Call]) -> Result<(), String> {
+    let mut board = Board::with_hints(goal.puzzle.clone(), hints);
     let mut original = Original::open(&goal.puzzle).expect("no arrow cell is used twice");
     list.entries += 1;
     list.long_bytes(&encode(&goal.puzzle));
+    list.u16(hints.into());
     list.u16(calls.len());
     for &call in calls {
         let by_reading = by_reading(&mut board, call);
@@ -115,6 +135,7 @@ fn add_entry(list: &mut List, goal: &Decided, calls: &[Call]) -> Result<(), Stri
             return Err(format!("{}: {calls:?}", facts(&goal.puzzle, &[])));
         }
         add_call(list, call, &answer);
+        list.u16(board.hints().into());
     }
     Ok(())
 }

@@ -1,4 +1,5 @@
-//! "Board": the plain machine of document 01, a puzzle with its list of standing decisions.
+//! "Board": the plain machine of document 01, a puzzle with its list of standing decisions; and
+//! beside it the count of hints of document 02, §2.
 
 use super::record::{decode, Puzzle};
 use super::{Literal, Refusal};
@@ -14,6 +15,8 @@ pub enum Cell {
 pub struct Board {
     puzzle: Puzzle,
     standing: Vec<Literal>,
+    /// The accepted find calls since open.
+    hints: u16,
 }
 
 impl Board {
@@ -23,9 +26,15 @@ impl Board {
     }
 
     pub fn fresh(puzzle: Puzzle) -> Board {
+        Board::with_hints(puzzle, 0)
+    }
+
+    /// A board with nothing decided that was handed in with a count of hints.
+    pub fn with_hints(puzzle: Puzzle, hints: u16) -> Board {
         Board {
             puzzle,
             standing: Vec::new(),
+            hints,
         }
     }
 
@@ -63,6 +72,15 @@ impl Board {
             Some(_) => Ok(()),
             None => Err(Refusal::NothingDecided),
         }
+    }
+
+    pub fn hints(&self) -> u16 {
+        self.hints
+    }
+
+    /// Counts an accepted find; at 65,535 the count stops rising.
+    pub fn count_hint(&mut self) {
+        self.hints = self.hints.saturating_add(1);
     }
 
     pub fn cells(&self) -> Vec<Cell> {

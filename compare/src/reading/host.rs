@@ -38,7 +38,7 @@ pub fn opened_and_found(
         return Err(Refusal::OutputShort);
     }
     decide_all(&mut board, decisions)?;
-    find(&board, output_length / 2)
+    find(&mut board, output_length / 2)
 }
 
 /// 1 for a finished leaf, 0 for another, or the negated refusal number (document 02 §1).

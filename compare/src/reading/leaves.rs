@@ -18,7 +18,7 @@ fn board(record: &[u8], decisions: &[Literal]) -> Board {
 }
 
 fn found(record: &[u8], decisions: &[Literal]) -> Option<Vec<Literal>> {
-    let reason = find(&board(record, decisions), 100).unwrap();
+    let reason = find(&mut board(record, decisions), 100).unwrap();
     reason.map(|reason| reason.literals)
 }
 
@@ -71,10 +71,27 @@ fn refused_calls() {
     assert_eq!(fresh.undo(), Err(Refusal::NothingDecided));
     assert_eq!(fresh.decide(0, 1), Ok(()));
     assert_eq!(fresh.decide(0, 1), Err(Refusal::Decided));
-    assert_eq!(find(&fresh, 9), Err(Refusal::OutputShort));
-    assert_eq!(find(&fresh, 10), Ok(None));
+    assert_eq!(find(&mut fresh, 9), Err(Refusal::OutputShort));
+    assert_eq!(find(&mut fresh, 10), Ok(None));
     assert_eq!(fresh.undo(), Ok(()));
     assert_eq!(fresh.cells(), [Cell::Undecided; 3]);
+}
+
+#[test]
+fn hints() {
+    let mut leaf = board(&S, &[(0, 1)]);
+    let mut count_after = |buffer: usize| {
+        let _ = find(&mut leaf, buffer);
+        leaf.hints()
+    };
+    assert_eq!([9, 10, 0, 10].map(&mut count_after), [0, 1, 1, 2]);
+    assert_eq!(leaf.undo(), Ok(()));
+    assert_eq!(leaf.hints(), 2);
+    let mut long_used = Board::with_hints(decode(&S).unwrap(), 65_534);
+    for _ in 0..3 {
+        assert_eq!(find(&mut long_used, 10), Ok(None));
+        assert_eq!(long_used.hints(), 65_535);
+    }
 }
 
 /// 1 × 3, arrow 2 1 0: the cell between the two squares is a barrier.

@@ -27,13 +27,13 @@ pub fn most_literals(size: Size) -> usize {
     3 * size.cells() + 1
 }
 
-/// `find` with a buffer of that many literals.
-pub fn find(board: &Board, buffer: usize) -> Result<Option<Reason>, Refusal> {
-    let puzzle = board.puzzle();
-    if buffer < most_literals(puzzle.size) {
+/// `find` with a buffer of that many literals. It counts as a hint unless it is refused.
+pub fn find(board: &mut Board, buffer: usize) -> Result<Option<Reason>, Refusal> {
+    if buffer < most_literals(board.puzzle().size) {
         return Err(Refusal::OutputShort);
     }
-    Ok(find_reason(puzzle, &board.cells()))
+    board.count_hint();
+    Ok(find_reason(board.puzzle(), &board.cells()))
 }
 
 pub fn find_reason(puzzle: &Puzzle, cells: &[Cell]) -> Option<Reason> {

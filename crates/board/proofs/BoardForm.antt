@@ -28,7 +28,7 @@ use Rattle.board.specs.declared.Board.{Board}
 use Rattle.grid.specs.Cells.{Literal}
 use Rattle.board.specs.Board.{valueAt, cellsAfter, decided}
 use Rattle.board.specs.Kept.{boardOf}
-use Rattle.board.specs.Form.{wellFormed}
+use Rattle.board.specs.Form.{countFormed, wellFormed}
 use Rattle.board.proofs.Standing.{Standing, none, more, index, standing-low, standing-distinct, cell-value, cells-length}
 
 -- ---- decisions on listed cells
@@ -127,6 +127,7 @@ pub record Whole (b : Board) : Type 0 where
   pub problem : Formed (b .problem)
   pub cells-long : length (b .cells) ≡ 1024
   pub order-long : length (b .order) ≡ 1024
+  pub count-low : b .hints ≤ 65535
   pub few : b .decided ≤ 1024
   pub once : fresh (size (gridOf (b .problem))) [] (listed b) ≡ true
   pub zeros : behind 0 (b .decided) (b .order) ≡ true
@@ -134,12 +135,13 @@ pub record Whole (b : Board) : Type 0 where
   pub twos : behind 2 (size (gridOf (b .problem))) (b .cells) ≡ true
 
 pub whole-is : (b : Board) → wellFormed b ≡ true → Whole b
-unfolding wellFormed long ordered stated
+unfolding wellFormed long countFormed ordered stated
 whole-is b h =
     let n : ℕ = size (gridOf (b .problem)) in
-    let a = and-true (problemFormed (b .problem) && (long (b .cells) && long (b .order))) (ordered n (b .decided) (b .order) && stated n (listed b) (b .cells)) h in
-    let c = and-true (problemFormed (b .problem)) (long (b .cells) && long (b .order)) (a .0) in
-    let d = and-true (long (b .cells)) (long (b .order)) (c .1) in
+    let a = and-true (problemFormed (b .problem) && (long (b .cells) && long (b .order) && countFormed (b .hints))) (ordered n (b .decided) (b .order) && stated n (listed b) (b .cells)) h in
+    let c = and-true (problemFormed (b .problem)) (long (b .cells) && long (b .order) && countFormed (b .hints)) (a .0) in
+    let l = and-true (long (b .cells) && long (b .order)) (countFormed (b .hints)) (c .1) in
+    let d = and-true (long (b .cells)) (long (b .order)) (l .0) in
     let e = and-true (ordered n (b .decided) (b .order)) (stated n (listed b) (b .cells)) (a .1) in
     let f = and-true (leb (b .decided) 1024 && fresh n [] (listed b)) (behind 0 (b .decided) (b .order)) (e .0) in
     let k = and-true (leb (b .decided) 1024) (fresh n [] (listed b)) (f .0) in
@@ -148,6 +150,7 @@ whole-is b h =
       problem = formed-is (b .problem) (c .0);
       cells-long = eqb-true (length (b .cells)) 1024 (d .0);
       order-long = eqb-true (length (b .order)) 1024 (d .1);
+      count-low = leb-true (b .hints) 65535 (l .1);
       few = leb-true (b .decided) 1024 (k .0);
       once = k .1;
       zeros = f .1;
@@ -156,10 +159,11 @@ whole-is b h =
     }
 
 pub is-whole : (b : Board) → Whole b → wellFormed b ≡ true
-unfolding wellFormed long ordered stated
+unfolding wellFormed long countFormed ordered stated
 is-whole b w =
     true-and
-    (true-and (is-formed (b .problem) (w .problem)) (true-and (eq-eqb (length (b .cells)) 1024 (w .cells-long)) (eq-eqb (length (b .order)) 1024 (w .order-long))))
+    (true-and (is-formed (b .problem) (w .problem))
+    (true-and (true-and (eq-eqb (length (b .cells)) 1024 (w .cells-long)) (eq-eqb (length (b .order)) 1024 (w .order-long))) (le-leb (b .hints) 65535 (w .count-low))))
     (true-and (true-and (true-and (le-leb (b .decided) 1024 (w .few)) (w .once)) (w .zeros)) (true-and (w .states) (w .twos)))
 
 -- the decisions that a board lists, with the values of their cells
@@ -221,8 +225,8 @@ module _ (b : Board) (w : Whole b) where
       sym (length-map (decisionsOf b) index) ∙ ap length (valued-index (λ i. getD (b .cells) i 0) (listed b))
       ∙ length-take-le (b .decided) (b .order) (omega (arith, w .few, w .order-long))
 
-  -- it is the board of its puzzle and its decisions
-  pub whole-again : boardOf (puzzleOf (b .problem)) (decisionsOf b) ≡ b
+  -- it is the board of its puzzle, its decisions and its count
+  pub whole-again : boardOf (puzzleOf (b .problem)) (decisionsOf b) (b .hints) ≡ b
   unfolding boardOf puzzleOf g
   whole-again =
       let c : arrayOf 2 (cellsAfter (gridOf (b .problem)) (decisionsOf b)) ≡ b .cells = ap (arrayOf 2) cells-are ∙ behind-kept 2 (size g) (b .cells) (w .cells-long) most (w .twos) in
@@ -271,16 +275,17 @@ module _ (p : Puzzle) (v : Valid p) {ds : List Literal} (s : Standing (p .grid) 
       go true e = le-leb (valueAt ds i) 1 (value-listed ds i (λ d m. standing-low s d m .1) e)
       go false e = eq-eqb (valueAt ds i) 2 (value-free ds i e)
 
-  -- the board of a valid puzzle with standing decisions passes the test
-  pub standing-whole : Whole (boardOf p ds)
+  -- the board of a valid puzzle with standing decisions passes the test, with any count
+  pub standing-whole : {n : ℕ} → n ≤ 65535 → Whole (boardOf p ds n)
   unfolding boardOf problemOf gridOf
-  standing-whole =
+  standing-whole low =
       let n : length ds ≤ 1024 = omega (arith, standing-length s, valid-size v) in
       let f = standing-fresh s in
       record {
         problem = valid-formed p v;
         cells-long = array-length 2 (cellsAfter (p .grid) ds) (omega (arith, cells-length (p .grid) ds, valid-size v));
         order-long = array-length 0 (map index ds) (omega (arith, length-map ds index));
+        count-low = low;
         few = n;
         once = rw order-taken (is-fresh (size (p .grid)) (f .0) (f .1));
         zeros = kept-behind 0 (length ds) (map index ds) (length-map ds index);

@@ -36,31 +36,31 @@ decide-well b h i v =
     let ok : Valid p = formed-valid (b .problem) (w .problem) in
     let s : Standing (p .grid) (decisionsOf b) = unfold puzzleOf in whole-standing b w in
     subst (λ (z : Board). wellFormed (decideOf z i v .board) ≡ true) (whole-again b w)
-    (rw (decide-left p ok s i v) (standing-well p ok (after-standing (p .grid) (decide i v) s)))
+    (rw (decide-left p ok (w .count-low) s i v) (standing-well p ok (w .count-low) (after-standing (p .grid) (decide i v) s)))
 
-module _ (q : Problem) (cells order : List ℕ) (n count x y : ℕ) (rest : List ℕ)
-    (e : size (gridOf q) ≡ n) (w : wellFormed (held q cells order count) ≡ true) (low : x * 256 + y < 65536) where
+module _ (q : Problem) (k : ℕ) (cells order : List ℕ) (n count x y : ℕ) (rest : List ℕ)
+    (e : size (gridOf q) ≡ n) (w : wellFormed (held q k cells order count) ≡ true) (low : x * 256 + y < 65536) where
   value : (x * 256 + y) / 32768 ≤ 1
   value = omega arith
 
   -- a decision that is refused
-  pub place-refused : {k : ℕ} {cells′ order′ : List ℕ} → Placing n count (x * 256 + y) cells order (Refused k) cells′ order′
-      → placedFrom (held q cells order count) (x ∷ y ∷ rest) ≡ refusedWith k (held q cells′ order′ count)
+  pub place-refused : {r : ℕ} {cells′ order′ : List ℕ} → Placing n count (x * 256 + y) cells order (Refused r) cells′ order′
+      → placedFrom (held q k cells order count) (x ∷ y ∷ rest) ≡ refusedWith r (held q k cells′ order′ count)
   unfolding placedFrom onward area
   place-refused (bits h) = rw (ne-eqb ((x * 256 + y) % 32768 / 1024) 0 h) refl
   place-refused (off h l) =
-      rw (eq-eqb ((x * 256 + y) % 32768 / 1024) 0 h, ← decide-7 (held q cells order count) ((x * 256 + y) % 1024) ((x * 256 + y) / 32768) w (rw e l)) refl
+      rw (eq-eqb ((x * 256 + y) % 32768 / 1024) 0 h, ← decide-7 (held q k cells order count) ((x * 256 + y) % 1024) ((x * 256 + y) / 32768) w (rw e l)) refl
   place-refused (twice h l d) =
-      rw (eq-eqb ((x * 256 + y) % 32768 / 1024) 0 h, ← decide-9 (held q cells order count) ((x * 256 + y) % 1024) ((x * 256 + y) / 32768) w (rw e l) value d) refl
+      rw (eq-eqb ((x * 256 + y) % 32768 / 1024) 0 h, ← decide-9 (held q k cells order count) ((x * 256 + y) % 1024) ((x * 256 + y) / 32768) w (rw e l) value d) refl
 
   -- a decision that is put
   pub place-put : {cells′ order′ : List ℕ} → Placing n count (x * 256 + y) cells order Done cells′ order′
-      → (placedFrom (held q cells order count) (x ∷ y ∷ rest) ≡ placedFrom (held q cells′ order′ (count + 1)) rest) × (wellFormed (held q cells′ order′ (count + 1)) ≡ true)
+      → (placedFrom (held q k cells order count) (x ∷ y ∷ rest) ≡ placedFrom (held q k cells′ order′ (count + 1)) rest) × (wellFormed (held q k cells′ order′ (count + 1)) ≡ true)
   unfolding placedFrom onward area placed
   place-put (put h l d) =
       let i : ℕ = (x * 256 + y) % 1024 in
       let v : ℕ = (x * 256 + y) / 32768 in
-      let b : Board = held q cells order count in
+      let b : Board = held q k cells order count in
       let r = decide-done b i v w (rw e l) value d in
       (rw (eq-eqb ((x * 256 + y) % 32768 / 1024) 0 h, ← r) refl, subst (λ z. wellFormed (z .board) ≡ true) (sym r) (decide-well b w i v))
 

@@ -1,3 +1,4 @@
+pub mod HintLaws
 pub mod Standing
 pub mod BoardForm
 pub mod CallLaws
@@ -6,3 +7,4 @@ pub mod Answers
 pub mod Fold
 pub mod OpenLaws
 pub mod Unchanged
+pub mod CountLaws

@@ -19,7 +19,7 @@ use Rattle.board.specs.Kept.{boardOf, blankBoard, opening, openOf}
 
 -- an answer beside a board of the problem with nothing decided
 abbrev fresh : Answer → Problem → Opened
-fresh a q = record { answer = a; board = record { problem = q; cells = replicate 1024 2; order = replicate 1024 0; decided = 0 } }
+fresh a q = record { answer = a; board = record { problem = q; cells = replicate 1024 2; order = replicate 1024 0; decided = 0; hints = 0 } }
 
 -- no cell is decided
 all-two : (a k : ℕ) → map (valueAt []) (range a k) ≡ replicate k 2
@@ -46,5 +46,5 @@ opened s = go (readRecord s) refl
 
 -- what open answers
 pub opened-by : (s : List ℕ) (r : Reading) (cells order : List ℕ) → r ≡ readOf s → cells ≡ replicate 1024 2 → order ≡ replicate 1024 0
-    → _≡_ {A = Opened} (record { answer = r .answer; board = record { problem = r .problem; cells = cells; order = order; decided = 0 } }) (openOf s)
+    → _≡_ {A = Opened} (record { answer = r .answer; board = record { problem = r .problem; cells = cells; order = order; decided = 0; hints = 0 } }) (openOf s)
 opened-by s r cells order e c o = rw (e, c, o) (opened s)

@@ -10,12 +10,13 @@ use mathlib.Core.List.{List, [], _∷_, _++_, map, map-append, List·Memᴰ, Lis
 use lib.Dec.{eqb, leb, ltb}
 use lib.ListN.{getD, length}
 use borrow.Author.Tests.{lt-ltb, le-leb, ltb-true, leb-true, not-true, eqb-true, eq-eqb}
-use Rattle.grid.specs.Lists.{Distinct, range, upto, init}
+use Rattle.grid.specs.Lists.{Distinct, range, upto, init, filter}
 use Rattle.grid.proofs.ListLaws.{and-true, dec-so, so-false, mem-any, distinct-snoc, length-map-upto, map-upto-at, map-upto-past}
 use Rattle.grid.specs.Grid.{Grid, size, cellsOf}
 use Rattle.grid.specs.Cells.{Literal, ValidCells}
-use Rattle.board.specs.Board.{SameCells, SameDecisions, valueAt, cellsAfter, Call, decide, undo, find, decided, after, afterAll}
+use Rattle.board.specs.Board.{SameCells, SameDecisions, valueAt, cellsAfter, Call, decide, undo, find, decided, after, afterAll, asks, howOften}
 use Rattle.grid.proofs.AppendLaws.{init-more}
+use Rattle.board.proofs.HintLaws.{calls-append, often-append}
 
 -- decisions one after the other, each on an undecided cell of the grid
 pub data Standing (g : Grid) : List Literal → Type 0 where
@@ -46,18 +47,16 @@ all-standing g (c ∷ cs) s = all-standing g cs (after-standing g c s)
 pub calls-standing : (g : Grid) (cs : List Call) → Standing g (afterAll g cs [])
 calls-standing g cs = all-standing g cs none
 
-afterAll-snoc : (g : Grid) (cs : List Call) (c : Call) (ds : List Literal) → afterAll g (cs ++ (c ∷ [])) ds ≡ after g c (afterAll g cs ds)
-unfolding afterAll
-afterAll-snoc g [] c ds = refl
-afterAll-snoc g (d ∷ cs) c ds = afterAll-snoc g cs c (after g d ds)
-
--- and what stands is left by some list of calls
-pub standing-calls : (g : Grid) {ds : List Literal} → Standing g ds → (cs : List Call) × (afterAll g cs [] ≡ ds)
-unfolding after
-standing-calls g none = ([], unfold afterAll in refl)
+-- and what stands is left by some list of calls without an accepted find
+pub standing-calls : (g : Grid) {ds : List Literal} → Standing g ds → (cs : List Call) × (afterAll g cs [] ≡ ds) × (howOften g cs ≡ 0)
+unfolding afterAll after howOften filter asks
+standing-calls g none = ([], refl, refl)
 standing-calls g (more {ds} {i} {v} s h k d) =
-    let r = standing-calls g s in
-    (r .0 ++ (decide i v ∷ []), afterAll-snoc g (r .0) (decide i v) [] ∙ rw (r .1, lt-ltb i (size g) h, le-leb v 1 k, d) refl)
+    let r = standing-calls g s in (
+      r .0 ++ (decide i v ∷ []),
+      calls-append g (r .0) (decide i v ∷ []) [] ∙ rw (r .1, lt-ltb i (size g) h, le-leb v 1 k, d) refl,
+      often-append g (r .0) (decide i v ∷ []) ∙ rw (r .2) refl,
+    )
 
 -- the index of a decision
 abbrev pub index : Literal → ℕ

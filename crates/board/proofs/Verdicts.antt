@@ -1,21 +1,23 @@
 -- The test of a board, taken part by part: a law for each way out of the code.
 -- Assumes nothing.
+use Prim.Native.Nat.{_≤_}
 use mathlib.Core.Path.{_≡_}
 use mathlib.Core.Bool.{true, false}
 use lib.ListN.{length}
-use borrow.Author.Tests.{eq-eqb}
+use borrow.Author.Tests.{eq-eqb, le-leb}
 use Rattle.grid.specs.Grid.{size}
 use Rattle.record.specs.Problem.{gridOf}
 use Rattle.form.specs.Form.{long, problemFormed}
 use Rattle.form.proofs.Verdicts.{decisionsFormed}
 use Rattle.board.specs.declared.Board.{Board}
-use Rattle.board.specs.Form.{wellFormed}
+use Rattle.board.specs.Form.{countFormed, wellFormed}
 
 module _ (b : Board) where
   pub board-problem : problemFormed (b .problem) ≡ false → false ≡ wellFormed b
   unfolding wellFormed
   board-problem e = simp e
 
-  pub board-decisions : problemFormed (b .problem) ≡ true → length (b .cells) ≡ 1024 → length (b .order) ≡ 1024 → decisionsFormed (size (gridOf (b .problem))) (b .decided) (b .order) (b .cells) ≡ wellFormed b
-  unfolding wellFormed long
-  board-decisions e c o = simp (e, eq-eqb (length (b .cells)) 1024 c, eq-eqb (length (b .order)) 1024 o)
+  pub board-decisions : problemFormed (b .problem) ≡ true → length (b .cells) ≡ 1024 → length (b .order) ≡ 1024 → b .hints ≤ 65535
+      → decisionsFormed (size (gridOf (b .problem))) (b .decided) (b .order) (b .cells) ≡ wellFormed b
+  unfolding wellFormed long countFormed
+  board-decisions e c o n = simp (e, eq-eqb (length (b .cells)) 1024 c, eq-eqb (length (b .order)) 1024 o, le-leb (b .hints) 65535 n)

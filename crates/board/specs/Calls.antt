@@ -1,6 +1,6 @@
 -- Lists of calls on a board, as the contracts have them, and what is proved of them (the board's part of demand 3; refusal 6).
 -- Assumes nothing.
-use Prim.Native.Nat.{ℕ}
+use Prim.Native.Nat.{ℕ, min}
 use mathlib.Core.Logic.{_↔_}
 use mathlib.Core.Path.{_≡_}
 use mathlib.Core.List.{List, [], _∷_}
@@ -9,15 +9,16 @@ use Rattle.record.specs.Problem.{numberOf}
 use Rattle.record.specs.declared.Answer.the-variants.{Done}
 use Rattle.board.specs.declared.Board.{Board}
 use Rattle.grid.specs.Cells.{Literal}
-use Rattle.board.specs.Board.{Call, decide, undo, find, SameCells, SameDecisions, afterAll, refusal}
+use Rattle.board.specs.Board.{Call, decide, undo, find, SameCells, SameDecisions, afterAll, refusal, howOften}
 use Rattle.board.specs.Kept.{boardOf, openOf}
 use Rattle.board.specs.Decide.{decideOf, undoOf}
+use Rattle.board.specs.Hints.{findRefusal, afterFind}
 
--- the board that a call leaves, refused or not; find takes the board by value, so it changes nothing on it
+-- the board that a call leaves, refused or not
 unfoldable pub left : Board → Call → Board
 left b (decide i v) = decideOf b i v .board
 left b undo = undoOf b .board
-left b (find k) = b
+left b (find k) = afterFind b k
 
 -- the board that a list of calls leaves, each on the board that the call before left
 unfoldable pub leftAll : Board → List Call → Board
@@ -36,12 +37,19 @@ pub record Leaves (b : Board) : Type 0 where
 abbrev pub standing : Puzzle → List Call → List Literal
 standing p cs = afterAll (p .grid) cs []
 
+-- the hints that the board counts after the calls cs: the accepted finds among them, or 65,535 where they are more
+abbrev pub hintsAfter : Puzzle → List Call → ℕ
+hintsAfter p cs = min (howOften (p .grid) cs) 65535
+
 -- what holds after the lists of calls cs and ds on boards opened from one accepted record s with puzzle p
 pub record AfterCalls (s : List ℕ) (p : Puzzle) (cs ds : List Call) : Type 0 where
-  -- the board is that of the decisions that stand
-  pub board : leftAll (openOf s .board) cs ≡ boardOf p (standing p cs)
+  -- the board is that of the decisions that stand and of the accepted finds
+  pub board : leftAll (openOf s .board) cs ≡ boardOf p (standing p cs) (hintsAfter p cs)
+  -- so its count is the number of accepted finds since open, or 65,535 where they are more
+  pub count : leftAll (openOf s .board) cs .hints ≡ hintsAfter p cs
   -- the next call's refusal is the machine's
   pub decides : (i v : ℕ) → numberOf (decideOf (leftAll (openOf s .board) cs) i v .answer) ≡ refusal (p .grid) (decide i v) (standing p cs)
   pub undoes : numberOf (undoOf (leftAll (openOf s .board) cs) .answer) ≡ refusal (p .grid) undo (standing p cs)
-  -- the boards have equal cells exactly when the same decisions stand
+  pub finds : (k : ℕ) → findRefusal (leftAll (openOf s .board) cs) k ≡ refusal (p .grid) (find k) (standing p cs)
+  -- the boards have equal cells exactly when the same decisions stand, whatever their counts
   pub cells : SameCells (p .grid) (leftAll (openOf s .board) cs .cells) (leftAll (openOf s .board) ds .cells) ↔ SameDecisions (standing p cs) (standing p ds)

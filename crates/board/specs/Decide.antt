@@ -27,15 +27,16 @@ undoRefusal b = cond (wellFormed b) (cond (eqb (b .decided) 0) 10 0) 6
 
 -- the board with one more decision
 unfoldable pub placed : Board → ℕ → ℕ → Board
-placed b i v = record { problem = b .problem; cells = set (b .cells) i v; order = set (b .order) (b .decided) i; decided = b .decided + 1 }
+placed b i v = record { problem = b .problem; cells = set (b .cells) i v; order = set (b .order) (b .decided) i; decided = b .decided + 1; hints = b .hints }
 
--- the board without its latest decision; nothing of it is left
+-- the board without its latest decision; nothing of it is left, and the hints taken stay counted
 unfoldable pub removed : Board → Board
 removed b = record {
   problem = b .problem;
   cells = set (b .cells) (getD (b .order) (b .decided - 1) 0) 2;
   order = set (b .order) (b .decided - 1) 0;
   decided = b .decided - 1;
+  hints = b .hints;
 }
 
 -- the refusal k, which leaves the board, or where it is 0 the next board

@@ -20,12 +20,13 @@ pub data Placing (n count word : ℕ) (cells order : List ℕ) : Answer → List
   twice : word % 32768 / 1024 ≡ 0 → word % 1024 < n → (getD cells (word % 1024) 0 ≡ 2 → ⊥) → Placing n count word cells order (Refused 9) cells order
   put : word % 32768 / 1024 ≡ 0 → word % 1024 < n → getD cells (word % 1024) 0 ≡ 2 → Placing n count word cells order Done (set cells (word % 1024) (word / 32768)) (set order count (word % 1024))
 
--- the board of a problem with these arrays
-abbrev pub held : Problem → List ℕ → List ℕ → ℕ → Board
-held q cells order decided = record { problem = q; cells = cells; order = order; decided = decided }
+-- the board of a problem and a count of hints with these arrays
+abbrev pub held : Problem → ℕ → List ℕ → List ℕ → ℕ → Board
+held q hints cells order decided = record { problem = q; cells = cells; order = order; decided = decided; hints = hints }
 
 -- the arrays are those of a well-formed board of n cells
 pub record Held (n decided : ℕ) (cells order : List ℕ) : Type 0 where
   pub problem : Problem
+  pub hints : ℕ
   pub area : size (gridOf problem) ≡ n
-  pub well : wellFormed (held problem cells order decided) ≡ true
+  pub well : wellFormed (held problem hints cells order decided) ≡ true

@@ -12,23 +12,24 @@ use Rattle.board.specs.declared.Opened.{Opened}
 use Rattle.grid.specs.Cells.{Literal}
 use Rattle.board.specs.Board.{cellsAfter}
 
--- the board of a puzzle with the standing decisions ds, in arrays
-unfoldable pub boardOf : Puzzle → List Literal → Board
-boardOf p ds = record {
+-- the board of a puzzle with the standing decisions ds, in arrays, and the count n of hints
+unfoldable pub boardOf : Puzzle → List Literal → ℕ → Board
+boardOf p ds n = record {
   problem = problemOf p;
   cells = arrayOf 2 (cellsAfter (p .grid) ds);
   order = arrayOf 0 (map (λ (d : Literal). d .0) ds);
   decided = length ds;
+  hints = n;
 }
 
 -- the board of no cells that stands beside a refused record
 unfoldable pub blankBoard : Board
-blankBoard = record { problem = blank; cells = arrayOf 2 []; order = arrayOf 0 []; decided = 0 }
+blankBoard = record { problem = blank; cells = arrayOf 2 []; order = arrayOf 0 []; decided = 0; hints = 0 }
 
--- the answer to what was read, with the fresh board: all undecided
+-- the answer to what was read, with the fresh board: all undecided, no hint taken
 unfoldable pub opening : Outcome Puzzle → Opened
 opening (refused k) = record { answer = Refused k; board = blankBoard }
-opening (ok p) = record { answer = Done; board = boardOf p [] }
+opening (ok p) = record { answer = Done; board = boardOf p [] 0 }
 
 -- what `open` answers of the bytes s
 unfoldable pub openOf : List ℕ → Opened

@@ -1,4 +1,4 @@
-// A board: a problem with its decided cells. It is opened from a record; decide adds a decision, undo removes the latest.
+// A board: a problem with its decided cells and a count of hints. It is opened from a record; decide adds a decision, undo removes the latest.
 use record::Answer;
 use record::Problem;
 ghost use mathlib.Core.Path.{_≡_};
@@ -10,15 +10,18 @@ ghost use Rattle.record.specs.Problem.{gridOf};
 ghost use Rattle.board.specs.Kept.{openOf};
 ghost use Rattle.board.specs.Form.{wellFormed};
 ghost use Rattle.board.specs.Decide.{decideOf, undoOf, decideAllOf, placedFrom};
+ghost use Rattle.board.specs.Hints.{raised};
 ghost use Rattle.board.specs.Inside.{Placing, held, Held};
 
 // A problem with its decisions. `cells` has the state of each cell (0 empty, 1 square, 2 undecided), with 2 behind the grid;
-// `order` has the decided cells in the order decided, `decided` of them, with 0 behind.
+// `order` has the decided cells in the order decided, `decided` of them, with 0 behind; `hints` counts the accepted
+// finds since open, up to 65,535.
 pub struct Board {
     pub problem: Problem,
     pub cells: [u8; 1024],
     pub order: [u16; 1024],
     pub decided: usize,
+    pub hints: u16,
 }
 
 // The answer of `open`, with the board where it is Done, and a blank one of no cells where it is not.
@@ -78,9 +81,9 @@ pub fn place_all(
     bytes: &[u8],
 ) -> Placed
     requires { ⌜ Held n decided (now cells) (now order) ⌝ }
-    ensures { λ r. ⌜ ((q : Problem) → size (gridOf q) ≡ n → wellFormed (held q (now (cells .entry)) (now (order .entry)) decided) ≡ true
-        → placedFrom (held q (now (cells .entry)) (now (order .entry)) decided) (now (bytes .entry))
-        ≡ record { answer = r .answer; board = held q (now (cells .exit)) (now (order .exit)) (r .decided) }) ⌝ }
+    ensures { λ r. ⌜ ((q : Problem) (k : ℕ) → size (gridOf q) ≡ n → wellFormed (held q k (now (cells .entry)) (now (order .entry)) decided) ≡ true
+        → placedFrom (held q k (now (cells .entry)) (now (order .entry)) decided) (now (bytes .entry))
+        ≡ record { answer = r .answer; board = held q k (now (cells .exit)) (now (order .exit)) (r .decided) }) ⌝ }
 {
     let mut count = decided;
     let mut at = 0;
@@ -125,6 +128,16 @@ fn no_order() -> [u16; Board::CELLS]
     [0u16; Board::CELLS]
 }
 
+// The count of hints after one more; at 65,535 it stops rising.
+pub fn raised(count: u16) -> u16
+    ensures { λ r. ⌜ r ≡ raised count ⌝ }
+{
+    if count == 65535 {
+        return 65535;
+    }
+    count + 1
+}
+
 impl Board {
     // The most cells that a grid has.
     pub const CELLS: usize = 32 * 32;
@@ -145,6 +158,7 @@ impl Board {
                 cells: undecided(),
                 order: no_order(),
                 decided: 0,
+                hints: 0,
             },
         }
     }
@@ -272,6 +286,7 @@ impl Board {
                     cells,
                     order,
                     decided: placed.decided,
+                    hints: self.hints,
                 },
             },
             Answer::Refused(_) => Decided {

@@ -49,6 +49,9 @@ fn problems_differ(p: Problem, q: Problem) -> bool
 pub fn boards_differ(x: Board, y: Board) -> bool
     ensures { λ r. ⌜ DiffersUnless r (x ≡ y) ⌝ }
 {
+    if x.hints != y.hints {
+        return true;
+    }
     let p = x.problem;
     let q = y.problem;
     if problems_differ(p, q) || x.decided != y.decided {

@@ -3,6 +3,8 @@
 use super::boards;
 use board::Board;
 use board::Decided;
+use finds::Made;
+use finds::Way;
 use finished::Verdict;
 use libc::STDOUT_FILENO;
 use record::Problem;
@@ -18,6 +20,12 @@ fn taken(d: Decided, b: Board) -> bool {
     let answer = d.answer;
     let board = d.board;
     replay::number(answer) != 6 || boards::boards_differ(board, b)
+}
+
+// Whether a find differs from refusal 6 with its buffer unchanged, or the board b is not unchanged.
+fn found(m: Made, b: Board) -> bool {
+    let board = m.board;
+    m.differs || boards::boards_differ(board, b)
 }
 
 // Whether a verdict is not refusal 6.
@@ -38,8 +46,10 @@ fn accepted(b: Board) -> bool {
         || taken(boards::undo_lent(b), b)
         || taken(b.decide_all(b""), b)
         || taken(b.decide_all(b"\x80\x01"), b)
-        || finds::find_differs(b"", 0, 0, b, 4096, 6, 1)
-        || finds::find_differs(b"", 0, 0, b, 0, 6, 1)
+        || found(finds::find_differs(b"", 0, 0, b, 4096, 6, Way::Value(1)), b)
+        || found(finds::find_differs(b"", 0, 0, b, 4096, 6, Way::Lent), b)
+        || found(finds::find_differs(b"", 0, 0, b, 0, 6, Way::Value(1)), b)
+        || found(finds::find_differs(b"", 0, 0, b, 0, 6, Way::Lent), b)
         || judged(finished::finished(b))
 }
 
@@ -52,6 +62,7 @@ fn with_problem(b: Board, problem: Problem) -> Board {
         cells,
         order,
         decided: b.decided,
+        hints: b.hints,
     }
 }
 

@@ -1,8 +1,9 @@
-// Replays lists of calls from standard input: each call is made, decide and undo by value and on a lent board, and what it answers, leaves
-// and writes is compared with what the list says. Then come boards that no list of calls could leave, which every call must refuse.
+// Replays lists of calls from standard input: each call is made by value and on a lent board, and what it answers, leaves and writes is
+// compared with what the list says. Then come boards that no list of calls could leave, which every call must refuse.
 //
-// A list has a head of lines that begin with `#`, an empty line, and entries to its end: u16 length, that many bytes of record, u16 number
-// of calls, and the calls: u8 kind, and for 0 (decide) u16 index, u8 value, u8 refusal; for 1 (undo) u8 refusal; for 2 (find) u16 length of the
+// A list has a head of lines that begin with `#`, an empty line, and entries to its end: u16 length, that many bytes of record, u16 count of
+// hints that the fresh board is handed in with, u16 number of calls, and the calls, with a u16 behind each, the count of hints that the board
+// then has. A call is u8 kind, and for 0 (decide) u16 index, u8 value, u8 refusal; for 1 (undo) u8 refusal; for 2 (find) u16 length of the
 // buffer, u8 refusal, and where that is 0 u16 number of literals (0 for no reason) and the u16 literals; for 3 (cells) a state for
 // each cell. A u16 has its high byte first; a refusal is 0 for none.
 mod boards;
@@ -10,6 +11,8 @@ mod damaged;
 
 use board::Board;
 use board::Decided;
+use finds::Made;
+use finds::Way;
 use replay::Run;
 use replay::Tally;
 ghost use Prim.Native.Nat.{_<_};
@@ -82,6 +85,20 @@ fn make_undo(list: &[u8], at: usize, b: Board) -> Step
     )
 }
 
+// The step of a find on the board b, made by value as m and on a lent board as l. A refused one leaves the board as it was.
+fn found(b: Board, m: Made, l: Made, expected: usize, end: usize) -> Step {
+    let board = m.board;
+    let lent = l.board;
+    Step {
+        board,
+        differs: m.differs
+            || l.differs
+            || boards::boards_differ(lent, board)
+            || expected != 0 && boards::boards_differ(board, b),
+        end,
+    }
+}
+
 // Makes the find at `at`. A refused one has no literals.
 fn make_find(list: &[u8], at: usize, b: Board) -> Step
     requires { ⌜ at < length (now list) ⌝ }
@@ -95,22 +112,26 @@ fn make_find(list: &[u8], at: usize, b: Board) -> Step
     }
     let refusal = grid::byte(list[at + 3]);
     if refusal != 0 {
-        return Step {
-            board: b,
-            differs: finds::find_differs(list, at + 4, 0, b, size, refusal, 1),
-            end: at + 4,
-        };
+        return found(
+            b,
+            finds::find_differs(list, at + 4, 0, b, size, refusal, Way::Value(1)),
+            finds::find_differs(list, at + 4, 0, b, size, refusal, Way::Lent),
+            refusal,
+            at + 4,
+        );
     }
     let count = replay::number_at(list, at + 4);
     let end = at + 6 + 2 * count;
     if list.len() < end {
         return broken(b);
     }
-    Step {
-        board: b,
-        differs: finds::find_differs(list, at + 6, count, b, size, 0, 1),
+    found(
+        b,
+        finds::find_differs(list, at + 6, count, b, size, 0, Way::Value(1)),
+        finds::find_differs(list, at + 6, count, b, size, 0, Way::Lent),
+        0,
         end,
-    }
+    )
 }
 
 // Compares the cells at `at`.
@@ -140,6 +161,19 @@ fn make_call(list: &[u8], at: usize, b: Board) -> Step
     }
 }
 
+// The step, held against the count of hints that stands behind the call in the list.
+fn counted(list: &[u8], s: Step) -> Step {
+    let board = s.board;
+    if list.len() <= s.end {
+        return broken(board);
+    }
+    Step {
+        board,
+        differs: s.differs || grid::wide(board.hints) != replay::number_at(list, s.end),
+        end: s.end + 2,
+    }
+}
+
 // Makes the calls of an entry, which begin at `start`, on a fresh board of its record.
 fn run_calls(list: &[u8], start: usize, calls: usize, fresh: Board) -> Run {
     let mut b = fresh;
@@ -154,7 +188,7 @@ fn run_calls(list: &[u8], start: usize, calls: usize, fresh: Board) -> Run {
         if list.len() <= at {
             return Run::broken();
         }
-        let s = make_call(list, at, b);
+        let s = counted(list, make_call(list, at, b));
         b = s.board;
         made = made.then(Run::of(s.differs, s.end));
         i += 1;
@@ -162,21 +196,22 @@ fn run_calls(list: &[u8], start: usize, calls: usize, fresh: Board) -> Run {
     made
 }
 
-// Opens the record of the entry at `at`, and makes its calls.
+// Opens the record of the entry at `at`, and makes its calls on the board with the count of hints that it is handed in with.
 fn run_entry(list: &[u8], at: usize) -> Run
     requires { ⌜ at < length (now list) ⌝ }
 {
-    let calls = at + 2 + replay::number_at(list, at);
-    if list.len() < calls + 2 {
+    let hints = at + 2 + replay::number_at(list, at);
+    if list.len() < hints + 4 {
         return Run::broken();
     }
-    let o = Board::open(&list[at + 2..calls]);
+    let o = Board::open(&list[at + 2..hints]);
     let answer = o.answer;
-    let board = o.board;
+    let mut board = o.board;
     if replay::number(answer) != 0 {
         return Run::broken();
     }
-    run_calls(list, calls + 2, replay::number_at(list, calls), board)
+    board.hints = replay::number_at(list, hints) as u16;
+    run_calls(list, hints + 4, replay::number_at(list, hints + 2), board)
 }
 
 // Goes through the entries.

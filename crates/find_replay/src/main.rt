@@ -7,6 +7,7 @@
 // record, u16 number of decisions, that many u16 decisions, u16 number of literals (0 for no reason), that many u16 literals, and a byte, 1
 // for a finished board and 0 for another. A u16 has its high byte first.
 use board::Board;
+use finds::Way;
 use finished::Verdict;
 use replay::Run;
 use replay::Tally;
@@ -31,7 +32,7 @@ fn board_differs(list: &[u8], rounds: usize, at: usize, count: usize, board: Boa
     requires { ⌜ at + 2 * count < length (now list) ⌝ }
     ensures { λ r. ⌜ DiffersUnless r (BoardSo board (now (list .entry)) at count) ⌝ }
 {
-    finds::find_differs(list, at, count, board, 4096, 0, rounds)
+    finds::find_differs(list, at, count, board, 4096, 0, Way::Value(rounds)).differs
         || verdict_differs(
             finished::finished(board),
             replay::byte_at(list, at + 2 * count),

@@ -1,6 +1,6 @@
 -- Laws of holding an answer of find against what a list says.
 -- Assumes nothing.
-use Prim.Native.Nat.{ℕ, zero, suc}
+use Prim.Native.Nat.{ℕ, zero, suc, _≤_}
 use native.Mathlib.Omega.{arith}
 use mathlib.Core.Bool.{Bool, true, false, not, _||_}
 use mathlib.Core.Path.{_≡_, refl, sym, ap, _∙_}
@@ -8,9 +8,10 @@ use mathlib.Core.List.{List, _++_, map}
 use mathlib.Core.Option.{none, some}
 use lib.Dec.{eqb}
 use lib.ListN.{length, take, drop, replicate, length-map}
-use lib.Seq.{drop-at}
+use lib.Seq.{drop-at, length-take-le}
 use borrow.Author.Tests.{eqb-true, eqb-false, not-true, not-false, ne-eqb}
 use Rattle.grid.specs.Cells.{word}
+use Rattle.board.specs.Hints.{findRefusal, afterFind}
 use Rattle.board.specs.declared.Board.{Board}
 use Rattle.literals.specs.declared.Finding.{Finding}
 use Rattle.literals.specs.declared.Finding.the-variants.{Nothing, Reason, Refused}
@@ -18,8 +19,8 @@ use Rattle.literals.specs.Literals.{Found}
 use Rattle.literals.specs.Buffer.{bufferBy}
 use Rattle.replay.specs.Comparisons.{DiffersUnless}
 use Rattle.replay.specs.Lists.{differs}
-use Rattle.replay.proofs.ComparisonLaws.{holds, fails, fails-so, then-differs, same-differs, test-told}
-use Rattle.reasons.specs.Find.{reasonOn, findRefusal, findOf, bufferAfter}
+use Rattle.replay.proofs.ComparisonLaws.{holds, fails, then-differs, same-differs, test-told}
+use Rattle.reasons.specs.Find.{reasonOn, findOf, bufferAfter}
 use Rattle.finds.specs.Finds.{findingOf, lent, left, FindsSo}
 
 -- the test for 0 of a number above it
@@ -56,6 +57,10 @@ module _ {f : Finding} where
     λ t q. let z : _≡_ {A = ℕ} k (suc r) = cc in eqb-false k (suc r) (not-true _ t) z,
   )
 
+-- the board after a find that was lent so many first places
+pub left-board : (b : Board) (size : ℕ) (fresh : List ℕ) {r : Board} → size ≤ length fresh → r ≡ afterFind b (length (take size fresh)) → r ≡ afterFind b size
+left-board b size fresh h e = e ∙ ap (afterFind b) (length-take-le size fresh h)
+
 module _ (b : Board) (size refusal count : ℕ) (said : ℕ → ℕ) (fresh : List ℕ) (e : fresh ≡ replicate 4096 65535) (f : Finding) (g : f ≡ findOf b (take size fresh)) (t : Bool) (w : DiffersUnless t (f ≡ findingOf refusal count)) where
   -- what find answered with the part of the fresh buffer
   answered : f ≡ findOf b (lent size)
@@ -67,8 +72,8 @@ module _ (b : Board) (size refusal count : ℕ) (said : ℕ → ℕ) (fresh : Li
   answer-told = same-differs (λ h. sym answered ∙ h) (λ h. answered ∙ h) t w
 
   -- another answer than the one that is said
-  pub other-answer : t ≡ true → DiffersUnless t (FindsSo b size refusal count said)
-  other-answer q = fails-so t q (λ s. answer-told .1 q (s .0))
+  pub other-answer : t ≡ true → FindsSo b size refusal count said → ⊥
+  other-answer q s = answer-told .1 q (s .0)
 
   -- the answer that is said: then the buffer decides
   pub this-answer : t ≡ false → (r : Bool) → r ≡ differs (bufferAfter b (take size fresh) ++ drop size fresh) said 0 → DiffersUnless r (FindsSo b size refusal count said)

@@ -1,10 +1,12 @@
-// Find with a lent part of a longer buffer, held against what a list says of it: nothing behind its literals may be written, nor anything
-// by a refused one.
+// Find with a lent part of a longer buffer, by value and on a lent board, held against what a list says of it: nothing behind its literals
+// may be written, nor anything by a refused one.
 use board::Board;
 use literals::Finding;
+use reasons::Asked;
 ghost use mathlib.Core.Path.{_≡_};
 ghost use Prim.Native.Nat.{_≤_};
 ghost use lib.ListN.{length};
+ghost use Rattle.board.specs.Hints.{afterFind};
 ghost use Rattle.reasons.specs.Find.{findOf, bufferAfter};
 ghost use Rattle.replay.specs.Comparisons.{DiffersUnless};
 ghost use Rattle.replay.specs.Lists.{numberIn};
@@ -21,21 +23,64 @@ fn finding_differs(found: Finding, refusal: usize, count: usize) -> bool
     }
 }
 
-// Finds this many times and at least once, each time in the same buffer; the last answer, which is that of the first.
-fn find_in_rounds(rounds: usize, board: Board, buffer: &mut [u16]) -> Finding
-    ensures { λ r. ⌜ (r ≡ findOf board (now (buffer .entry))) × (now (buffer .exit) ≡ bufferAfter board (now (buffer .entry))) ⌝ }
+// Finds this many times and at least once, each time on the same board and in the same buffer; the last answer, which is that of the first,
+// with the board that the first left.
+fn find_in_rounds(rounds: usize, board: Board, buffer: &mut [u16]) -> Asked
+    ensures { λ r. ⌜ (r .finding ≡ findOf board (now (buffer .entry))) × (r .board ≡ afterFind board (length (now (buffer .entry))))
+        × (now (buffer .exit) ≡ bufferAfter board (now (buffer .entry))) ⌝ }
 {
-    let mut found = reasons::find(board, buffer);
+    let first = reasons::find(board, buffer);
+    let mut found = first.finding;
+    let left = first.board;
     let mut i = 1;
     while i < rounds {
-        found = reasons::find(board, buffer);
+        found = reasons::find(board, buffer).finding;
         i += 1;
     }
-    found
+    Asked {
+        finding: found,
+        board: left,
+    }
 }
 
-// Whether find on the board, with `size` places lent, this many times and at least once, differs from this refusal and the literals of the
-// list from `at` on.
+// `find` on a lent board: what it answers, with the board that it leaves.
+fn find_lent(board: Board, buffer: &mut [u16]) -> Asked
+    ensures { λ r. ⌜ (r .finding ≡ findOf board (now (buffer .entry))) × (r .board ≡ afterFind board (length (now (buffer .entry))))
+        × (now (buffer .exit) ≡ bufferAfter board (now (buffer .entry))) ⌝ }
+{
+    let mut lent = board;
+    let finding = lent::find_in(&mut lent, buffer);
+    Asked {
+        finding,
+        board: lent,
+    }
+}
+
+// How a find is made: on the board by value, this many times and at least once, or once on a lent board.
+pub enum Way {
+    Value(usize),
+    Lent,
+}
+
+// Finds in this way.
+fn find(way: Way, board: Board, buffer: &mut [u16]) -> Asked
+    ensures { λ r. ⌜ (r .finding ≡ findOf board (now (buffer .entry))) × (r .board ≡ afterFind board (length (now (buffer .entry))))
+        × (now (buffer .exit) ≡ bufferAfter board (now (buffer .entry))) ⌝ }
+{
+    match way {
+        Way::Value(rounds) => find_in_rounds(rounds, board, buffer),
+        Way::Lent => find_lent(board, buffer),
+    }
+}
+
+// A find that was made: whether it differs from what a list says of it, and the board that it left.
+pub struct Made {
+    pub differs: bool,
+    pub board: Board,
+}
+
+// Makes a find on the board, with `size` places lent: whether it differs from this refusal and the literals of the list from `at` on, and
+// the board that it leaves.
 pub fn find_differs(
     list: &[u8],
     at: usize,
@@ -43,12 +88,24 @@ pub fn find_differs(
     board: Board,
     size: usize,
     refusal: usize,
-    rounds: usize,
-) -> bool
+    way: Way,
+) -> Made
     requires { ⌜ (at ≤ length (now list)) × (size ≤ 4096) ⌝ }
-    ensures { λ r. ⌜ DiffersUnless r (FindsSo board size refusal count (numberIn (now (list .entry)) at count 65535)) ⌝ }
+    ensures { λ r. ⌜ (r .board ≡ afterFind board size)
+        × DiffersUnless (r .differs) (FindsSo board size refusal count (numberIn (now (list .entry)) at count 65535)) ⌝ }
 {
     let mut buffer = replay::fresh_buffer();
-    let found = find_in_rounds(rounds, board, &mut buffer[..size]);
-    finding_differs(found, refusal, count) || replay::literals_differ(list, at, count, &buffer)
+    let asked = find(way, board, &mut buffer[..size]);
+    let found = asked.finding;
+    let left = asked.board;
+    if finding_differs(found, refusal, count) {
+        return Made {
+            differs: true,
+            board: left,
+        };
+    }
+    Made {
+        differs: replay::literals_differ(list, at, count, &buffer),
+        board: left,
+    }
 }

@@ -36,10 +36,14 @@ use Rattle.reasons.proofs.BoardArrays.{codes-aside}
 use Rattle.reasons.proofs.Demand3.{reason-on}
 use Rattle.host.specs.Host.{acceptOr, decideBytes, hostFinds, Opens}
 
+-- the call's own board has no hint counted
+pub none-counted : 0 ≤ 65535
+none-counted = omega arith
+
 -- the board's answer to a list of decisions, by the machine's
 unfoldable pub decidedBy : Board → Puzzle → Outcome (List Literal) → Decided
 decidedBy b₀ p (refused k) = refusedWith k b₀
-decidedBy b₀ p (ok ds) = record { answer = Done; board = boardOf p ds }
+decidedBy b₀ p (ok ds) = record { answer = Done; board = boardOf p ds 0 }
 
 module _ (p : Puzzle) (v : Valid p) (b₀ : Board) where
   -- one decision: a refusal ends the list, and otherwise it goes on with the next board
@@ -50,21 +54,21 @@ module _ (p : Puzzle) (v : Valid p) (b₀ : Board) where
   one (suc k) b next rest onto e = refl
 
   -- a list of decisions on the machine's board
-  pub decided-bytes : (bytes : List ℕ) {ds : List Literal} → Standing (p .grid) ds → allPlaced b₀ (placedFrom (boardOf p ds) bytes) ≡ decidedBy b₀ p (decideBytes (p .grid) ds bytes)
+  pub decided-bytes : (bytes : List ℕ) {ds : List Literal} → Standing (p .grid) ds → allPlaced b₀ (placedFrom (boardOf p ds 0) bytes) ≡ decidedBy b₀ p (decideBytes (p .grid) ds bytes)
   unfolding placedFrom decideBytes
   decided-bytes [] s = unfold decidedBy onward in refl
   decided-bytes (a ∷ []) s = unfold decidedBy onward refusedWith in refl
   decided-bytes (a ∷ b ∷ rest) {ds} s =
       go (eqb ((a * 256 + b) % 32768 / 1024) 0) ((a * 256 + b) % 1024) ((a * 256 + b) / 32768) (λ (es : List Literal) (t : Standing (p .grid) es). decided-bytes rest t)
     where
-      go : (t : Bool) (i x : ℕ) → ((es : List Literal) → Standing (p .grid) es → allPlaced b₀ (placedFrom (boardOf p es) rest) ≡ decidedBy b₀ p (decideBytes (p .grid) es rest))
-          → allPlaced b₀ (cond t (onward (decideOf (boardOf p ds) i x .answer) (boardOf p ds) (placedFrom (decideOf (boardOf p ds) i x .board) rest)) (refusedWith 12 (boardOf p ds)))
+      go : (t : Bool) (i x : ℕ) → ((es : List Literal) → Standing (p .grid) es → allPlaced b₀ (placedFrom (boardOf p es 0) rest) ≡ decidedBy b₀ p (decideBytes (p .grid) es rest))
+          → allPlaced b₀ (cond t (onward (decideOf (boardOf p ds 0) i x .answer) (boardOf p ds 0) (placedFrom (decideOf (boardOf p ds 0) i x .board) rest)) (refusedWith 12 (boardOf p ds 0)))
           ≡ decidedBy b₀ p (cond t (acceptOr (refusal (p .grid) (decide i x) ds) (decideBytes (p .grid) (after (p .grid) (decide i x) ds) rest)) (refused 12))
       go false i x next = unfold decidedBy onward refusedWith in refl
       go true i x next =
-          rw (decide-left p v s i x, ← decide-number p v s i x)
-          (unfold decideOf in one (decideRefusal (boardOf p ds) i x) (boardOf p ds) (placed (boardOf p ds) i x) (decideBytes (p .grid) (after (p .grid) (decide i x) ds) rest)
-          (placedFrom (boardOf p (after (p .grid) (decide i x) ds)) rest) (next (after (p .grid) (decide i x) ds) (after-standing (p .grid) (decide i x) s)))
+          rw (decide-left p v none-counted s i x, ← decide-number p v none-counted s i x)
+          (unfold decideOf in one (decideRefusal (boardOf p ds 0) i x) (boardOf p ds 0) (placed (boardOf p ds 0) i x) (decideBytes (p .grid) (after (p .grid) (decide i x) ds) rest)
+          (placedFrom (boardOf p (after (p .grid) (decide i x) ds) 0) rest) (next (after (p .grid) (decide i x) ds) (after-standing (p .grid) (decide i x) s)))
 
 -- the decisions that are accepted stand
 pub bytes-standing : (g : Grid) (bytes : List ℕ) {ds es : List Literal} → Standing g ds → decideBytes g ds bytes ≡ ok es → Standing g es
@@ -86,10 +90,10 @@ bytes-standing g (a ∷ b ∷ rest) {ds} {es} s e =
         (next (after g (decide i x) ds) (after-standing g (decide i x) s)) q
 
 -- the reason on a board, by its arrays
-pub reason-held : (q : Problem) (cells order : List ℕ) (decided : ℕ)
-    → reasonOn (held q cells order decided) ≡ findReason (puzzleWith (sized (q .height) (q .width)) (linesOf (q .arrows) (q .ends) (q .count))) (take (q .height * q .width) cells)
+pub reason-held : (q : Problem) (hints : ℕ) (cells order : List ℕ) (decided : ℕ)
+    → reasonOn (held q hints cells order decided) ≡ findReason (puzzleWith (sized (q .height) (q .width)) (linesOf (q .arrows) (q .ends) (q .count))) (take (q .height * q .width) cells)
 unfolding reasonOn cellsOn gridOf puzzleOf size
-reason-held q cells order decided = sym (codes-aside (puzzleOf q) (take (q .height * q .width) cells))
+reason-held q hints cells order decided = sym (codes-aside (puzzleOf q) (take (q .height * q .width) cells))
 
 -- ---- the call, step by step
 
@@ -110,7 +114,7 @@ open-done s o e f = sym e ∙ ap (λ (a : Answer). record { answer = a; board = 
 pub record OpensAs (s : List ℕ) (b : Board) : Type 0 where
   pub puzzle : Puzzle
   pub reads : readRecord s ≡ ok puzzle
-  pub fresh : b ≡ boardOf puzzle []
+  pub fresh : b ≡ boardOf puzzle [] 0
 
 pub opens-as : (s : List ℕ) (b : Board) → Opens s b → OpensAs s b
 unfolding openOf opening
@@ -120,7 +124,7 @@ opens-as s b e = go (readRecord s) refl e
     go (refused m) q f = let g = ap (λ (o : Opened). o .answer) f in let z : _≡_ {A = ℕ} 0 1 = cc in absurd (omega arith)
     go (ok p) q f = record { puzzle = p; reads = q; fresh = sym (ap (λ (o : Opened). o .board) f) }
 
-module _ (s : List ℕ) {p : Puzzle} (reads : readRecord s ≡ ok p) {b : Board} (fresh : b ≡ boardOf p []) where
+module _ (s : List ℕ) {p : Puzzle} (reads : readRecord s ≡ ok p) {b : Board} (fresh : b ≡ boardOf p [] 0) where
   valid : Valid p
   valid = record-valid s reads
 
@@ -134,7 +138,7 @@ module _ (s : List ℕ) {p : Puzzle} (reads : readRecord s ≡ ok p) {b : Board}
 
   -- the board is well formed
   pub opens-well : wellFormed b ≡ true
-  opens-well = rw fresh (standing-well p valid none)
+  opens-well = rw fresh (standing-well p valid none-counted none)
 
   module _ (decisions : List ℕ) (n : ℕ) where
     -- an output that is too short
@@ -149,7 +153,7 @@ module _ (s : List ℕ) {p : Puzzle} (reads : readRecord s ≡ ok p) {b : Board}
 
     -- the board's list of decisions answers as the machine does
     all-decided : allPlaced b (placedFrom b decisions) ≡ decidedBy b p (decideBytes (p .grid) [] decisions)
-    all-decided = rw fresh (decided-bytes p valid (boardOf p []) decisions none)
+    all-decided = rw fresh (decided-bytes p valid (boardOf p [] 0) decisions none)
 
     -- what placing all decisions answers, and the board that it leaves
     module _ (a : Answer) (left : Board) (e : placedFrom b decisions ≡ record { answer = a; board = left }) (h : 2 * (3 * (b .problem .height * b .problem .width) + 1) ≤ n) where
@@ -172,5 +176,5 @@ module _ (s : List ℕ) {p : Puzzle} (reads : readRecord s ≡ ok p) {b : Board}
           go (refused m) q g = let a = ap (λ (d : Decided). d .answer) g in let z : _≡_ {A = ℕ} 0 1 = cc in absurd (omega arith)
           go (ok ds) q g =
               let t : Standing (p .grid) ds = bytes-standing (p .grid) decisions none q in
-              let z : left ≡ boardOf p ds = ap (λ (d : Decided). d .board) g in
-              rw (z, reason-on p valid t) refl
+              let z : left ≡ boardOf p ds 0 = ap (λ (d : Decided). d .board) g in
+              rw (z, reason-on p valid 0 t) refl

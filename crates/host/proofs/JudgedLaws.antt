@@ -29,7 +29,7 @@ use Rattle.finished.proofs.FinishedLaws.{finished-means}
 use Rattle.host.specs.Host.{decideBytes, Opens}
 use Rattle.host.specs.Inside.{verdictNumber, judgedOn, judgedBy}
 use Rattle.host.specs.Judged.{hostFinished, judged, FinishedBy}
-use Rattle.host.proofs.HostLaws.{decidedBy, decided-bytes, bytes-standing, opens-as}
+use Rattle.host.proofs.HostLaws.{none-counted, decidedBy, decided-bytes, bytes-standing, opens-as}
 
 -- the decisions are accepted, or one is refused
 pub done-judged : (d : Decided) → d .answer ≡ Done → verdictNumber (finishedOf (d .board)) ≡ judgedBy d
@@ -46,23 +46,23 @@ verdict-number true = refl
 verdict-number false = refl
 
 -- on the board of standing decisions
-finished-on : (p : Puzzle) → Valid p → {ds : List Literal} → Standing (p .grid) ds → finishedOf (boardOf p ds) ≡ verdict (finishedTest p (cellsAfter (p .grid) ds))
+finished-on : (p : Puzzle) → Valid p → {ds : List Literal} → Standing (p .grid) ds → finishedOf (boardOf p ds 0) ≡ verdict (finishedTest p (cellsAfter (p .grid) ds))
 unfolding finishedOf boardOf
-finished-on p v {ds} s = rw (standing-well p v s, cells-on p v s, problem-puzzle p v) refl
+finished-on p v {ds} s = rw (standing-well p v none-counted s, cells-on p v 0 s, problem-puzzle p v) refl
 
 -- what the decisions leave, by the outcome of their bytes
 judged-decided : (p : Puzzle) → Valid p → (decisions : List ℕ) (r : Outcome (List Literal)) → decideBytes (p .grid) [] decisions ≡ r
-    → judgedBy (decidedBy (boardOf p []) p r) ≡ judged (r >>= λ ds. ok (finishedTest p (cellsAfter (p .grid) ds)))
+    → judgedBy (decidedBy (boardOf p [] 0) p r) ≡ judged (r >>= λ ds. ok (finishedTest p (cellsAfter (p .grid) ds)))
 unfolding decidedBy refusedWith judgedBy judgedOn judged _>>=_
 judged-decided p v decisions (refused k) q = refl
 judged-decided p v decisions (ok ds) q = rw (finished-on p v (bytes-standing (p .grid) decisions none q)) (verdict-number (finishedTest p (cellsAfter (p .grid) ds)))
 
 -- on a fresh board
 judged-fresh : (p : Puzzle) → Valid p → (decisions : List ℕ)
-    → judgedBy (decideAllOf (boardOf p []) decisions) ≡ judged (decideBytes (p .grid) [] decisions >>= λ ds. ok (finishedTest p (cellsAfter (p .grid) ds)))
+    → judgedBy (decideAllOf (boardOf p [] 0) decisions) ≡ judged (decideBytes (p .grid) [] decisions >>= λ ds. ok (finishedTest p (cellsAfter (p .grid) ds)))
 unfolding decideAllOf
 judged-fresh p v decisions =
-    rw (standing-well p v none, decided-bytes p v (boardOf p []) decisions none) (judged-decided p v decisions (decideBytes (p .grid) [] decisions) refl)
+    rw (standing-well p v none-counted none, decided-bytes p v (boardOf p [] 0) decisions none) (judged-decided p v decisions (decideBytes (p .grid) [] decisions) refl)
 
 -- what comes after an accepted record
 pub judged-open : (s : List ℕ) (b : Board) → Opens s b → (decisions : List ℕ) → judgedBy (decideAllOf b decisions) ≡ judged (hostFinished s decisions)

@@ -1,8 +1,12 @@
-// Decide and undo on one board lent by the caller.
+// Decide, undo and find on one board lent by the caller.
 use board::Board;
+use literals::Finding;
 use record::Answer;
 ghost use mathlib.Core.Path.{_≡_};
+ghost use lib.ListN.{length};
 ghost use Rattle.board.specs.Decide.{decideOf, undoOf};
+ghost use Rattle.board.specs.Hints.{afterFind};
+ghost use Rattle.reasons.specs.Find.{findOf, bufferAfter};
 
 // `decide` on a lent board.
 pub fn decide_in(board: &mut Board, index: usize, value: u8) -> Answer
@@ -20,4 +24,15 @@ pub fn undo_in(board: &mut Board) -> Answer
     let d = (*board).undo();
     *board = d.board;
     d.answer
+}
+
+// `find` on a lent board.
+pub fn find_in(board: &mut Board, buffer: &mut [u16]) -> Finding
+    ensures { λ r. ⌜ (r ≡ findOf (now (board .entry)) (now (buffer .entry)))
+        × (now (board .exit) ≡ afterFind (now (board .entry)) (length (now (buffer .entry))))
+        × (now (buffer .exit) ≡ bufferAfter (now (board .entry)) (now (buffer .entry))) ⌝ }
+{
+    let a = reasons::find(*board, buffer);
+    *board = a.board;
+    a.finding
 }

@@ -12,7 +12,8 @@ use Rattle.board.specs.declared.Board.{Board}
 use Rattle.literals.specs.Literals.{Found}
 use Rattle.literals.specs.declared.Finding.the-variants.{Reason}
 use Rattle.literals.specs.Buffer.{findingBy, bufferBy}
-use Rattle.reasons.specs.Find.{reasonOn, findRefusal, findOf, bufferAfter}
+use Rattle.board.specs.Hints.{findRefusal}
+use Rattle.reasons.specs.Find.{reasonOn, findOf, bufferAfter}
 
 by-reason : (k : ℕ) (f : Found) (buffer : List ℕ) (n : ℕ) → findingBy k f ≡ Reason n → drop n (bufferBy k f buffer) ≡ drop n buffer
 unfolding findingBy bufferBy

@@ -39,7 +39,8 @@ use Rattle.groups.specs.Arrays.{linesOf}
 use Rattle.inconsistency.specs.Arrays.{ArrowArrays}
 use Rattle.literals.specs.Buffer.{findingBy, bufferBy}
 use Rattle.literals.specs.Inside.{FoundAs}
-use Rattle.reasons.specs.Find.{cellsOn, reasonOn, findRefusal, findOf, bufferAfter}
+use Rattle.board.specs.Hints.{hinted, findRefusal, hintedBy, afterFind}
+use Rattle.reasons.specs.Find.{cellsOn, reasonOn, findOf, bufferAfter}
 use Rattle.board.specs.Board.{enough}
 
 -- numbers that rise
@@ -127,17 +128,21 @@ pub board-arrays : (b : Board) → wellFormed b ≡ true
     → ArrowArrays (b .problem .height * b .problem .width) (b .problem .arrows) (b .problem .ends) (b .problem .count) (last 0 (take (b .problem .count) (b .problem .ends)))
 board-arrays b h = problem-arrays (b .problem) (whole-is b h .problem)
 
+-- find on the board b with this buffer: its answer, the board and the buffer after it
+abbrev pub Finds : Board → List ℕ → Finding → Board → List ℕ → Type 0
+Finds b buffer finding left after = (finding ≡ findOf b buffer) × (left ≡ afterFind b (length buffer)) × (after ≡ bufferAfter b buffer)
+
 -- what find answers: 6, 11, or what was found
-pub find-ill : (b : Board) (buffer : List ℕ) → wellFormed b ≡ false → (Refused 6 ≡ findOf b buffer) × (buffer ≡ bufferAfter b buffer)
-unfolding findOf bufferAfter findRefusal findingBy bufferBy
-find-ill b buffer h = (rw h refl, rw h refl)
+pub find-ill : (b : Board) (buffer : List ℕ) → wellFormed b ≡ false → Finds b buffer (Refused 6) b buffer
+unfolding findOf afterFind bufferAfter findRefusal findingBy hintedBy bufferBy
+find-ill b buffer h = (rw h refl, rw h refl, rw h refl)
 
 pub find-short : (b : Board) (buffer : List ℕ) → wellFormed b ≡ true → length buffer < 3 * (b .problem .height * b .problem .width) + 1
-    → (Refused 11 ≡ findOf b buffer) × (buffer ≡ bufferAfter b buffer)
-unfolding findOf bufferAfter findRefusal findingBy bufferBy enough gridOf size
+    → Finds b buffer (Refused 11) b buffer
+unfolding findOf afterFind bufferAfter findRefusal findingBy hintedBy bufferBy enough gridOf size
 find-short b buffer h l =
     let t = lt-ltb (length buffer) (3 * (b .problem .height * b .problem .width) + 1) l in
-    (rw (h, t) refl, rw (h, t) refl)
+    (rw (h, t) refl, rw (h, t) refl, rw (h, t) refl)
 
 -- a reason goes by the grid and the arrows alone
 pub codes-aside : (p : Puzzle) (cells : List ℕ) → findReason (puzzleWith (p .grid) (p .arrows)) cells ≡ findReason p cells
@@ -146,9 +151,9 @@ codes-aside p cells = refl
 
 pub find-found : (b : Board) (buffer : List ℕ) {after : List ℕ} {r : Finding} → wellFormed b ≡ true → 3 * (b .problem .height * b .problem .width) + 1 ≤ length buffer
     → FoundAs (findReason (puzzleWith (sized (b .problem .height) (b .problem .width)) (linesOf (b .problem .arrows) (b .problem .ends) (b .problem .count))) (take (b .problem .height * b .problem .width) (b .cells))) buffer after r
-    → (r ≡ findOf b buffer) × (after ≡ bufferAfter b buffer)
-unfolding findOf bufferAfter findRefusal enough gridOf size reasonOn cellsOn puzzleOf
+    → Finds b buffer r (hinted b) after
+unfolding findOf afterFind bufferAfter findRefusal hintedBy enough gridOf size reasonOn cellsOn puzzleOf
 find-found b buffer h l x =
     let t = le-ltb (length buffer) (3 * (b .problem .height * b .problem .width) + 1) l in
     let same = codes-aside (puzzleOf (b .problem)) (cellsOn b) in
-    (x .answer ∙ ap (findingBy 0) same ∙ rw (h, t) refl, x .buffer ∙ ap (λ (f : Found). bufferBy 0 f buffer) same ∙ rw (h, t) refl)
+    (x .answer ∙ ap (findingBy 0) same ∙ rw (h, t) refl, rw (h, t) refl, x .buffer ∙ ap (λ (f : Found). bufferBy 0 f buffer) same ∙ rw (h, t) refl)

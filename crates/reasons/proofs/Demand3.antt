@@ -17,15 +17,16 @@ use Rattle.record.specs.Valid.{Valid}
 use Rattle.record.proofs.RecordLaws.{record-valid, valid-size}
 use Rattle.record.proofs.ProblemLaws.{problem-puzzle}
 use Rattle.grid.specs.Cells.{Literal, word}
-use Rattle.board.specs.Board.{Call, find, refusal, Full, cellsAfter, enough}
+use Rattle.board.specs.Board.{Call, Full, cellsAfter, enough}
 use Rattle.groups.specs.Rules.{BlockRules}
 use Rattle.board.specs.Kept.{boardOf}
-use Rattle.board.specs.Calls.{standing}
+use Rattle.board.specs.Calls.{standing, hintsAfter}
 use Rattle.board.proofs.Standing.{Standing, calls-standing, cells-valid, standing-low}
-use Rattle.board.proofs.CallLaws.{standing-well, opened-left, after-calls}
+use Rattle.board.proofs.CallLaws.{standing-well, after-low, opened-left, after-calls}
 use Rattle.literals.specs.Literals.{Found}
 use Rattle.reasons.specs.Reasons.{findOn}
-use Rattle.reasons.specs.Find.{cellsOn, reasonOn, findRefusal, findOf, bufferAfter, literalOf, told, answerOn}
+use Rattle.board.specs.Hints.{findRefusal}
+use Rattle.reasons.specs.Find.{cellsOn, reasonOn, findOf, bufferAfter, literalOf, told, answerOn}
 use Rattle.literals.specs.Buffer.{findingBy, bufferBy}
 use Rattle.reasons.specs.Demand3.{boardAfter, Demand}
 use Rattle.reasons.proofs.OnMachine.{OnMachine, on-machine}
@@ -48,43 +49,44 @@ unfolding told findingBy bufferBy
 told-found none a h = refl
 told-found (some r) a h = rw (take-at (map word r) (drop (length r) a) (length r) (length-map r word), literals-words r (h r refl)) refl
 
--- on the board of standing decisions
-module _ (p : Puzzle) (v : Valid p) {ds : List Literal} (s : Standing (p .grid) ds) where
+-- on the board of standing decisions, with any count of hints
+module _ (p : Puzzle) (v : Valid p) (n : ℕ) {ds : List Literal} (s : Standing (p .grid) ds) where
   -- the cells are those of the machine
-  pub cells-on : cellsOn (boardOf p ds) ≡ cellsAfter (p .grid) ds
+  pub cells-on : cellsOn (boardOf p ds n) ≡ cellsAfter (p .grid) ds
   unfolding cellsOn boardOf problemOf gridOf
   cells-on = rw (← cells-valid s .long) (array-take 2 (cellsAfter (p .grid) ds))
 
   -- and so is the reason that applies
-  pub reason-on : reasonOn (boardOf p ds) ≡ findOn p ds
+  pub reason-on : reasonOn (boardOf p ds n) ≡ findOn p ds
   unfolding reasonOn findOn boardOf
   reason-on = rw (cells-on, problem-puzzle p v) refl
 
-  accepted : (k : ℕ) → enough (p .grid) ≤ k → findRefusal (boardOf p ds) k ≡ 0
+module _ (p : Puzzle) (v : Valid p) {n : ℕ} (low : n ≤ 65535) {ds : List Literal} (s : Standing (p .grid) ds) where
+  accepted : (k : ℕ) → enough (p .grid) ≤ k → findRefusal (boardOf p ds n) k ≡ 0
   unfolding findRefusal boardOf problemOf gridOf
-  accepted k h = rw (standing-well p v s, le-ltb k (enough (p .grid)) h) refl
+  accepted k h = rw (standing-well p v low s, le-ltb k (enough (p .grid)) h) refl
 
-  short : (k : ℕ) → k < enough (p .grid) → findRefusal (boardOf p ds) k ≡ 11
+  short : (k : ℕ) → k < enough (p .grid) → findRefusal (boardOf p ds n) k ≡ 11
   unfolding findRefusal boardOf problemOf gridOf
-  short k h = rw (standing-well p v s, lt-ltb k (enough (p .grid)) h) refl
+  short k h = rw (standing-well p v low s, lt-ltb k (enough (p .grid)) h) refl
 
   -- every index of a reason is below 32,768
-  module _ (low : (r : List Literal) → findOn p ds ≡ some r → (l : Literal) → List·Memᴰ l r → l .0 < 32768) where
+  module _ (small : (r : List Literal) → findOn p ds ≡ some r → (l : Literal) → List·Memᴰ l r → l .0 < 32768) where
     -- a long enough buffer gets the reason that applies, a shorter one is refused
-    pub long-answer : (a : List ℕ) → enough (p .grid) ≤ length a → answerOn (boardOf p ds) a ≡ ok (findOn p ds)
+    pub long-answer : (a : List ℕ) → enough (p .grid) ≤ length a → answerOn (boardOf p ds n) a ≡ ok (findOn p ds)
     unfolding answerOn findOf bufferAfter
-    long-answer a h = rw (accepted (length a) h, reason-on) (told-found (findOn p ds) a low)
+    long-answer a h = rw (accepted (length a) h, reason-on p v n s) (told-found (findOn p ds) a small)
 
-    short-answer : (a : List ℕ) → length a < enough (p .grid) → answerOn (boardOf p ds) a ≡ refused 11
+    short-answer : (a : List ℕ) → length a < enough (p .grid) → answerOn (boardOf p ds n) a ≡ refused 11
     unfolding answerOn findOf bufferAfter told findingBy bufferBy
     short-answer a h = rw (short (length a) h) refl
 
-    short-buffer : (a : List ℕ) → length a < enough (p .grid) → bufferAfter (boardOf p ds) a ≡ a
+    short-buffer : (a : List ℕ) → length a < enough (p .grid) → bufferAfter (boardOf p ds n) a ≡ a
     unfolding bufferAfter bufferBy
     short-buffer a h = rw (short (length a) h) refl
 
     -- so a reason that is told is the one that applies
-    told-reason : (a : List ℕ) (r : List Literal) → answerOn (boardOf p ds) a ≡ ok (some r) → findOn p ds ≡ some r
+    told-reason : (a : List ℕ) (r : List Literal) → answerOn (boardOf p ds n) a ≡ ok (some r) → findOn p ds ≡ some r
     told-reason a r e = go (decLe (enough (p .grid)) (length a))
       where
         go : Dec (enough (p .grid) ≤ length a) → findOn p ds ≡ some r
@@ -99,7 +101,7 @@ demand-3 s p read cs ds = record {
   answer = λ same a b h k. reasons cs a h ∙ ap ok (m .answer same) ∙ sym (reasons ds b k);
   reasons = reasons cs;
   short = λ a h.
-      rw (board cs) (short-answer p v (calls-standing (p .grid) cs) (low cs) a h, short-buffer p v (calls-standing (p .grid) cs) (low cs) a h);
+      rw (board cs) (short-answer p v (after-low p cs) (calls-standing (p .grid) cs) (small cs) a h, short-buffer p v (after-low p cs) (calls-standing (p .grid) cs) (small cs) a h);
   stands = λ a r e. m .stands r (reason cs a r e);
   refutes = λ a r e. m .refutes r (reason cs a r e);
   finds = λ full a h. full-board full a h;
@@ -111,28 +113,23 @@ demand-3 s p read cs ds = record {
     m : OnMachine p cs ds
     m = on-machine s p read cs ds
 
-    board : (cs : List Call) → boardAfter s cs ≡ boardOf p (standing p cs)
+    board : (cs : List Call) → boardAfter s cs ≡ boardOf p (standing p cs) (hintsAfter p cs)
     board cs = opened-left s p read cs
 
-    low : (cs : List Call) (r : List Literal) → findOn p (standing p cs) ≡ some r → (l : Literal) → List·Memᴰ l r → l .0 < 32768
-    low cs r e l q =
+    small : (cs : List Call) (r : List Literal) → findOn p (standing p cs) ≡ some r → (l : Literal) → List·Memᴰ l r → l .0 < 32768
+    small cs r e l q =
         omega (arith, standing-low (calls-standing (p .grid) cs) l (on-machine s p read cs cs .stands r e l q) .0, valid-size v)
 
     reasons : (cs : List Call) (a : List ℕ) → enough (p .grid) ≤ length a → answerOn (boardAfter s cs) a ≡ ok (findOn p (standing p cs))
-    reasons cs a h = rw (board cs) (long-answer p v (calls-standing (p .grid) cs) (low cs) a h)
+    reasons cs a h = rw (board cs) (long-answer p v (after-low p cs) (calls-standing (p .grid) cs) (small cs) a h)
 
     reason : (cs : List Call) (a : List ℕ) (r : List Literal) → answerOn (boardAfter s cs) a ≡ ok (some r) → findOn p (standing p cs) ≡ some r
-    reason cs a r e = told-reason p v (calls-standing (p .grid) cs) (low cs) a r (rw (board cs) at e)
+    reason cs a r e = told-reason p v (after-low p cs) (calls-standing (p .grid) cs) (small cs) a r (rw (board cs) at e)
 
     full-board : Full (p .grid) (cellsOn (boardAfter s cs)) → (a : List ℕ) → enough (p .grid) ≤ length a
         → (answerOn (boardAfter s cs) a ≡ ok none) ↔ BlockRules p (cellsOn (boardAfter s cs))
     full-board full a h =
-        let shown : cellsOn (boardAfter s cs) ≡ cellsAfter (p .grid) (standing p cs) = rw (board cs) (cells-on p v (calls-standing (p .grid) cs)) in
+        let shown : cellsOn (boardAfter s cs) ≡ cellsAfter (p .grid) (standing p cs) = rw (board cs) (cells-on p v (hintsAfter p cs) (calls-standing (p .grid) cs)) in
         let q = m .finds (rw shown at full) in
         let e = reasons cs a h in
         (λ none. rw shown (q .0 (cc)), λ rules. let f = q .1 (rw shown at rules) in cc)
-
--- after any list of calls find's refusal is the machine's
-pub find-refusal : (s : List ℕ) (p : Puzzle) → readRecord s ≡ ok p → (cs : List Call) (k : ℕ) → findRefusal (boardAfter s cs) k ≡ refusal (p .grid) (find k) (standing p cs)
-unfolding findRefusal refusal enough boardOf problemOf gridOf
-find-refusal s p read cs k = rw (opened-left s p read cs, standing-well p (record-valid s read) (calls-standing (p .grid) cs)) refl

@@ -1,6 +1,7 @@
 -- Demand 3: what holds after any two lists of calls on boards of one accepted record.
--- A list may hold finds with buffers of any length, and calls that are refused. The boards are those that `openOf`, `decideOf` and `undoOf` leave, which
--- the contracts cite; find takes its board by value. The plain machine stands on the other side and sees only the calls.
+-- A list may hold finds with buffers of any length, and calls that are refused. The boards are those that `openOf`, `decideOf`, `undoOf` and `afterFind`
+-- leave, which the contracts cite. The plain machine stands on the other side and sees only the calls. Two boards may differ in their counts of hints:
+-- equal cells means cells only.
 -- Assumes nothing.
 use Prim.Native.Nat.{ℕ, _≤_, _<_}
 use mathlib.Core.Logic.{_↔_}

@@ -1,17 +1,14 @@
--- What find answers on a board, and what it leaves in the lent buffer.
+-- What find answers on a board, and what it leaves in the lent buffer. What it leaves on the board is `afterFind` of crate board.
 -- Assumes nothing.
 use Prim.Native.Nat.{ℕ, _/_, _%_}
-use mathlib.Core.Bool.{cond}
 use mathlib.Core.List.{List, map}
 use mathlib.Core.Option.{none, some}
-use lib.Dec.{ltb}
 use lib.ListN.{length, take}
 use Rattle.grid.specs.Grid.{size}
 use Rattle.record.specs.Record.{Outcome, ok, refused}
 use Rattle.record.specs.Problem.{gridOf, puzzleOf}
 use Rattle.grid.specs.Cells.{Literal}
-use Rattle.board.specs.Board.{enough}
-use Rattle.board.specs.Form.{wellFormed}
+use Rattle.board.specs.Hints.{findRefusal}
 use Rattle.board.specs.declared.Board.{Board}
 use Rattle.literals.specs.Literals.{Found}
 use Rattle.reasons.specs.Reasons.{findReason}
@@ -26,10 +23,6 @@ cellsOn b = take (size (gridOf (b .problem))) (b .cells)
 -- the first reason that applies on a board
 unfoldable pub reasonOn : Board → Found
 reasonOn b = findReason (puzzleOf (b .problem)) (cellsOn b)
-
--- find's refusal on a board with a buffer of k literals: 6, then 11; 0 for none
-unfoldable pub findRefusal : Board → ℕ → ℕ
-findRefusal b k = cond (wellFormed b) (cond (ltb k (enough (gridOf (b .problem)))) 11 0) 6
 
 -- what find answers
 unfoldable pub findOf : Board → List ℕ → Finding

@@ -18,12 +18,12 @@ use Rattle.board.proofs.Fold.{place-refused, place-put, two-left, one-l
 use Rattle.board.proofs.place_all.Statement.{statement}
 use Rattle.board.proofs.place_all.Tie as tie
 
--- amid the bytes, on the board of any problem of n cells that is well formed with the first arrays
+-- amid the bytes, on the board of any problem of n cells and any count of hints that is well formed with the first arrays
 record Amid (n decided : ℕ) (cells₀ order₀ bytes : List ℕ) (count at : ℕ) (cells order : List ℕ) : Type 0 where
   within : at ≤ length bytes
-  same : (q : Problem) → size (gridOf q) ≡ n → wellFormed (held q cells₀ order₀ decided) ≡ true
-      → (wellFormed (held q cells order count) ≡ true)
-      × (placedFrom (held q cells₀ order₀ decided) bytes ≡ placedFrom (held q cells order count) (drop at bytes))
+  same : (q : Problem) (k : ℕ) → size (gridOf q) ≡ n → wellFormed (held q k cells₀ order₀ decided) ≡ true
+      → (wellFormed (held q k cells order count) ≡ true)
+      × (placedFrom (held q k cells₀ order₀ decided) bytes ≡ placedFrom (held q k cells order count) (drop at bytes))
 
 abbrev Inv-loop : tie.InvT-loop
 Inv-loop cells₀ order₀ n decided bytes count₀ at₀ cells order count at = Amid n decided cells₀ order₀ bytes count at cells order
@@ -62,24 +62,24 @@ next-two c =
     (c .before .before .before .before .before .byte .ensures .0) (c .before .before .before .byte2 .ensures .0)
 
 -- the board after a decision that is put
-after-put : (c : tie.After-enum-told Inv-loop μ-loop) (q : Problem) →
+after-put : (c : tie.After-enum-told Inv-loop μ-loop) (q : Problem) (k : ℕ) →
     let a = at-loop (c .before .before) in
     let s = start a .args in
     let p = c .before .before .place in
-    let b₀ = held q (s .cells .now) (s .order .now) (s .decided) in
+    let b₀ = held q k (s .cells .now) (s .order .now) (s .decided) in
     size (gridOf q) ≡ s .n → wellFormed b₀ ≡ true
-    → (placedFrom b₀ (s .bytes .now) ≡ placedFrom (held q (p .last .0) (p .last .1 .0) (a .loop .count + 1)) (drop (a .loop .at + 2) (s .bytes .now)))
-    × (wellFormed (held q (p .last .0) (p .last .1 .0) (a .loop .count + 1)) ≡ true)
-after-put c q e w =
+    → (placedFrom b₀ (s .bytes .now) ≡ placedFrom (held q k (p .last .0) (p .last .1 .0) (a .loop .count + 1)) (drop (a .loop .at + 2) (s .bytes .now)))
+    × (wellFormed (held q k (p .last .0) (p .last .1 .0) (a .loop .count + 1)) ≡ true)
+after-put c q k e w =
     let p = c .before .before in
     let s = start (at-loop p) in
     let t = at-loop p .loop in
-    let r = place-put q (t .cells) (t .order) (s .args .n) (t .count) (first p) (second p) (drop (t .at + 2) (s .args .bytes .now)) e (t .inv .same q e w .0) (low-word (p .before .before .before))
+    let r = place-put q k (t .cells) (t .order) (s .args .n) (t .count) (first p) (second p) (drop (t .at + 2) (s .args .bytes .now)) e (t .inv .same q k e w .0) (low-word (p .before .before .before))
     (rw (c .enum-told .given .1) at (p .place .ensures)) in
-    (t .inv .same q e w .1 ∙ ap (placedFrom (held q (t .cells) (t .order) (t .count))) (next-two p) ∙ r .0, r .1)
+    (t .inv .same q k e w .1 ∙ ap (placedFrom (held q k (t .cells) (t .order) (t .count))) (next-two p) ∙ r .0, r .1)
 
 loop-holds : tie.Need-loop-holds Inv-loop μ-loop
-loop-holds c = record { within = omega arith; same = λ q e w. (w, refl) }
+loop-holds c = record { within = omega arith; same = λ q k e w. (w, refl) }
 
 add-loop : tie.Need-add-loop Inv-loop μ-loop
 add-loop c = search needs
@@ -110,8 +110,8 @@ place-requires c κs =
     let a = tested c .before in
     let t = a .loop in
     let h = start a .pre in
-    let b = held (h .problem) (t .cells) (t .order) (t .count) in
-    let w = whole-is b (t .inv .same (h .problem) (h .area) (h .well) .0) in
+    let b = held (h .problem) (h .hints) (t .cells) (t .order) (t .count) in
+    let w = whole-is b (t .inv .same (h .problem) (h .hints) (h .area) (h .well) .0) in
     (omega (arith, h .area, whole-most b w), low-word (c .before .before), λ i l e. whole-room b w i (rw (h .area) l) e)
 
 enum-told : tie.Need-enum-told Inv-loop μ-loop
@@ -126,17 +126,17 @@ returns c =
     let p = c .before .before in
     let s = start (at-loop p) in
     let t = at-loop p .loop in
-    λ q e w.
-    let r = place-refused q (t .cells) (t .order) (s .args .n) (t .count) (first p) (second p) (drop (t .at + 2) (s .args .bytes .now)) e (t .inv .same q e w .0) (low-word (p .before .before .before))
+    λ q k e w.
+    let r = place-refused q k (t .cells) (t .order) (s .args .n) (t .count) (first p) (second p) (drop (t .at + 2) (s .args .bytes .now)) e (t .inv .same q k e w .0) (low-word (p .before .before .before))
     (rw (c .enum-told2 .given .1) at (p .place .ensures)) in
-    rw (c .enum-told2 .given .1) (t .inv .same q e w .1 ∙ ap (placedFrom (held q (t .cells) (t .order) (t .count))) (next-two p) ∙ r)
+    rw (c .enum-told2 .given .1) (t .inv .same q k e w .1 ∙ ap (placedFrom (held q k (t .cells) (t .order) (t .count))) (next-two p) ∙ r)
 
 add-count : tie.Need-add-count Inv-loop μ-loop
 add-count c =
     let a = at-loop (c .before .before) in
     let h = start a .pre in
     let p = c .before .before .place in
-    omega (arith, whole-is (held (h .problem) (p .last .0) (p .last .1 .0) (a .loop .count + 1)) (after-put c (h .problem) (h .area) (h .well) .1) .few)
+    omega (arith, whole-is (held (h .problem) (h .hints) (p .last .0) (p .last .1 .0) (a .loop .count + 1)) (after-put c (h .problem) (h .hints) (h .area) (h .well) .1) .few)
 
 add-at : tie.Need-add-at Inv-loop μ-loop
 add-at c = search needs
@@ -145,23 +145,23 @@ loop-less : tie.Need-loop-less Inv-loop μ-loop
 loop-less c = search needs
 
 loop-again : tie.Need-loop-again Inv-loop μ-loop
-loop-again c = record { within = omega arith; same = λ q e w. let r = after-put c q e w in (r .1, r .0) }
+loop-again c = record { within = omega arith; same = λ q k e w. let r = after-put c q k e w in (r .1, r .0) }
 
 returns-2 : tie.Need-returns-2 Inv-loop μ-loop
 unfolding placedFrom refusedWith
 returns-2 c =
     let s = start (c .before .before) in
     let t = c .before .before .loop in
-    λ q e w.
-    t .inv .same q e w .1 ∙ ap (placedFrom (held q (t .cells) (t .order) (t .count))) (one-left (s .args .bytes .now) (t .at) (c .if1 .taken) (c .before .loop-test .left))
+    λ q k e w.
+    t .inv .same q k e w .1 ∙ ap (placedFrom (held q k (t .cells) (t .order) (t .count))) (one-left (s .args .bytes .now) (t .at) (c .if1 .taken) (c .before .loop-test .left))
 
 returns-3 : tie.Need-returns-3 Inv-loop μ-loop
 unfolding placedFrom refusedWith
 returns-3 c =
     let s = start (c .before .before) in
     let t = c .before .before .loop in
-    λ q e w.
-    t .inv .same q e w .1 ∙ ap (placedFrom (held q (t .cells) (t .order) (t .count))) (drop-of-length-le (s .args .bytes .now) {i = t .at} (c .if1 .left))
+    λ q k e w.
+    t .inv .same q k e w .1 ∙ ap (placedFrom (held q k (t .cells) (t .order) (t .count))) (drop-of-length-le (s .args .bytes .now) {i = t .at} (c .if1 .left))
 
 pub place-all-spec : {M : Type 1} → statement M
 place-all-spec =

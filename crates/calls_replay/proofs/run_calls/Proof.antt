@@ -23,6 +23,9 @@ returns c = search needs
 make-call-requires : tie.Need-make-call-requires Inv-loop μ-loop
 make-call-requires c κs = search needs
 
+counted-requires : tie.Need-counted-requires Inv-loop μ-loop
+counted-requires c κs = search needs
+
 of-requires : tie.Need-of-requires Inv-loop μ-loop
 of-requires c κs = search needs
 
@@ -51,6 +54,7 @@ run-calls-spec =
     broken-requires
     returns
     make-call-requires
+    counted-requires
     of-requires
     then-requires
     add-i

@@ -27,13 +27,13 @@ verdict-differs-requires c κs = search needs
 returns : tie.Need-returns
 returns c =
     let d = c .before .find-differs in
-    fails-so (d .result) (c .if1 .taken) (λ s. d .ensures .1 (c .if1 .taken) (s .0))
+    fails-so (d .result .differs) (c .if1 .taken) (λ s. d .ensures .1 .1 (c .if1 .taken) (s .0))
 
 returns-2 : tie.Need-returns-2
 returns-2 c =
     let e = c .before .before .before in
     let d = e .before .find-differs in
-    then-differs (d .ensures .0 (e .if1 .left)) (c .verdict-differs .result) (verdict-told (c .before .before .finished .ensures) (c .before .byte-at .ensures .0) (c .verdict-differs .ensures))
+    then-differs (d .ensures .1 .0 (e .if1 .left)) (c .verdict-differs .result) (verdict-told (c .before .before .finished .ensures) (c .before .byte-at .ensures .0) (c .verdict-differs .ensures))
 
 pub board-differs-spec : {M : Type 1} → statement M
 board-differs-spec =

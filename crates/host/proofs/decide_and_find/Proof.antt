@@ -57,12 +57,12 @@ accepted c = c .before .before .before .before .before .before
 
 -- the board after the decisions
 abbrev left : tie.After-place-all → Board
-left c = held (start c .args .t1 .problem) (c .place-all .last .0) (c .place-all .last .1 .0) (c .place-all .result .decided)
+left c = held (start c .args .t1 .problem) (start c .args .t1 .hints) (c .place-all .last .0) (c .place-all .last .1 .0) (c .place-all .result .decided)
 
 -- what `place_all` says of it
 placed : (c : tie.After-place-all) → placedFrom (start c .args .t1) (start c .args .decisions .now) ≡ record { answer = c .place-all .result .answer; board = left c }
 unfolding size gridOf
-placed c = c .place-all .ensures (start c .args .t1 .problem) refl (well (start c))
+placed c = c .place-all .ensures (start c .args .t1 .problem) (start c .args .t1 .hints) refl (well (start c))
 
 -- the first reason on the board after the decisions
 abbrev reason : tie.After-place-all → Found
@@ -79,7 +79,7 @@ finds c s e =
     let o = opens-as s (a .t1) e in
     let r = p .place-all .result in
     decisions-done s (o .reads) (o .fresh) (a .decisions .now) (length (a .output .now)) (r .answer) (left p) (placed p) (long p .if1 .left) (c .enum-told .given .1)
-    ∙ ap ok (reason-held (a .t1 .problem) (p .place-all .last .0) (p .place-all .last .1 .0) (r .decided))
+    ∙ ap ok (reason-held (a .t1 .problem) (a .t1 .hints) (p .place-all .last .0) (p .place-all .last .1 .0) (r .decided))
 
 mul-if1 : tie.Need-mul-if1
 mul-if1 c = omega (arith, few (c .before .before))
@@ -111,7 +111,7 @@ place-all-requires : tie.Need-place-all-requires
 unfolding size gridOf
 place-all-requires c κs =
     let s = begun c in
-    record { problem = s .args .t1 .problem; area = refl; well = well s }
+    record { problem = s .args .t1 .problem; hints = s .args .t1 .hints; area = refl; well = well s }
 
 enum-told : tie.Need-enum-told
 enum-told c = search needs

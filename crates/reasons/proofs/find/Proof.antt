@@ -1,4 +1,4 @@
--- `reasons::find` meets its contract: the board and the buffer are tested, and then the first reason is looked for.
+-- `reasons::find` meets its contract: the board and the buffer are tested, then the first reason is looked for, and the find is counted.
 -- Assumes nothing.
 use Prim.Native.Nat.{_*_, _≤_}
 use native.Mathlib.Omega.{arith}
@@ -7,6 +7,7 @@ use mathlib.Core.Bool.{true}
 use borrow.Author.Tests.{not-true, not-false}
 use Rattle.grid.proofs.SideLaws.{area}
 use Rattle.board.specs.Form.{wellFormed}
+use Rattle.board.specs.Hints.{withHints, hinted}
 use Rattle.reasons.proofs.BoardArrays.{board-sizes, board-arrays, find-ill, find-short, find-found}
 use borrow.Author.Needs.{needs}
 use Rattle.reasons.proofs.find.Statement.{statement}
@@ -56,14 +57,22 @@ find-inconsistency-requires c κs =
     let z = board-sizes (s .args .t1) h in
     (record { tall = z .0; wide = z .1; room = e .if2 .left }, board-arrays (s .args .t1) h)
 
+-- the search, seen from behind the count
+abbrev searched : tie.After-raised → tie.After-find-inconsistency
+searched c = c .before .before .before
+
 same-length : tie.Need-same-length
 same-length c = search needs
 
+raised-requires : tie.Need-raised-requires
+raised-requires c κs = search needs
+
 returns-3 : tie.Need-returns-3
+unfolding hinted withHints
 returns-3 c =
-    let e = tested (c .before .before .before) in
+    let e = tested (searched c .before) in
     let s = e .before .before .before .before in
-    find-found (s .args .t1) (s .args .buffer .now) (formed (e .before)) (e .if2 .left) (c .before .before .find-inconsistency .ensures)
+    rw (c .raised .ensures) (find-found (s .args .t1) (s .args .buffer .now) (formed (e .before)) (e .if2 .left) (searched c .find-inconsistency .ensures))
 
 pub find-spec : {M : Type 1} → statement M
 find-spec =
@@ -76,5 +85,6 @@ find-spec =
     add-if2
     returns-2
     find-inconsistency-requires
+    raised-requires
     same-length
     returns-3)

@@ -45,7 +45,7 @@ returns-2 : tie.Need-returns-2
 unfolding size gridOf
 returns-2 c =
     let e = c .before .before .before .before in
-    c .good-decisions .ensures ∙ board-decisions (board (e .before)) (formed e) (search needs) (search needs)
+    c .good-decisions .ensures ∙ board-decisions (board (e .before)) (formed e) (search needs) (search needs) (search needs)
 
 pub well-formed-spec : {M : Type 1} → statement M
 well-formed-spec =
