@@ -9,7 +9,8 @@ use lib.Seq.{drop-at}
 use Rattle.grid.specs.Cells.{word}
 use Rattle.record.specs.Record.{Outcome, ok, refused}
 use Rattle.literals.specs.Literals.{Found}
-use Rattle.host.specs.Host.{bytesOf, outputAfter, literalCount}
+use Rattle.exported.specs.Written.{bytesOf}
+use Rattle.host.specs.Host.{outputAfter, literalCount}
 use Rattle.host.proofs.OutputLaws.{bytes-length}
 
 pub behind-unchanged : (o : Outcome Found) (output : List ℕ) → drop (2 * literalCount o) (outputAfter o output) ≡ drop (2 * literalCount o) output

@@ -21,7 +21,8 @@ use Rattle.literals.specs.Buffer.{findingBy, bufferBy}
 use Rattle.literals.specs.Inside.{FoundAs}
 use Rattle.literals.specs.declared.Finding.the-variants.{Reason}
 use Rattle.reasons.proofs.ReasonLaws.{reason-length}
-use Rattle.host.specs.Host.{bytesOf, returned, outputAfter}
+use Rattle.exported.specs.Written.{bytesOf}
+use Rattle.host.specs.Host.{returned, outputAfter}
 
 -- k literals of the reason found stand in a buffer's first places
 pub record Literals (found : Found) (k : ℕ) (buffer : List ℕ) : Type 0 where

@@ -8,7 +8,7 @@ use mathlib.Core.List.{List, [], _∷_, _++_, append-assoc}
 use lib.ListN.{length, getD, set, take, drop, length-append, length-drop}
 use lib.Seq.{take-suc, drop-cons, set-at, length-take-le}
 use Rattle.grid.specs.Lists.{flatMap}
-use Rattle.host.specs.Host.{bytesOf}
+use Rattle.exported.specs.Written.{bytesOf}
 
 -- one more literal
 bytes-more : (ws : List ℕ) (w : ℕ) → bytesOf (ws ++ (w ∷ [])) ≡ bytesOf ws ++ ((w / 256) ∷ (w % 256) ∷ [])

@@ -8,20 +8,16 @@ use mathlib.Core.Option.{none, some}
 use lib.Dec.{eqb, leb}
 use lib.IntN.{ℤ, pos, negℤ}
 use lib.ListN.{length, drop}
-use Rattle.grid.specs.Lists.{flatMap}
 use Rattle.grid.specs.Grid.{Grid}
 use Rattle.record.specs.Record.{Outcome, ok, refused, _>>=_, unless, readRecord}
 use Rattle.record.specs.declared.Answer.the-variants.{Done}
+use Rattle.exported.specs.Written.{bytesOf}
 use Rattle.grid.specs.Cells.{Literal, word}
 use Rattle.board.specs.Board.{decide, after, refusal, enough}
 use Rattle.board.specs.Kept.{openOf}
 use Rattle.board.specs.declared.Board.{Board}
 use Rattle.reasons.specs.Reasons.{findOn}
 use Rattle.literals.specs.Literals.{Found}
-
--- 16-bit numbers as bytes, most significant first
-unfoldable pub bytesOf : List ℕ → List ℕ
-bytesOf = flatMap (λ w. (w / 256) ∷ (w % 256) ∷ [])
 
 -- what comes next where k is 0, else the refusal k
 unfoldable pub acceptOr : ℕ → Outcome (List Literal) → Outcome (List Literal)

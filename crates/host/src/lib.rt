@@ -1,12 +1,12 @@
 // The calls that are exported for Rust and C.
 use board::Board;
+use exported::negated;
 use finished::Verdict;
 use literals::Finding;
 use record::Answer;
 ghost use mathlib.Core.Path.{_≡_};
 ghost use Prim.Native.Nat.{ℕ, _+_, _*_, _≤_};
 ghost use mathlib.Core.List.{List, _++_};
-ghost use lib.IntN.{pos, negℤ};
 ghost use lib.ListN.{length, take, drop};
 ghost use Rattle.grid.specs.Lists.{last};
 ghost use Rattle.grid.specs.Side.{sized};
@@ -16,16 +16,10 @@ ghost use Rattle.reasons.specs.Reasons.{findReason};
 ghost use Rattle.groups.specs.Arrays.{linesOf};
 ghost use Rattle.inconsistency.specs.Arrays.{ArrowArrays};
 ghost use Rattle.board.specs.Decide.{decideAllOf};
-ghost use Rattle.host.specs.Host.{bytesOf, hostFinds, returned, outputAfter, Opens};
+ghost use Rattle.exported.specs.Written.{bytesOf};
+ghost use Rattle.host.specs.Host.{hostFinds, returned, outputAfter, Opens};
 ghost use Rattle.host.specs.Inside.{verdictNumber, judgedBy};
 ghost use Rattle.host.specs.Judged.{hostFinished, judged};
-
-// The number of a refusal, negated.
-fn negated(k: u8) -> i32
-    ensures { λ r. ⌜ r ≡ negℤ (pos k) ⌝ }
-{
-    -(k as i32)
-}
 
 // Writes the first `count` literals to the output, each as two bytes, most significant first.
 fn write_literals(literals: &[u16], count: usize, output: &mut [u8])

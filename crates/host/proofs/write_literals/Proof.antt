@@ -6,7 +6,7 @@ use mathlib.Core.Path.{_≡_, ap, _∙_}
 use mathlib.Core.List.{_++_}
 use borrow.Author.Needs.{needs}
 use lib.ListN.{length, take, drop, length-set}
-use Rattle.host.specs.Host.{bytesOf}
+use Rattle.exported.specs.Written.{bytesOf}
 use Rattle.host.proofs.OutputLaws.{write-next, written-length, written-none}
 use Rattle.host.proofs.write_literals.Statement.{statement}
 use Rattle.host.proofs.write_literals.Tie as tie

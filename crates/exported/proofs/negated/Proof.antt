@@ -1,9 +1,9 @@
--- `host::negated` meets its contract.
+-- `exported::negated` meets its contract.
 -- Assumes nothing.
 use borrow.Author.Needs.{needs}
-use Rattle.host.proofs.NegatedLaws.{fits, value}
-use Rattle.host.proofs.negated.Statement.{statement}
-use Rattle.host.proofs.negated.Tie as tie
+use Rattle.exported.proofs.NegatedLaws.{fits, value}
+use Rattle.exported.proofs.negated.Statement.{statement}
+use Rattle.exported.proofs.negated.Tie as tie
 
 cast-result : tie.Need-cast-result
 cast-result c = search needs
