@@ -26,7 +26,7 @@ pub type Literal = (usize, bool);
 /// The bytes that suffice for a reason on the largest grid: 2 × (3 × 32 × 32 + 1).
 const OUTPUT_LIMIT: usize = 2 * (3 * 32 * 32 + 1);
 
-/// Why there is no answer, by the number in README's table of refusals. The exported calls never give [`Refusal::Board`],
+/// Why there is no answer, by its number in README. The exported calls never give [`Refusal::Board`],
 /// [`Refusal::Value`] and [`Refusal::NothingDecided`]: their board is their own, and a decision has one bit of value.
 ///
 /// The table grows, so a `match` needs an arm for the refusals that it doesn't name.
@@ -81,7 +81,7 @@ impl Refusal {
         }
     }
 
-    /// The number in README's table.
+    /// The number in README.
     pub fn number(self) -> u32 {
         match self {
             Refusal::RecordEnds => 1,
