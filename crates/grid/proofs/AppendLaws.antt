@@ -1,4 +1,4 @@
--- Laws of lists that grow at their end, and of tests that agree on a list's members.
+-- Laws of lists that grow at their end, and of tests and functions that agree on a list's members.
 -- Assumes nothing.
 use Prim.Native.Nat.{ℕ, zero, suc, _+_, _<_}
 use native.Mathlib.Nat.{add-zero, zero-add}
@@ -7,11 +7,12 @@ use native.Mathlib.Decide.{ℕ-discrete}
 use native.Mathlib.Omega.{arith}
 use mathlib.Core.Path.{_≡_, refl, sym, ap, _∙_}
 use mathlib.Core.Bool.{Bool, true, false, So, cond, _&&_, _||_, or-false, false≢true}
-use mathlib.Core.List.{List, [], _∷_, _++_, List·Memᴰ, List·Memᴰ·head, List·Memᴰ·tail}
+use mathlib.Core.List.{List, [], _∷_, _++_, map, append-assoc, append-nil, List·Memᴰ, List·Memᴰ·head, List·Memᴰ·tail}
 use lib.Dec.{eqb}
-use lib.ListN.{length, getD, length-append}
+use lib.ListN.{length, getD, take, length-append}
+use lib.Seq.{take-suc}
 use borrow.Author.Tests.{eqb-true, eq-eqb}
-use Rattle.grid.specs.Lists.{range, upto, filter, any, all, init, last, member}
+use Rattle.grid.specs.Lists.{range, upto, filter, any, all, init, last, flatMap, member}
 use Rattle.grid.proofs.ListLaws.{so-false, length-range, getD-range, upto-mem, filter-mem, mem-filter, mem-upto, member-mem, mem-member}
 
 -- two tests that pass together are the same
@@ -83,6 +84,12 @@ module _ {A : Type 0} where
   init-more (y ∷ []) x = refl
   init-more (y ∷ z ∷ l) x = ap {B = List A} (λ m. y ∷ m) (init-more (z ∷ l) x)
 
+module _ {A B : Type 0} where
+  pub flatMap-append : (f : A → List B) (l m : List A) → flatMap f (l ++ m) ≡ flatMap f l ++ flatMap f m
+  unfolding flatMap
+  flatMap-append f [] m = refl
+  flatMap-append f (x ∷ l) m = rw (flatMap-append f l m) (sym (append-assoc (f x) (flatMap f l) (flatMap f m)))
+
 -- the test of membership
 pub member-append : (i : ℕ) (l m : List ℕ) → member i (l ++ m) ≡ (member i l || member i m)
 unfolding member
@@ -101,6 +108,19 @@ pub last-more : (d : ℕ) (l : List ℕ) (x : ℕ) → last d (l ++ (x ∷ [])) 
 unfolding last
 last-more d [] x = refl
 last-more d (y ∷ ys) x = last-more y ys x
+
+-- the last of the first so many
+pub last-taken : (l : List ℕ) (k : ℕ) → k < length l → last 0 (take (suc k) l) ≡ getD l k 0
+last-taken l k h = rw (take-suc l k 0 h) (last-more 0 (take k l) (getD l k 0))
+
+pub last-none : (l : List ℕ) → last 0 (take 0 l) ≡ 0
+unfolding last
+last-none l = refl
+
+-- what is made of one more number
+pub flatMap-more : {B : Type 0} (F : ℕ → List B) (k : ℕ) → flatMap F (upto (k + 1)) ≡ flatMap F (upto k) ++ F k
+unfolding flatMap
+flatMap-more {B} F k = ap (flatMap F) (upto-more k) ∙ flatMap-append F (upto k) (k ∷ []) ∙ ap (λ (l : List B). flatMap F (upto k) ++ l) (append-nil (F k))
 
 -- one more cell is tested
 pub any-more : (p : ℕ → Bool) (k : ℕ) → any p (upto (k + 1)) ≡ (any p (upto k) || p k)
@@ -154,3 +174,21 @@ module _ (p q : ℕ → Bool) where
 
   pub filter-upto : (n : ℕ) → ((x : ℕ) → x < n → p x ≡ q x) → filter p (upto n) ≡ filter q (upto n)
   filter-upto n h = filter-agree (upto n) (λ x m. h x (upto-mem n m))
+
+-- ---- functions that agree on a list's members
+
+module _ {A B : Type 0} where
+  pub map-agree : (f g : A → B) (l : List A) → ((x : A) → List·Memᴰ x l → f x ≡ g x) → map f l ≡ map g l
+  map-agree f g [] h = refl
+  map-agree f g (x ∷ l) h =
+      let a = h x (List·Memᴰ·head refl) in
+      let r = map-agree f g l (λ y m. h y (List·Memᴰ·tail m)) in
+      cc
+
+  pub flatMap-agree : (f g : A → List B) (l : List A) → ((x : A) → List·Memᴰ x l → f x ≡ g x) → flatMap f l ≡ flatMap g l
+  unfolding flatMap
+  flatMap-agree f g [] h = refl
+  flatMap-agree f g (x ∷ l) h =
+      let a = h x (List·Memᴰ·head refl) in
+      let r = flatMap-agree f g l (λ y m. h y (List·Memᴰ·tail m)) in
+      cc

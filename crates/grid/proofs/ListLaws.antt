@@ -290,6 +290,14 @@ module _ {A : Type 0} (f : ℕ → A) (n : ℕ) where
   pub map-upto-past : (i : ℕ) (d : A) → n ≤ i → getD (map f (upto n)) i d ≡ d
   map-upto-past i d h = List·getD-eq-default (map f (upto n)) d {n = i} (omega (arith, length-map-upto))
 
+-- distinct members stand at one place each
+pub distinct-once : (l : List ℕ) → Distinct l → (i j : ℕ) → i < length l → j < length l → getD l i 0 ≡ getD l j 0 → i ≡ j
+distinct-once [] d i j h k e = absurd (omega arith)
+distinct-once (x ∷ xs) d zero zero h k e = refl
+distinct-once (x ∷ xs) d zero (suc j) h k e = absurd (d .0 (subst (λ y. List·Memᴰ y xs) (sym e) (at-mem xs j (omega arith))))
+distinct-once (x ∷ xs) d (suc i) zero h k e = absurd (d .0 (subst (λ y. List·Memᴰ y xs) e (at-mem xs i (omega arith))))
+distinct-once (x ∷ xs) d (suc i) (suc j) h k e = ap suc (distinct-once xs (d .1) i j (omega arith) (omega arith) e)
+
 -- what keeps members distinct
 pub distinct-filter : (p : ℕ → Bool) (l : List ℕ) → Distinct l → Distinct (filter p l)
 unfolding filter

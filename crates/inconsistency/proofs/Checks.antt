@@ -1,18 +1,16 @@
 -- What the searches for reasons 1 and 2 found, as an answer and a lent buffer.
 -- Assumes nothing.
-use Prim.Native.Nat.{ℕ, suc, _*_, _≤_, _<_}
+use Prim.Native.Nat.{ℕ, _*_, _≤_, _<_}
 use mathlib.Core.Bool.{true, false}
-use mathlib.Core.Path.{_≡_, refl, subst}
+use mathlib.Core.Path.{_≡_, subst}
 use mathlib.Core.List.{List, List·Memᴰ}
-use lib.ListN.{length, getD, take}
-use lib.Seq.{take-suc}
-use Rattle.grid.specs.Lists.{last, member}
+use lib.ListN.{take}
+use Rattle.grid.specs.Lists.{member}
 use Rattle.grid.specs.Marks.{Marks}
 use Rattle.grid.specs.Grid.{size}
 use Rattle.grid.specs.Side.{sized}
 use Rattle.grid.proofs.SideLaws.{area, sized-size}
 use Rattle.grid.proofs.ListLaws.{flatMap-mem}
-use Rattle.grid.proofs.AppendLaws.{last-more}
 use Rattle.record.specs.Record.{Puzzle}
 use Rattle.record.specs.Problem.{arrowCells}
 use Rattle.groups.specs.Arrows.{onArrow}
@@ -32,13 +30,6 @@ use Rattle.paths.specs.Ends.{BlockArrays}
 use Rattle.inconsistency.specs.Arrays.{ArrowArrays}
 use Rattle.literals.specs.Inside.{FoundAs, Fit}
 use Rattle.literals.proofs.Findings.{nothing-found, not-refused, found-first, found-next}
-
-pub last-taken : (l : List ℕ) (k : ℕ) → k < length l → last 0 (take (suc k) l) ≡ getD l k 0
-last-taken l k h = rw (take-suc l k 0 h) (last-more 0 (take k l) (getD l k 0))
-
-pub last-none : (l : List ℕ) → last 0 (take 0 l) ≡ 0
-unfolding last
-last-none l = refl
 
 -- ---- the arrays of a board
 

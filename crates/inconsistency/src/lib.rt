@@ -1,8 +1,7 @@
 // The first reason that applies, on the arrays of a board.
 use literals::Finding;
-ghost use mathlib.Core.Path.{_≡_};
-ghost use Prim.Native.Nat.{_*_, _≤_};
-ghost use lib.ListN.{length, take};
+ghost use Prim.Native.Nat.{_*_};
+ghost use lib.ListN.{take};
 ghost use Rattle.grid.specs.Lists.{last};
 ghost use Rattle.grid.specs.Side.{sized};
 ghost use Rattle.growth.specs.Growth.{reason34};
@@ -12,17 +11,6 @@ ghost use Rattle.inconsistency.specs.Arrays.{ArrowArrays, Ready};
 ghost use Rattle.literals.specs.Inside.{Fit, FoundAs};
 ghost use Rattle.growth.specs.Pairs.{viewOn};
 ghost use Rattle.kinds.specs.Inside.{puzzleWith};
-
-// How many cells the arrows have together: the end of the last one.
-fn arrow_total(ends: &[u16; 1024], number: usize) -> usize
-    requires { ⌜ (number ≤ 1024) × (number ≤ length (now ends)) ⌝ }
-    ensures { λ r. ⌜ r ≡ last 0 (take number (now (ends .entry))) ⌝ }
-{
-    if number == 0 {
-        return 0;
-    }
-    grid::wide(ends[number - 1])
-}
 
 // Reasons 3 and 4, if one applies.
 fn check_arrows(
@@ -79,7 +67,7 @@ pub fn find_inconsistency<'a>(
 {
     let mut onarrow = [0u8; 1024];
     let mut labels = [0u16; 1024];
-    let total = arrow_total(ends, number);
+    let total = record::arrow_total(ends, number);
     groups::mark_arrow_cells(arrows, total, &mut onarrow);
     groups::compute_connected_components(cells, true, h, w, &mut labels);
     let first = units::check_potential_groups(

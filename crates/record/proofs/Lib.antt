@@ -4,6 +4,7 @@ pub mod LineLaws
 pub mod PackLaws
 pub mod WriteLaws
 pub mod ProblemLaws
+pub mod LinesLaws
 pub mod CellLaws
 pub mod KeptLaws
 pub mod ArrowLaws

@@ -1,17 +1,20 @@
--- The arrays keep the whole puzzle: what they keep is read back, and valid puzzles that give one problem are one.
+-- The arrays keep the whole puzzle: what they keep is read back, and valid puzzles that give one problem are one. What an answer of `read` says.
 -- Assumes nothing.
 use Prim.Native.Nat.{ℕ, suc, _+_, _-_}
 use native.Mathlib.Omega.{arith}
-use mathlib.Core.Path.{_≡_, refl, ap, _∙_}
+use mathlib.Core.Path.{_≡_, refl, sym, ap, _∙_}
 use mathlib.Core.List.{List, [], _∷_, _++_, append-assoc}
 use lib.ListN.{length, take, drop, replicate, length-append}
 use lib.Seq.{take-append-seam, drop-at}
 use Rattle.grid.specs.Lists.{flatMap, arrayOf}
 use Rattle.grid.specs.Grid.{size}
 use Rattle.grid.proofs.ArrayLaws.{array-take}
-use Rattle.record.specs.Record.{Puzzle}
+use Rattle.fields.specs.Fields.{Outcome, ok, refused}
+use Rattle.record.specs.Record.{Puzzle, readRecord}
 use Rattle.record.specs.Valid.{Valid}
-use Rattle.record.specs.Problem.{endsFrom, arrowCells, problemOf, gridOf, arrowsFrom, puzzleOf}
+use Rattle.record.specs.Problem.{endsFrom, arrowCells, problemOf, gridOf, arrowsFrom, puzzleOf, reading, readOf}
+use Rattle.record.specs.declared.Reading.{Reading}
+use Rattle.record.specs.declared.Answer.the-variants.{Done, Refused}
 
 -- an end for each arrow
 pub length-ends : (at : ℕ) (as′ : List (List ℕ)) → length (endsFrom at as′) ≡ length as′
@@ -48,3 +51,26 @@ cells-kept n cs h = rw (← h) (array-take 0 cs)
 pub problem-puzzle : (p : Puzzle) → Valid p → puzzleOf (problemOf p) ≡ p
 unfolding puzzleOf problemOf gridOf
 problem-puzzle p v = rw (cells-kept (size (p .grid)) (p .given) (v .total), arrows-kept (p .arrows)) refl
+
+-- what was read is refused, or it is a puzzle
+outcome-refused : (o : Outcome Puzzle) (k : ℕ) → reading o .answer ≡ Refused k → o ≡ refused k
+unfolding reading
+outcome-refused (refused j) k e = let z : j ≡ k = cc in ap refused z
+outcome-refused (ok p) k e = let z : _≡_ {A = ℕ} 0 1 = cc in absurd (omega arith)
+
+outcome-done : (o : Outcome Puzzle) → reading o .answer ≡ Done → (p : Puzzle) × (o ≡ ok p) × (reading o .problem ≡ problemOf p)
+unfolding reading
+outcome-done (refused j) e = let z : _≡_ {A = ℕ} 0 1 = cc in absurd (omega arith)
+outcome-done (ok p) e = (p, refl, refl)
+
+-- so it is with the record of which `read` answers
+module _ (s : List ℕ) (r : Reading) (e : r ≡ readOf s) where
+  pub read-refused : (k : ℕ) → r .answer ≡ Refused k → readRecord s ≡ refused k
+  unfolding readOf
+  read-refused k d = outcome-refused (readRecord s) k (ap (λ (x : Reading). x .answer) (sym e) ∙ d)
+
+  pub read-done : r .answer ≡ Done → (p : Puzzle) × (readRecord s ≡ ok p) × (r .problem ≡ problemOf p)
+  unfolding readOf
+  read-done d =
+      let w = outcome-done (readRecord s) (ap (λ (x : Reading). x .answer) (sym e) ∙ d) in
+      (w .0, w .1, ap (λ (x : Reading). x .problem) e ∙ w .2)

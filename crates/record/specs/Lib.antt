@@ -3,3 +3,4 @@ pub mod Write
 pub mod Valid
 pub mod Problem
 pub mod Inside
+pub mod Lines

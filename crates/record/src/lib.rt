@@ -6,8 +6,8 @@ ghost use mathlib.Core.Path.{_≡_};
 ghost use mathlib.Core.Bool.{not};
 ghost use mathlib.Core.List.{List, [], _∷_, _++_};
 ghost use Prim.Native.Nat.{ℕ, _+_, _*_, _≤_, _<_};
-ghost use lib.ListN.{length};
-ghost use Rattle.grid.specs.Lists.{member, arrayOf};
+ghost use lib.ListN.{length, take};
+ghost use Rattle.grid.specs.Lists.{member, last, arrayOf};
 ghost use Rattle.fields.specs.Fields.{refused, unless};
 ghost use Rattle.record.specs.Record.{cellCodes, stepCells, arrowsAt};
 ghost use Rattle.record.specs.Problem.{arrowCells, endsFrom, reading, readOf};
@@ -301,4 +301,15 @@ pub fn read(s: &[u8]) -> Reading
             count,
         },
     }
+}
+
+// How many cells the arrows have together: the end of the last one.
+pub fn arrow_total(ends: &[u16; 1024], number: usize) -> usize
+    requires { ⌜ (number ≤ 1024) × (number ≤ length (now ends)) ⌝ }
+    ensures { λ r. ⌜ r ≡ last 0 (take number (now (ends .entry))) ⌝ }
+{
+    if number == 0 {
+        return 0;
+    }
+    grid::wide(ends[number - 1])
 }

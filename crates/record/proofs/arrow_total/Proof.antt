@@ -1,4 +1,4 @@
--- `inconsistency::arrow_total` meets its contract: the last of the ends.
+-- `record::arrow_total` meets its contract: the last of the ends.
 -- Assumes nothing.
 use Prim.Native.Nat.{ℕ, suc, _-_}
 use native.Mathlib.Omega.{arith}
@@ -6,9 +6,9 @@ use mathlib.Core.Path.{_≡_, sym, ap, _∙_}
 use lib.ListN.{take}
 use borrow.Author.Needs.{needs}
 use Rattle.grid.specs.Lists.{last}
-use Rattle.inconsistency.proofs.Checks.{last-taken, last-none}
-use Rattle.inconsistency.proofs.arrow_total.Statement.{statement}
-use Rattle.inconsistency.proofs.arrow_total.Tie as tie
+use Rattle.grid.proofs.AppendLaws.{last-taken, last-none}
+use Rattle.record.proofs.arrow_total.Statement.{statement}
+use Rattle.record.proofs.arrow_total.Tie as tie
 
 returns : tie.Need-returns
 returns c =
