@@ -8,6 +8,11 @@
 /* The length in bytes of an output that is long enough for every record: 2 * (3 * 32 * 32 + 1). */
 #define EVOLMINO_OUTPUT 6146
 
+/* The length in bytes of the longest clause sheet, where one arrow runs through all cells of a grid of 32 by 32 and each is black or given:
+ * 4 * 1024 + 6 * 2 * 31 * 32 + 2 * 1024 * 1024. With m cells off the arrows there are at most 48 * m bytes for them, but only
+ * 2 * (1024 - m) * (1024 - m) for the arrows. */
+#define EVOLMINO_SHEET 2113152
+
 /* What a negated return value says. */
 enum {
     EVOLMINO_RECORD_ENDS = 1,   /* the record ends inside a field, or before one that is due */
@@ -18,7 +23,8 @@ enum {
     EVOLMINO_INDEX = 7,         /* a decision's index is height * width or more */
     EVOLMINO_DECIDED = 9,       /* the cell is decided already */
     EVOLMINO_OUTPUT_SHORT = 11, /* the output is shorter than 2 * (3 * height * width + 1) bytes */
-    EVOLMINO_DECISION = 12      /* a decision's five bits are not zero, or a single byte is left over at the end */
+    EVOLMINO_DECISION = 12,     /* a decision's five bits are not zero, or a single byte is left over at the end */
+    EVOLMINO_SHEET_SHORT = 13   /* the output is too short for the whole clause sheet */
 };
 
 #ifdef __cplusplus
@@ -45,6 +51,20 @@ int32_t evolmino_find(const uint8_t *record, size_t record_len,
  */
 int32_t evolmino_finished(const uint8_t *record, size_t record_len,
                           const uint8_t *decisions, size_t decisions_len);
+
+/* Writes the puzzle's clauses for a solver that takes plain ones. A clause is a count of two bytes, most significant first, and that many
+ * literals, laid out as in evolmino_find. A full board satisfies it where one of its literals agrees; it satisfies all of them and the block
+ * rules exactly when it is finished. Four parts follow one another: black cells as 0 and given ones as 1; each two arrow cells that touch, both
+ * 0; a cell off the arrows with each two of its neighbours on arrows, all 0; for each arrow cell the other cells of its arrow, all 1. An arrow
+ * of one cell gives a clause of count 0, which no board satisfies.
+ *
+ * Returns the number of bytes written, which are the output's first, or the negated number of a refusal: the record's 1 to 5, then 13. Bytes
+ * behind the sheet are unchanged, and all of them after a refusal. EVOLMINO_SHEET bytes are enough for every record; most sheets are far shorter, so
+ * that a caller may also begin with less and lend more as long as 13 is returned. Pointers are as for evolmino_find. It keeps nothing either, and
+ * takes up to about 20 kilobytes of stack.
+ */
+int32_t evolmino_clauses(const uint8_t *record, size_t record_len,
+                         uint8_t *output, size_t output_len);
 
 #ifdef __cplusplus
 }

@@ -12,6 +12,10 @@ pub fn problem(_puzzle: &Puzzle) -> Problem {
     Problem
 }
 
+pub fn clauses(_problem: &Problem) -> Vec<Vec<(usize, bool)>> {
+    unimplemented!()
+}
+
 #[derive(Clone)]
 pub struct Access;
 

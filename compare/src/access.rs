@@ -22,6 +22,13 @@ pub fn problem(puzzle: &Puzzle) -> Problem {
     }
 }
 
+/// The clauses that `solve_evolmino` adds to its solver, in order.
+pub fn clauses(problem: &Problem) -> Vec<Vec<(usize, bool)>> {
+    let solved = solve_evolmino(problem);
+    assert_eq!(solved, None, "the solver that stands in has no answer");
+    cspuz_rs::solver::added()
+}
+
 #[derive(Clone)]
 pub struct Access {
     constraint: EvolminoConstraint,

@@ -58,7 +58,7 @@ compare program PATH [--seed N] [--count N]
 compare bench [--seed N] [--count ROUNDS]
 compare host [--seed N] [--count N]
 compare constraint [--seed N] [--count N]
-compare fuzz|finished [--seed N] [--count N]
+compare fuzz|finished|clauses [--seed N] [--count N]
 compare reason < INPUT
 compare original";
 
@@ -89,6 +89,7 @@ fn run(options: &Options) -> Outcome {
         "reason" => reason(),
         "fuzz" => commands::fuzz::run(seed, count(1_000_000)),
         "finished" => commands::finished::run(seed, count(1_000)),
+        "clauses" => commands::clauses::run(seed, count(2_000)),
         "finds" | "calls" | "groups" | "lists" | "bench" | "host" | "constraint" | "original"
             if !original::AT_HAND =>
         {

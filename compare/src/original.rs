@@ -44,6 +44,14 @@ impl Original {
         original
     }
 
+    /// The clauses that `solve_evolmino` adds to its solver, in order.
+    pub fn clauses(puzzle: &Puzzle) -> Vec<Vec<Literal>> {
+        let literal = |(index, value)| (index, u8::from(value));
+        let clause = |clause: Vec<(usize, bool)>| clause.into_iter().map(literal).collect();
+        let clauses = evolmino::clauses(&problem(puzzle)).into_iter();
+        clauses.map(clause).collect()
+    }
+
     pub fn decide(&mut self, index: usize, value: bool) -> Result<(), Panicked> {
         caught(|| self.access.notify(index, value))
     }

@@ -57,6 +57,8 @@ pub enum Refusal {
     OutputShort,
     /// 12: a decision's five bits are not zero, or the list of decisions has an odd last byte.
     Decision,
+    /// 13: the output is too short for the whole clause sheet.
+    SheetShort,
     /// Another number: the linked library has refusals that this package doesn't know.
     Unknown(u32),
 }
@@ -77,6 +79,7 @@ impl Refusal {
             10 => Refusal::NothingDecided,
             11 => Refusal::OutputShort,
             12 => Refusal::Decision,
+            13 => Refusal::SheetShort,
             _ => Refusal::Unknown(number),
         }
     }
@@ -96,6 +99,7 @@ impl Refusal {
             Refusal::NothingDecided => 10,
             Refusal::OutputShort => 11,
             Refusal::Decision => 12,
+            Refusal::SheetShort => 13,
             Refusal::Unknown(number) => number,
         }
     }
@@ -118,6 +122,7 @@ impl fmt::Display for Refusal {
             Refusal::Decision => {
                 "a decision's five bits are not zero, or a single byte is left over"
             }
+            Refusal::SheetShort => "the output is too short for the whole clause sheet",
             Refusal::Unknown(_) => "this package doesn't know why",
         };
         write!(f, "refused {}: {}", self.number(), what)
@@ -147,7 +152,7 @@ pub fn find_bytes(record: &[u8], decisions: &[u8], output: &mut [u8]) -> Result<
 }
 
 /// What an exported call returned: its number, or the negated number of a refusal.
-fn counted(answer: i32) -> Result<usize, Refusal> {
+pub(crate) fn counted(answer: i32) -> Result<usize, Refusal> {
     usize::try_from(answer).map_err(|_| Refusal::from_number(answer.unsigned_abs()))
 }
 
@@ -248,7 +253,7 @@ mod tests {
         assert_eq!(counted(0), Ok(0));
         assert_eq!(counted(3073), Ok(3073));
         assert_eq!(counted(-12), Err(Refusal::Decision));
-        assert_eq!(counted(-13), Err(Refusal::Unknown(13)));
+        assert_eq!(counted(-100), Err(Refusal::Unknown(100)));
         assert_eq!(counted(i32::MIN), Err(Refusal::Unknown(1 << 31)));
     }
 }

@@ -2,6 +2,7 @@
 //! their parts.
 
 use super::parts::{self, Known};
+use super::sheets;
 use crate::generate::boards::{usual_board, Decided};
 use crate::generate::puzzles::square;
 use crate::host::{HostCall, HOST_CALL, MISSING};
@@ -55,6 +56,7 @@ pub fn run(seed: u64, rounds: usize) -> Outcome {
     if HOST_CALL.is_none() {
         println!("{MISSING}");
     }
+    sheets::run(seed, &SIDES, rounds)?;
     parts::run(&boards_by_side)
 }
 

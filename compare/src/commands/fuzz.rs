@@ -4,6 +4,7 @@
 //! byte that is read or written beside them; in some calls the output has guard bytes about it in
 //! its box. The answers are compared with the reading's. No original is needed.
 
+use super::clauses::FuzzedSheets;
 use crate::answers::host_facts;
 use crate::generate::boards::{board_of_size, Decided};
 use crate::generate::hosts::{host_input, HostInput};
@@ -42,6 +43,7 @@ pub fn run(seed: u64, count: usize) -> Outcome {
     let mut random = Random::new(seed);
     let mut progress = Progress::new("fuzz", count);
     let mut counts = Counts::default();
+    let mut sheets = FuzzedSheets::new(seed)?;
     let leaves = finished_leaves(&mut random, FINISHED);
     let mut done = 0;
     while done < count {
@@ -53,6 +55,7 @@ pub fn run(seed: u64, count: usize) -> Outcome {
         let input = host_input(&mut random, &board);
         for _ in 0..CALLS_OF_A_BOARD.min(count - done) {
             let input = mutated(&mut random, &input);
+            sheets.check(&input.record)?;
             counts.finished += usize::from(check_finished(finished, &input)?);
             match check(&mut random, host_call, &input)? {
                 Ok(reason) => counts.found[Tally::column(reason.as_ref())] += 1,
@@ -71,6 +74,7 @@ pub fn run(seed: u64, count: usize) -> Outcome {
         &counts.refused[1..]
     );
     println!("finished: {} leaves", counts.finished);
+    println!("{}", sheets.line());
     Ok(())
 }
 

@@ -2,6 +2,7 @@
 
 pub mod bench;
 pub mod calls;
+pub mod clauses;
 #[cfg(feature = "host")]
 pub mod constraint;
 pub mod finds;
@@ -12,4 +13,5 @@ pub mod host;
 mod parts;
 pub mod program;
 pub mod records;
+mod sheets;
 pub mod small;

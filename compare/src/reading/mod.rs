@@ -5,6 +5,7 @@
 //! says "each" there is a loop, and nothing is clever.
 
 pub mod board;
+pub mod clauses;
 pub mod finished;
 pub mod grid;
 pub mod groups;
@@ -17,7 +18,7 @@ pub mod record;
 #[cfg(test)]
 mod leaves;
 
-/// What is returned when no result can be, by the numbers of document 01's table and under the names of
+/// What is returned when no result can be, by the numbers of the documents and under the names of
 /// `../rust`.
 ///
 /// 6, a board that no list of calls could leave, is missing: a `Board` of this reading is made by
@@ -35,6 +36,7 @@ pub enum Refusal {
     NothingDecided = 10,
     OutputShort = 11,
     Decision = 12,
+    SheetShort = 13,
 }
 
 impl Refusal {

@@ -1,7 +1,7 @@
 //! What the original's text names from `cspuz_rs` and `cspuz_core`, just enough for it to compile.
 //!
-//! Only `EvolminoConstraint` is run. The solver and the serializer around it are never called, so
-//! their bodies are left out.
+//! `EvolminoConstraint` is run, and `solve_evolmino` for the clauses that it adds: the solver keeps
+//! them and solves nothing. The serializer is never called, so its bodies are left out.
 
 pub mod custom_constraints;
 pub mod graph;

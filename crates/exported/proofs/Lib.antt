@@ -1,1 +1,2 @@
 pub mod NegatedLaws
+pub mod BytesLaws

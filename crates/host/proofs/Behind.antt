@@ -11,7 +11,7 @@ use Rattle.record.specs.Record.{Outcome, ok, refused}
 use Rattle.literals.specs.Literals.{Found}
 use Rattle.exported.specs.Written.{bytesOf}
 use Rattle.host.specs.Host.{outputAfter, literalCount}
-use Rattle.host.proofs.OutputLaws.{bytes-length}
+use Rattle.exported.proofs.BytesLaws.{bytes-length}
 
 pub behind-unchanged : (o : Outcome Found) (output : List ℕ) → drop (2 * literalCount o) (outputAfter o output) ≡ drop (2 * literalCount o) output
 unfolding outputAfter

@@ -4,7 +4,7 @@ use Prim.Native.Nat.{ℕ, zero, suc, _+_, _*_, _/_, _%_, _≤_, _<_}
 use native.Mathlib.Omega.{arith}
 use mathlib.Core.Path.{_≡_, refl, sym, _∙_}
 use mathlib.Core.Bool.{Bool, true, false, cond, _&&_, _||_, not, false≢true}
-use mathlib.Core.List.{List, [], _∷_, _++_, List·Memᴰ, List·Memᴰ·head, List·Memᴰ·tail, Memᴰ·cast}
+use mathlib.Core.List.{List, [], _∷_, _++_, List·Memᴰ, List·Memᴰ·head, List·Memᴰ·tail, Memᴰ·append-left, Memᴰ·cast}
 use mathlib.Core.Option.{none, some}
 use lib.Dec.{eqb, leb, ltb}
 use lib.IntN.{ℤ, pos, negℤ}
@@ -23,9 +23,11 @@ use Rattle.reasons.specs.Reasons.{findReason, findOn}
 use Rattle.reasons.proofs.NonEmpty.{reason-some}
 use Rattle.reasons.proofs.ReasonLaws.{found-length}
 use Rattle.reasons.proofs.OnMachine.{on-machine}
+use Rattle.clauses.specs.Clauses.{sheetBytes, sheetWithin, sheetFor}
+use Rattle.clauses.proofs.LengthLaws.{sheet-most}
 use Rattle.host.specs.Host.{acceptOr, decideBytes, hostFinds, returned}
 use Rattle.host.specs.Judged.{hostFinished}
-use Rattle.host.specs.Returns.{refusals, Returns, negated-refusal, literal-count, Possible, refusal-of, value-of, FoundOn, no-reason, some-reason, FoundWith}
+use Rattle.host.specs.Returns.{faults, refusals, Returns, negated-refusal, literal-count, Possible, refusal-of, value-of, FoundOn, no-reason, some-reason, FoundWith}
 
 -- ---- an outcome step by step
 
@@ -77,60 +79,64 @@ unless-possible false k m = refusal-of (m refl)
 
 -- ---- the record: 1 to 5
 
-field-possible : (s : List ℕ) (at k : ℕ) → Possible refusals Any (field s at k)
+field-possible : (s : List ℕ) (at k : ℕ) → Possible faults Any (field s at k)
 unfolding field
 field-possible s at k = go (leb (at + k) (8 * length s))
   where
-    go : (t : Bool) → Possible refusals Any (cond t (ok (number s at k)) (refused 1))
+    go : (t : Bool) → Possible faults Any (cond t (ok (number s at k)) (refused 1))
     go true = value-of tt
-    go false = refusal-of (listed 1 refusals refl)
+    go false = refusal-of (listed 1 faults refl)
 
-codes-possible : (s : List ℕ) (at n : ℕ) → Possible refusals Any (cellCodes s at n)
+codes-possible : (s : List ℕ) (at n : ℕ) → Possible faults Any (cellCodes s at n)
 unfolding cellCodes
 codes-possible s at zero = value-of tt
 codes-possible s at (suc n) =
-    then-possible (field-possible s at 2) λ c _. then-possible (unless-possible (ltb c 3) 2 (λ _. listed 2 refusals refl)) λ _ _.
+    then-possible (field-possible s at 2) λ c _. then-possible (unless-possible (ltb c 3) 2 (λ _. listed 2 faults refl)) λ _ _.
     then-possible (codes-possible s (at + 2) n) λ cs _. value-of tt
 
-there-possible : (l : List ℕ) → Possible refusals Any (there l)
+there-possible : (l : List ℕ) → Possible faults Any (there l)
 unfolding there
-there-possible [] = refusal-of (listed 3 refusals refl)
+there-possible [] = refusal-of (listed 3 faults refl)
 there-possible (j ∷ js) = value-of tt
 
-step-possible : (g : Grid) (i d : ℕ) → Possible refusals Any (stepFrom g i d)
+step-possible : (g : Grid) (i d : ℕ) → Possible faults Any (stepFrom g i d)
 unfolding stepFrom
 step-possible g i zero = there-possible (up g i)
 step-possible g i (suc zero) = there-possible (down g i)
 step-possible g i (suc (suc zero)) = there-possible (left g i)
 step-possible g i (suc (suc (suc d))) = there-possible (right g i)
 
-steps-possible : (s : List ℕ) (g : Grid) (used : List ℕ) (i at k : ℕ) → Possible refusals Any (stepCells s g used i at k)
+steps-possible : (s : List ℕ) (g : Grid) (used : List ℕ) (i at k : ℕ) → Possible faults Any (stepCells s g used i at k)
 unfolding stepCells
 steps-possible s g used i at zero = value-of tt
 steps-possible s g used i at (suc k) =
-    then-possible (field-possible s at 2) λ d _. then-possible (step-possible g i d) λ j _. then-possible (unless-possible (not (member j used)) 4 (λ _. listed 4 refusals refl)) λ _ _.
+    then-possible (field-possible s at 2) λ d _. then-possible (step-possible g i d) λ j _. then-possible (unless-possible (not (member j used)) 4 (λ _. listed 4 faults refl)) λ _ _.
     then-possible (steps-possible s g (j ∷ used) j (at + 2) k) λ js _. value-of tt
 
-arrow-possible : (s : List ℕ) (g : Grid) (used : List ℕ) (at : ℕ) → Possible refusals Any (arrowAt s g used at)
+arrow-possible : (s : List ℕ) (g : Grid) (used : List ℕ) (at : ℕ) → Possible faults Any (arrowAt s g used at)
 unfolding arrowAt
 arrow-possible s g used at =
     then-possible (field-possible s at 5) λ y _. then-possible (field-possible s (at + 5) 5) λ x _. then-possible (field-possible s (at + 10) 10) λ k _.
-    then-possible (unless-possible (ltb y (g .height) && ltb x (g .width)) 3 (λ _. listed 3 refusals refl)) λ _ _.
-    then-possible (unless-possible (not (member (y * g .width + x) used)) 4 (λ _. listed 4 refusals refl)) λ _ _.
+    then-possible (unless-possible (ltb y (g .height) && ltb x (g .width)) 3 (λ _. listed 3 faults refl)) λ _ _.
+    then-possible (unless-possible (not (member (y * g .width + x) used)) 4 (λ _. listed 4 faults refl)) λ _ _.
     then-possible (steps-possible s g ((y * g .width + x) ∷ used) (y * g .width + x) (at + 20) k) λ js _. value-of tt
 
-arrows-possible : (s : List ℕ) (g : Grid) (used : List ℕ) (at m : ℕ) → Possible refusals Any (arrowsAt s g used at m)
+arrows-possible : (s : List ℕ) (g : Grid) (used : List ℕ) (at m : ℕ) → Possible faults Any (arrowsAt s g used at m)
 unfolding arrowsAt
-arrows-possible s g used at zero = then-possible (unless-possible (filler s at) 5 (λ _. listed 5 refusals refl)) λ _ _. value-of tt
+arrows-possible s g used at zero = then-possible (unless-possible (filler s at) 5 (λ _. listed 5 faults refl)) λ _ _. value-of tt
 arrows-possible s g used at (suc m) =
     then-possible (arrow-possible s g used at) λ a _. then-possible (arrows-possible s g (a ++ used) (at + 18 + 2 * length a) m) λ rest _. value-of tt
 
-read-possible : (s : List ℕ) → Possible refusals Any (readRecord s)
+read-possible : (s : List ℕ) → Possible faults Any (readRecord s)
 unfolding readRecord
 read-possible s =
     then-possible (field-possible s 0 5) λ h _. then-possible (field-possible s 5 5) λ w _. then-possible (field-possible s 10 11) λ m _.
     let g : Grid = record { height = h + 1; width = w + 1 } in
     then-possible (codes-possible s 21 (size g)) λ cs _. then-possible (arrows-possible s g [] (21 + 2 * size g) m) λ rest _. value-of tt
+
+-- they are among those of the record and of the decisions
+fault-refusal : (k : ℕ) → List·Memᴰ k faults → List·Memᴰ k refusals
+fault-refusal k m = Memᴰ·append-left (7 ∷ 9 ∷ 12 ∷ []) m
 
 -- ---- the decisions: 12, 7, 9, and 8 only for a value that two bytes don't have
 
@@ -191,7 +197,7 @@ pub host-possible : {ks : List ℕ} → ((k : ℕ) → List·Memᴰ k refusals �
     → Possible ks (FoundWith s) (hostFinds s decisions k)
 unfolding hostFinds enough
 host-possible has s decisions k eleven eight =
-    then-possible (itself (possible-more has (λ p _. tt {0}) (read-possible s))) λ p e.
+    then-possible (itself (possible-more (λ j m. has j (fault-refusal j m)) (λ p _. tt {0}) (read-possible s))) λ p e.
     then-possible (unless-possible (leb (2 * (3 * size (p .grid) + 1)) k) 11 (λ f. eleven p e (leb-false (2 * (3 * size (p .grid) + 1)) k f))) λ _ _.
     then-possible (decide-possible has (p .grid) decisions eight none) λ ds st. value-of (found-with s p e st)
 
@@ -244,5 +250,12 @@ never-returned s decisions k low n o e = go (host-returns s decisions k low) e
 pub finished-possible : (s decisions : List ℕ) → Bytes decisions → Possible refusals (λ (t : Bool). Unit {0}) (hostFinished s decisions)
 unfolding hostFinished
 finished-possible s decisions low =
-    then-possible (read-possible s) λ p _.
+    then-possible (possible-more fault-refusal (λ p _. tt {0}) (read-possible s)) λ p _.
     then-possible (decide-possible (λ _ m. m) (p .grid) decisions (λ a b m n h. absurd (byte-value low a b m n h)) none) λ ds _. value-of tt
+
+-- the call that writes the clause sheet: at most 2,246,656 bytes, or a refusal of the record or 13
+pub clauses-possible : (s : List ℕ) (n : ℕ) → Possible (13 ∷ faults) (λ (bytes : List ℕ). length bytes ≤ 2246656) (sheetFor n s)
+unfolding sheetFor sheetWithin
+clauses-possible s n =
+    then-possible (itself (possible-more (λ _ m. List·Memᴰ·tail m) (λ p _. tt {0}) (read-possible s))) λ p e.
+    then-possible (unless-possible (leb (length (sheetBytes p)) n) 13 (λ _. List·Memᴰ·head refl)) λ _ _. value-of (sheet-most s p e)

@@ -2,7 +2,7 @@
 -- Assumes nothing.
 use Prim.Native.Nat.{ℕ, _+_, _*_, _≤_, _<_}
 use mathlib.Core.Path.{_≡_}
-use mathlib.Core.List.{List, [], _∷_, List·Memᴰ}
+use mathlib.Core.List.{List, [], _∷_, _++_, List·Memᴰ}
 use mathlib.Core.Option.{none, some}
 use lib.IntN.{ℤ, pos, negℤ}
 use lib.ListN.{length}
@@ -11,9 +11,13 @@ use Rattle.grid.specs.Cells.{Literal}
 use Rattle.record.specs.Record.{Outcome, ok, refused, Puzzle, readRecord}
 use Rattle.literals.specs.Literals.{Found}
 
--- the refusals of the record and of the decisions
+-- the refusals of the record
+abbrev pub faults : List ℕ
+faults = 1 ∷ 2 ∷ 3 ∷ 4 ∷ 5 ∷ []
+
+-- those of the record and of the decisions
 abbrev pub refusals : List ℕ
-refusals = 1 ∷ 2 ∷ 3 ∷ 4 ∷ 5 ∷ 7 ∷ 9 ∷ 12 ∷ []
+refusals = faults ++ (7 ∷ 9 ∷ 12 ∷ [])
 
 -- the numbers that the call can return for the record s
 pub data Returns (s : List ℕ) : ℤ → Type 0 where

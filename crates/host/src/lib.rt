@@ -16,7 +16,8 @@ ghost use Rattle.reasons.specs.Reasons.{findReason};
 ghost use Rattle.groups.specs.Arrays.{linesOf};
 ghost use Rattle.inconsistency.specs.Arrays.{ArrowArrays};
 ghost use Rattle.board.specs.Decide.{decideAllOf};
-ghost use Rattle.exported.specs.Written.{bytesOf};
+ghost use Rattle.exported.specs.Written.{bytesOf, written, outputWith};
+ghost use Rattle.clauses.specs.Clauses.{sheetFor};
 ghost use Rattle.host.specs.Host.{hostFinds, returned, outputAfter, Opens};
 ghost use Rattle.host.specs.Inside.{verdictNumber, judgedBy};
 ghost use Rattle.host.specs.Judged.{hostFinished, judged};
@@ -143,4 +144,14 @@ pub extern "C" fn evolmino_finished(record: &[u8], decisions: &[u8]) -> i32
         Answer::Done => decide_and_judge(fresh.board, decisions),
         Answer::Refused(k) => negated(k),
     }
+}
+
+// Writes the clause sheet of a record to the front of the output, and returns the number of bytes, or the negated number of a refusal, which
+// leaves the output as it was.
+#[no_mangle]
+pub extern "C" fn evolmino_clauses(record: &[u8], output: &mut [u8]) -> i32
+    ensures { λ r. ⌜ (r ≡ written (sheetFor (length (now (output .entry))) (now («record» .entry))))
+        × (now (output .exit) ≡ outputWith (sheetFor (length (now (output .entry))) (now («record» .entry))) (now (output .entry))) ⌝ }
+{
+    clauses::write_clauses(record, output)
 }

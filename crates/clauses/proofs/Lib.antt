@@ -1,0 +1,9 @@
+pub mod AppendLaws
+pub mod PieceLaws
+pub mod AroundLaws
+pub mod NearLaws
+pub mod BytesLaws
+pub mod AnswerLaws
+pub mod SheetLaws
+pub mod LengthLaws
+pub mod Leaves
