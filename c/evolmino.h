@@ -5,13 +5,16 @@
 #include <stddef.h>
 #include <stdint.h>
 
-/* The length in bytes of an output that is long enough for every record: 2 * (3 * 32 * 32 + 1). */
+/* The length in bytes of an output that is long enough for evolmino_find and every record: 2 * (3 * 32 * 32 + 1). */
 #define EVOLMINO_OUTPUT 6146
 
 /* The length in bytes of the longest clause sheet, where one arrow runs through all cells of a grid of 32 by 32 and each is black or given:
  * 4 * 1024 + 6 * 2 * 31 * 32 + 2 * 1024 * 1024. With m cells off the arrows there are at most 48 * m bytes for them, but only
  * 2 * (1024 - m) * (1024 - m) for the arrows. */
 #define EVOLMINO_SHEET 2113152
+
+/* The length in bytes of an output that is long enough for evolmino_shades and every record: 4 * 32 * 32. */
+#define EVOLMINO_SHADES 4096
 
 /* What a negated return value says. */
 enum {
@@ -22,7 +25,7 @@ enum {
     EVOLMINO_FILLER = 5,        /* a filler bit is not zero, or a byte follows it */
     EVOLMINO_INDEX = 7,         /* a decision's index is height * width or more */
     EVOLMINO_DECIDED = 9,       /* the cell is decided already */
-    EVOLMINO_OUTPUT_SHORT = 11, /* the output is shorter than 2 * (3 * height * width + 1) bytes */
+    EVOLMINO_OUTPUT_SHORT = 11, /* the output is shorter than the call asks for */
     EVOLMINO_DECISION = 12,     /* a decision's five bits are not zero, or a single byte is left over at the end */
     EVOLMINO_SHEET_SHORT = 13   /* the output is too short for the whole clause sheet */
 };
@@ -35,9 +38,10 @@ extern "C" {
  * square), five zero bits, index (10 bits, row * width + column).
  *
  * Returns the number of literals, which stand in the output's first bytes, 0 where no reason applies, or the negated number of a refusal,
- * which changes no byte. Bytes behind the last literal are unchanged. The pointers are not null, also where a length is 0, and the output
- * does not overlap the record or the decisions. The call keeps nothing and may be made from any thread, also from several at once; it takes
- * up to about 110 kilobytes of stack.
+ * which changes no byte: the record's 1 to 5, then 11 for an output shorter than 2 * (3 * height * width + 1) bytes, then for each decision
+ * in turn 12, 7, 9, and 12 for a single byte that is left over. Bytes behind the last literal are unchanged. The pointers are not null, also
+ * where a length is 0, and the output does not overlap the record or the decisions. The call keeps nothing and may be made from any thread,
+ * also from several at once; it takes up to about 110 kilobytes of stack.
  */
 int32_t evolmino_find(const uint8_t *record, size_t record_len,
                       const uint8_t *decisions, size_t decisions_len,
@@ -65,6 +69,17 @@ int32_t evolmino_finished(const uint8_t *record, size_t record_len,
  */
 int32_t evolmino_clauses(const uint8_t *record, size_t record_len,
                          uint8_t *output, size_t output_len);
+
+/* Opens the record, decides in order and writes for each cell of the grid in row order four bytes, two numbers of 16 bits, most significant
+ * first: the first cell of the cell's block and how many squares the block has, or 0 and 0 for a cell that is not square. Decisions and
+ * pointers are as for evolmino_find, and so is the order of the refusals; 11 is an output shorter than 4 * height * width bytes.
+ *
+ * Returns the number of bytes written, or the negated number of a refusal, which changes no byte. Bytes behind those written are unchanged. It
+ * keeps nothing either, and takes up to about 40 kilobytes of stack.
+ */
+int32_t evolmino_shades(const uint8_t *record, size_t record_len,
+                        const uint8_t *decisions, size_t decisions_len,
+                        uint8_t *output, size_t output_len);
 
 #ifdef __cplusplus
 }

@@ -1,6 +1,7 @@
 //! The port's exported calls, by the package that links them, with the feature `host`.
 
 use crate::reading::clauses::Clause;
+use crate::reading::Literal;
 
 /// Record, decisions, output; the literal count or the negated refusal number.
 pub type HostCall = fn(&[u8], &[u8], &mut [u8]) -> i32;
@@ -38,6 +39,23 @@ pub const PACKAGE_CLAUSES: Option<PackageClauses> = Some(package_clauses);
 #[cfg(not(feature = "host"))]
 pub const PACKAGE_CLAUSES: Option<PackageClauses> = None;
 
+/// The call for shades, if this program was built with it: record, decisions, output; the number of
+/// bytes written, or the negated refusal number.
+#[cfg(feature = "host")]
+pub const SHADES_CALL: Option<HostCall> = Some(shades_call);
+#[cfg(not(feature = "host"))]
+pub const SHADES_CALL: Option<HostCall> = None;
+
+/// Record, decisions; of each block its first cell, its size and its cells, by the package, or the
+/// refusal number.
+pub type PackageBlocks = fn(&[u8], &[Literal]) -> Result<Vec<(usize, usize, Vec<usize>)>, u32>;
+
+/// The package's blocks of a board, if this program was built with it.
+#[cfg(feature = "host")]
+pub const PACKAGE_BLOCKS: Option<PackageBlocks> = Some(package_blocks);
+#[cfg(not(feature = "host"))]
+pub const PACKAGE_BLOCKS: Option<PackageBlocks> = None;
+
 pub const MISSING: &str = "the host call is not linked: build with --features host, \
                            with libhost.a in the folder that EVOLMINO_HOST names";
 
@@ -71,4 +89,24 @@ fn package_clauses(record: &[u8]) -> Result<Vec<Clause>, u32> {
     let clause = |clause: Vec<_>| clause.into_iter().map(literal).collect();
     let clauses = evolmino::clauses(record).map_err(|refusal| refusal.number())?;
     Ok(clauses.into_iter().map(clause).collect())
+}
+
+#[cfg(feature = "host")]
+fn shades_call(record: &[u8], decisions: &[u8], output: &mut [u8]) -> i32 {
+    match evolmino::shades_bytes(record, decisions, output) {
+        Ok(length) => length as i32,
+        Err(refusal) => -(refusal.number() as i32),
+    }
+}
+
+#[cfg(feature = "host")]
+fn package_blocks(
+    record: &[u8],
+    decisions: &[Literal],
+) -> Result<Vec<(usize, usize, Vec<usize>)>, u32> {
+    let literal = |&(index, value): &Literal| (index, value == 1);
+    let decisions: Vec<_> = decisions.iter().map(literal).collect();
+    let blocks = evolmino::blocks(record, &decisions).map_err(|refusal| refusal.number())?;
+    let block = |block: evolmino::Block| (block.first, block.size, block.cells);
+    Ok(blocks.map(block).collect())
 }

@@ -53,7 +53,7 @@ pub enum Refusal {
     Decided,
     /// 10: nothing to undo.
     NothingDecided,
-    /// 11: the output is too short for the longest reason.
+    /// 11: the output is too short for the longest answer about a board of this size.
     OutputShort,
     /// 12: a decision's five bits are not zero, or the list of decisions has an odd last byte.
     Decision,
@@ -210,7 +210,7 @@ pub fn finished(record: &[u8], decisions: &[Literal]) -> Result<bool, Refusal> {
 
 /// What a call says of decisions, which it takes as bytes. One whose index has more than ten bits can't be among them: it is
 /// refused as the call would refuse it, after all that come before it.
-fn decided<T>(
+pub(crate) fn decided<T>(
     decisions: &[Literal],
     call: impl FnOnce(&[u8]) -> Result<T, Refusal>,
 ) -> Result<T, Refusal> {

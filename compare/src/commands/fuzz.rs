@@ -5,6 +5,7 @@
 //! its box. The answers are compared with the reading's. No original is needed.
 
 use super::clauses::FuzzedSheets;
+use super::shades::FuzzedShades;
 use crate::answers::host_facts;
 use crate::generate::boards::{board_of_size, Decided};
 use crate::generate::hosts::{host_input, HostInput};
@@ -44,6 +45,7 @@ pub fn run(seed: u64, count: usize) -> Outcome {
     let mut progress = Progress::new("fuzz", count);
     let mut counts = Counts::default();
     let mut sheets = FuzzedSheets::new(seed)?;
+    let mut shades = FuzzedShades::new(seed)?;
     let leaves = finished_leaves(&mut random, FINISHED);
     let mut done = 0;
     while done < count {
@@ -57,6 +59,7 @@ pub fn run(seed: u64, count: usize) -> Outcome {
             let input = mutated(&mut random, &input);
             sheets.check(&input.record)?;
             counts.finished += usize::from(check_finished(finished, &input)?);
+            shades.check(&input)?;
             match check(&mut random, host_call, &input)? {
                 Ok(reason) => counts.found[Tally::column(reason.as_ref())] += 1,
                 Err(refusal) => counts.refused[usize::from(refusal.number())] += 1,
@@ -75,6 +78,7 @@ pub fn run(seed: u64, count: usize) -> Outcome {
     );
     println!("finished: {} leaves", counts.finished);
     println!("{}", sheets.line());
+    println!("{}", shades.line());
     Ok(())
 }
 

@@ -13,5 +13,6 @@ pub mod host;
 mod parts;
 pub mod program;
 pub mod records;
+pub mod shades;
 mod sheets;
 pub mod small;

@@ -12,7 +12,7 @@ use crate::reading::grid::Size;
 use crate::reading::groups::{blocks, potential_groups};
 use crate::reading::kinds::Kinds;
 
-const FORMAT: [&str; 16] = [
+const FORMAT: [&str; 18] = [
     "Kinds, reach and fence are compared with the original where no block has two arrow cells: it",
     "has them there only. Elsewhere they are document 01's, by the literal reading.",
     "u16 and u16 rounds: how often the labels and how often the kinds of each board are computed",
@@ -20,7 +20,9 @@ const FORMAT: [&str; 16] = [
     "Entries to the end of the file: u16 record length, the record, u16 number of decisions, that",
     "many u16 decisions (value * 32768 + index), then with n = height * width:",
     "  n u16 names of potential groups: the index of the group's first cell, or 1024 for none",
-    "  n u16 names of blocks, likewise",
+    "  n u16 counts of their squares: for each cell, as a name, 0 where no group has it",
+    "  n u16 counts of their arrow cells, likewise",
+    "  n u16 names of blocks, n u16 counts of their squares and n u16 of their arrow cells, likewise",
     "  n bytes, the kinds: 0 empty, 1 in an arrow block, 2 neighbour, 3 barrier, 4 floating",
     "  n u16 owners: the first cell of the arrow block for kinds 1 and 2, of the floating group for",
     "    kind 4, 1024 for the others",
@@ -98,8 +100,12 @@ fn add_entry(list: &mut List, decided: &Decided) {
     let kinds = Kinds::of(&decided.puzzle, &cells);
     let kinds_and_owners = kinds.kind_of.iter().map(|&kind| kind_and_owner(kind));
     let (numbers, owners): (Vec<u8>, Vec<usize>) = kinds_and_owners.unzip();
-    list.numbers(&names(&potential_groups(size, &cells)));
-    list.numbers(&names(&blocks(size, &cells)));
+    let on_arrow = decided.puzzle.arrow_cells();
+    for groups in [potential_groups(size, &cells), blocks(size, &cells)] {
+        list.numbers(&names(&groups));
+        list.numbers(&groups.counts(|cell| cells[cell] == Cell::Square));
+        list.numbers(&groups.counts(|cell| on_arrow[cell]));
+    }
     list.bytes(&numbers);
     list.numbers(&owners);
     list.u16(kinds.arrow_blocks.len());

@@ -40,6 +40,17 @@ impl Groups {
             .filter(|&cell| self.name_of[cell] == Some(name))
             .collect()
     }
+
+    /// For each cell, as the name of a group, how many cells of that group pass a test: none where
+    /// it is no name.
+    pub fn counts(&self, passes: impl Fn(usize) -> bool) -> Vec<usize> {
+        let mut counts = vec![0; self.name_of.len()];
+        for &name in &self.names {
+            let cells = self.cells(name);
+            counts[name] = cells.into_iter().filter(|&cell| passes(cell)).count();
+        }
+        counts
+    }
 }
 
 pub fn blocks(size: Size, cells: &[Cell]) -> Groups {

@@ -58,7 +58,7 @@ pub fn opened_and_judged(record: &[u8], decisions: &[u8]) -> Result<bool, Refusa
 }
 
 /// Per decision 12, 7, 9, the odd byte last.
-fn decide_all(board: &mut Board, decisions: &[u8]) -> Result<(), Refusal> {
+pub fn decide_all(board: &mut Board, decisions: &[u8]) -> Result<(), Refusal> {
     let whole = decisions.chunks_exact(2);
     let odd_byte = !whole.remainder().is_empty();
     for decision in whole {

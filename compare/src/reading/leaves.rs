@@ -3,7 +3,7 @@
 
 use super::board::{Board, Cell};
 use super::finished::finished;
-use super::groups::block_rules_hold;
+use super::groups::{block_rules_hold, blocks, potential_groups, Groups};
 use super::host::{finished_call, host_call};
 use super::program::reason;
 use super::reasons::{find, find_reason};
@@ -95,6 +95,22 @@ fn hints() {
 }
 
 /// 1 × 3, arrow 2 1 0: the cell between the two squares is a barrier.
+#[test]
+fn counts_of_groups() {
+    let cells = board(&S, &[(0, 1), (2, 1)]).cells();
+    let puzzle = decode(&S).unwrap();
+    let on_arrow = puzzle.arrow_cells();
+    let counts = |groups: Groups| {
+        let squares = groups.counts(|cell| cells[cell] == Cell::Square);
+        (squares, groups.counts(|cell| on_arrow[cell]))
+    };
+    // the undecided cell is in the potential group and is no square of it
+    let potential = counts(potential_groups(puzzle.size, &cells));
+    assert_eq!(potential, (vec![2, 0, 0], vec![3, 0, 0]));
+    let blocks = counts(blocks(puzzle.size, &cells));
+    assert_eq!(blocks, (vec![1, 0, 1], vec![1, 0, 1]));
+}
+
 #[test]
 fn barrier_is_not_reachable() {
     let record = encode(&plain(1, 3, vec![vec![2, 1, 0]]));

@@ -14,6 +14,7 @@ pub mod kinds;
 pub mod program;
 pub mod reasons;
 pub mod record;
+pub mod shades;
 
 #[cfg(test)]
 mod leaves;

@@ -2,10 +2,11 @@
 -- Assumes nothing.
 use Prim.Native.Nat.{ℕ}
 use mathlib.Core.List.{List, [], map}
-use lib.ListN.{length}
+use lib.ListN.{length, take}
+use Rattle.grid.specs.Grid.{size}
 use Rattle.grid.specs.Lists.{arrayOf}
 use Rattle.record.specs.Record.{Outcome, ok, refused, Puzzle, readRecord}
-use Rattle.record.specs.Problem.{problemOf, blank}
+use Rattle.record.specs.Problem.{problemOf, gridOf, blank}
 use Rattle.record.specs.declared.Answer.the-variants.{Done, Refused}
 use Rattle.board.specs.declared.Board.{Board}
 use Rattle.board.specs.declared.Opened.{Opened}
@@ -21,6 +22,10 @@ boardOf p ds n = record {
   decided = length ds;
   hints = n;
 }
+
+-- the states of a board's cells
+unfoldable pub cellsOn : Board → List ℕ
+cellsOn b = take (size (gridOf (b .problem))) (b .cells)
 
 -- the board of no cells that stands beside a refused record
 unfoldable pub blankBoard : Board

@@ -9,27 +9,15 @@ use lib.ListN.{length, take, drop}
 use borrow.Author.Tests.{le-leb, lt-leb}
 use Rattle.grid.specs.Lists.{last, member}
 use Rattle.grid.specs.Marks.{Marks}
-use Rattle.record.specs.Record.{Outcome, ok, refused, _>>=_, unless, Puzzle, readRecord}
+use Rattle.record.specs.Record.{ok, refused, _>>=_, unless, Puzzle, readRecord}
 use Rattle.record.specs.Valid.{Valid}
 use Rattle.record.specs.Problem.{problemOf}
 use Rattle.record.specs.declared.Problem.{Problem}
 use Rattle.groups.specs.Arrays.{Line}
-use Rattle.exported.specs.Written.{written, outputWith}
+use Rattle.exported.proofs.WrittenLaws.{Told, told-refused, told-ok}
 use Rattle.clauses.specs.Clauses.{sheetBytes, sheetWithin, sheetFor}
 use Rattle.clauses.specs.Inside.{Appends, sheetPiece}
 use Rattle.clauses.proofs.BytesLaws.{sheeted}
-
--- the number returned and the output after it
-abbrev pub Told : Outcome (List ℕ) → ℤ → List ℕ → List ℕ → Type 0
-Told o r old new = (r ≡ written o) × (new ≡ outputWith o old)
-
-pub told-refused : (o : Outcome (List ℕ)) (k : ℕ) (r : ℤ) (old : List ℕ) → o ≡ refused k → r ≡ negℤ (pos k) → Told o r old old
-unfolding written outputWith
-told-refused o k r old e f = rw e (f, refl)
-
-told-ok : (o : Outcome (List ℕ)) (t old new : List ℕ) (r : ℤ) → o ≡ ok t → r ≡ pos (length t) → new ≡ t ++ drop (length t) old → Told o r old new
-unfolding written outputWith
-told-ok o t old new r e f g = rw e (f, g)
 
 within-13 : (n : ℕ) (p : Puzzle) → n < length (sheetBytes p) → sheetWithin n p ≡ refused 13
 unfolding sheetWithin _>>=_ unless

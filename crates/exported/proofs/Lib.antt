@@ -1,2 +1,3 @@
 pub mod NegatedLaws
 pub mod BytesLaws
+pub mod WrittenLaws

@@ -17,6 +17,7 @@ pub fn check_growth(
     head: &[u16; 1024],
     next: &[u16; 1024],
     sizes: &[u16; 1024],
+    squares: &[u16; 1024],
     h: usize,
     w: usize,
     last: usize,
@@ -26,7 +27,7 @@ pub fn check_growth(
     buffer: &mut [u16],
 ) -> Finding
     requires { ⌜ Fit h w (now buffer) × Squares h w (now cells) (now arrows) (now kinds) (now owners) last cur
-        × Grouped (now owners) (now head) (now next) (now sizes) (h * w) × (length (now groups) ≡ 1024) ⌝ }
+        × Grouped (now kinds) (now owners) (now head) (now next) (now sizes) (now squares) (h * w) × (length (now groups) ≡ 1024) ⌝ }
     ensures { λ r. ⌜ ((lines : List (List ℕ))
         → Scene h w lines (now (cells .entry)) (now (arrows .entry)) (now (kinds .entry)) (now (owners .entry)) last (cur + 1)
         → FoundAs (reason4aAt (viewOn h w lines (now (cells .entry))) (pairAt (now (arrows .entry)) last cur)) (now (buffer .entry)) (now (buffer .exit)) r) ⌝ }
@@ -35,8 +36,20 @@ pub fn check_growth(
     let last_block = owners[arrows[last] as usize];
     let cell = arrows[cur] as usize;
     let block = owners[cell];
-    let reach = growth::count_reach(kinds, owners, head, next, sizes, h, w, block, near, groups);
-    if growth::count_block(kinds, head, next, last_block) + 1 <= reach {
+    let reach = growth::count_reach(
+        kinds,
+        owners,
+        head,
+        next,
+        sizes,
+        squares,
+        h,
+        w,
+        block,
+        near,
+        groups,
+    );
+    if growth::block_size(squares, last_block) + 1 <= reach {
         return Finding::Nothing;
     }
     let literals = growth::reason_for_pair(
@@ -62,6 +75,7 @@ pub fn check_gap(
     head: &[u16; 1024],
     next: &[u16; 1024],
     sizes: &[u16; 1024],
+    squares: &[u16; 1024],
     h: usize,
     w: usize,
     last: usize,
@@ -71,7 +85,7 @@ pub fn check_gap(
     buffer: &mut [u16],
 ) -> Finding
     requires { ⌜ Fit h w (now buffer) × Squares h w (now cells) (now arrows) (now kinds) (now owners) last cur
-        × Grouped (now owners) (now head) (now next) (now sizes) (h * w) × (length (now groups) ≡ 1024) ⌝ }
+        × Grouped (now kinds) (now owners) (now head) (now next) (now sizes) (now squares) (h * w) × (length (now groups) ≡ 1024) ⌝ }
     ensures { λ r. ⌜ ((lines : List (List ℕ))
         → Scene h w lines (now (cells .entry)) (now (arrows .entry)) (now (kinds .entry)) (now (owners .entry)) last (cur + 1)
         → FoundAs (reason4bAt (viewOn h w lines (now (cells .entry))) (pairAt (now (arrows .entry)) last cur)) (now (buffer .entry)) (now (buffer .exit)) r) ⌝ }
@@ -86,6 +100,7 @@ pub fn check_gap(
         head,
         next,
         sizes,
+        squares,
         h,
         w,
         last_block,
@@ -93,7 +108,7 @@ pub fn check_gap(
         groups,
     );
     let gap = growth::gap_count(cells, arrows, last + 2, cur - 1);
-    if growth::count_block(kinds, head, next, block) <= reach + 1 + gap {
+    if growth::block_size(squares, block) <= reach + 1 + gap {
         return Finding::Nothing;
     }
     let literals = growth::reason_for_pair(

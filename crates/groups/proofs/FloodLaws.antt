@@ -22,9 +22,11 @@ use Rattle.grid.proofs.FilledLaws.{filled-is}
 use Rattle.grid.proofs.ArrayLaws.{Entry, hit, miss, entry-at, fewer-set, how-many-le}
 use Rattle.groups.specs.Groups.{Joined}
 use Rattle.groups.specs.Arrays.{noGroup, labelAt, labelArray}
-use Rattle.groups.specs.Flood.{unlabelled, free, Only, Unlabelled, same, Shut, Walked, Sofar, Marked, Offered, skip, take, OfferedSide, beyond, within, Flooding, Spread, Ready}
+use Rattle.groups.specs.Flood.{unlabelled, free, Only, Unlabelled, same, Shut, Walked, Right, none, some, Sofar, Marked, Offered, skip, take, OfferedSide, beyond, within, Flooding, Spread, Ready}
+use Rattle.groups.specs.Table.{Unused, Counting}
 use Rattle.groups.proofs.GroupLaws.{label}
 use Rattle.groups.proofs.LabellingLaws.{set-still, kept-still, kept-set, kept-then, sofar-label}
+use Rattle.groups.proofs.CountLaws.{offered-counts}
 
 -- what one offer does
 module _ {q s : ℕ} {L st : List ℕ} {c : ℕ} {L′ st′ : List ℕ} {r : ℕ} (small : s < 1024) where
@@ -102,6 +104,7 @@ pub record Offers (g : Grid) (p : ℕ → Bool) (s i k : ℕ) (L st : List ℕ) 
   stays : (j : ℕ) → (getD L j 0 ≡ unlabelled → ⊥) → getD L′ j 0 ≡ unlabelled → ⊥
   labelled : (j : ℕ) → List·Memᴰ j (gathered g i k) → So (p j) → getD L′ j 0 ≡ unlabelled → ⊥
   keeps : (L₀ : List ℕ) → ((j : ℕ) → List·Memᴰ j (neighbours g i) → So (p j) → Joined g p s j) → Flooding g p s L₀ i L st c → Flooding g p s L₀ i L′ st′ r
+  counts : (t : ℕ → Bool) (x : ℕ) → Counting s t L st c x → Counting s t L′ st′ r x
 
 module _ {g : Grid} {p : ℕ → Bool} {s i : ℕ} {L st : List ℕ} {c : ℕ} where
   -- before the first
@@ -113,6 +116,7 @@ module _ {g : Grid} {p : ℕ → Bool} {s i : ℕ} {L st : List ℕ} {c : ℕ} w
     stays = λ j u. u;
     labelled = λ j m. absurd (List·Memᴰ·not-nil m);
     keeps = λ L₀ near F. F;
+    counts = λ t x C. C;
   }
 
   -- one more
@@ -125,6 +129,7 @@ module _ {g : Grid} {p : ℕ → Bool} {s i : ℕ} {L st : List ℕ} {c : ℕ} w
     stays = O .stays;
     labelled = λ j. rw (gathered-same g i k off) (O .labelled j);
     keeps = O .keeps;
+    counts = O .counts;
   })
   offers-more {k} {L″ = L″} small O (within q at-q o) = record {
     room = offered-room small o (O .room);
@@ -132,6 +137,7 @@ module _ {g : Grid} {p : ℕ → Bool} {s i : ℕ} {L st : List ℕ} {c : ℕ} w
     stays = λ j u. offered-stays small o j (O .stays j u);
     labelled = λ j m. labelled′ j (List·Memᴰ·append-cases (gathered g i k) (rw (gathered-next g i k q at-q) at m));
     keeps = λ L₀ near F. offered-keeps small o (near q (towards-mem g i k (rw (beside-at g i k q at-q) (List·Memᴰ·head refl)))) (O .keeps L₀ near F);
+    counts = λ t x C. offered-counts s t small (O .room) o (O .counts t x C);
   }
     where
       labelled′ : (j : ℕ) → List·Memᴰ j (gathered g i k) ⊎ List·Memᴰ j (q ∷ []) → So (p j) → getD L″ j 0 ≡ unlabelled → ⊥
@@ -187,6 +193,7 @@ spread-does {h} {w} {i = i} ready at-top O = record {
   keeps = λ L₀ F. spread-keeps (area h w (ready .tall) (ready .wide)) (ready .count) (ready .top) (rw (div-add-mod' i w, at-top) at O) F;
   stays = O .stays;
   falls = omega (arith, ready .count, O .falls);
+  counts = O .counts;
 }
 
 -- before the first turn of a flood's loop: s has been offered
@@ -214,6 +221,17 @@ flood-ends fits e F seed = record {
     done = λ j was x k side. F .done j was x (λ t b y. omega arith) (λ q. omega (arith, side .0)) k side;
   };
   seed = λ _. seed;
+}
+
+-- a cell that has a label, or is to have none, leaves all as it is
+pub walked-none : {g : Grid} {p : ℕ → Bool} {s : ℕ} {L : List ℕ} → s < 1024 → (getD L s 0 ≡ unlabelled → ⊥) → Walked g p s s L L
+walked-none small labelled = record {
+  added = record {
+    long = refl;
+    kept = λ j. same refl;
+    done = λ j u v. absurd (omega (arith, u, v));
+  };
+  seed = λ _. labelled;
 }
 
 -- the cells are told one after the other
@@ -249,6 +267,18 @@ module _ (g : Grid) {p : ℕ → Bool} {L₀ : List ℕ} (fits : size g ≤ 1024
       only′ : (j : ℕ) → getD L₀ j 0 ≡ unlabelled → (p j ≡ true) ⊎ (p j ≡ false) → So (p j)
       only′ j e (inl o) = o
       only′ j e (inr f) = absurd (omega (arith, e, marked-out j (omega (arith, place-in L₀ j (omega (arith, e)), T .long)) f))
+
+  -- no cell has the label of a group that is not reached yet
+  pub unused : {s : ℕ} {L : List ℕ} → s < 1024 → Sofar g p L₀ s L → Unused s L
+  unused {s} {L} small S j h e = passes (split (p j))
+    where
+      labelled : Right g p s L j → ⊥
+      labelled (none u) = omega (arith, u, e)
+      labelled (some lt le n) = omega (arith, lt, e)
+
+      passes : (p j ≡ true) ⊎ (p j ≡ false) → ⊥
+      passes (inl o) = labelled (S .right j o)
+      passes (inr f) = omega (arith, S .others j f, marked-out j h f, e)
 
   pub flooded : {L : List ℕ} → Sofar g p L₀ (size g) L → L ≡ labelArray g p
   unfolding labelArray labelAt cellsOf

@@ -1,8 +1,10 @@
 pub mod ArrowLaws
+pub mod CountLaws
 pub mod FloodLaws
 pub mod GroupLaws
 pub mod LabelLaws
 pub mod LabellingLaws
 pub mod MarkLaws
 pub mod Shift
+pub mod TableLaws
 pub mod RulesLaws

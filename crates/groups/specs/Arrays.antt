@@ -4,13 +4,14 @@ use Prim.Native.Nat.{ℕ, _+_, _≤_, _<_}
 use mathlib.Core.Path.{_≡_}
 use mathlib.Core.Bool.{Bool, cond}
 use mathlib.Core.List.{List, map, List·Memᴰ}
+use lib.Dec.{eqb}
 use lib.ListN.{length, getD, take}
-use Rattle.grid.specs.Grid.{Grid, cellsOf}
-use Rattle.grid.specs.Lists.{arrayOf}
+use Rattle.grid.specs.Grid.{Grid, size, cellsOf}
+use Rattle.grid.specs.Lists.{filter, arrayOf}
 use Rattle.grid.specs.Cells.{square, potential}
 use Rattle.record.specs.Problem.{arrowsFrom}
 use Rattle.record.specs.Record.{Puzzle}
-use Rattle.groups.specs.Groups.{labels}
+use Rattle.groups.specs.Groups.{labels, group, names}
 use Rattle.groups.specs.Arrows.{onArrow}
 
 -- the number that stands for no group
@@ -33,10 +34,38 @@ counts isPotential cells i = cond isPotential (potential cells i) (square cells 
 unfoldable pub maskOf : Grid → (ℕ → Bool) → List ℕ
 maskOf g p = arrayOf 0 (map (λ i. cond (p i) 1 0) (cellsOf g))
 
--- the groups of the cells that pass a test, and the arrow cells
-pub record GroupArrays (p : Puzzle) (test : ℕ → Bool) (groups onarrow : List ℕ) : Type 0 where
-  pub groups-are : groups ≡ labelArray (p .grid) test
-  pub arrows-are : onarrow ≡ maskOf (p .grid) (onArrow (p .arrows))
+-- cell i has a mark in an array
+unfoldable pub marked : List ℕ → ℕ → Bool
+marked marks i = eqb (getD marks i 0) 1
+
+-- how many cells of the group named f pass the test t: 0 where no group has that name
+abbrev pub tallyOf : Grid → (ℕ → Bool) → (ℕ → Bool) → ℕ → ℕ
+tallyOf g p t f = length (filter t (group g p (labels g p) f))
+
+-- an array has this number at each cell of the grid
+pub record Counted (g : Grid) (p t : ℕ → Bool) (counts : List ℕ) : Type 0 where
+  pub long : length counts ≡ 1024
+  pub at : (f : ℕ) → f < size g → getD counts f 0 ≡ tallyOf g p t f
+
+-- what the grouping step tells of the groups of the cells that pass: the name of each cell's group, which is its first cell; the first cells of all
+-- groups, rising, with their number; and by first cell how many squares and how many arrow cells each group has
+pub record GroupTable (g : Grid) (p sq arrow : ℕ → Bool) (groups firsts squares arrowed : List ℕ) (number : ℕ) : Type 0 where
+  pub groups-are : groups ≡ labelArray g p
+  pub firsts-long : length firsts ≡ 1024
+  pub firsts-are : take number firsts ≡ names g p (labels g p)
+  pub number-is : number ≡ length (names g p (labels g p))
+  pub squares-are : Counted g p sq squares
+  pub arrowed-are : Counted g p arrow arrowed
+
+-- the first c of 1024 places have names below 1024
+pub record Names (names : List ℕ) (c : ℕ) : Type 0 where
+  pub long : length names ≡ 1024
+  pub few : c ≤ 1024
+  pub small : (k : ℕ) → k < c → getD names k 0 < 1024
+
+-- the table of a board's groups: of the cells that pass the test
+abbrev pub TableOf : Puzzle → List ℕ → (ℕ → Bool) → List ℕ → List ℕ → List ℕ → List ℕ → ℕ → Type 0
+TableOf p cells test = GroupTable (p .grid) test (square cells) (onArrow (p .arrows))
 
 -- the cells of all arrows stand in the first places of an array
 pub record Line (line : List ℕ) (total : ℕ) : Type 0 where

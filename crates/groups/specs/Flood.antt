@@ -12,6 +12,7 @@ use Rattle.grid.specs.declared.Side.{Side}
 use Rattle.grid.specs.declared.Side.the-variants.{At, Off}
 use Rattle.groups.specs.Groups.{Joined}
 use Rattle.groups.specs.Arrays.{noGroup}
+use Rattle.groups.specs.Table.{Counting}
 
 -- ---- labelling one group after another, each from its first cell
 
@@ -107,6 +108,7 @@ module _ (g : Grid) (p : ℕ → Bool) where
     pub keeps : (L₀ : List ℕ) → Flooding s L₀ 1024 L st c → Flooding s L₀ 1024 L′ st′ r
     pub stays : (k : ℕ) → (getD L k 0 ≡ unlabelled → ⊥) → getD L′ k 0 ≡ unlabelled → ⊥
     pub falls : 2 * free L′ + r < 2 * free L + c
+    pub counts : (t : ℕ → Bool) (x : ℕ) → Counting s t L st (c - 1) x → Counting s t L′ st′ r x
 
 -- what a turn asks
 pub record Ready (h w s : ℕ) (L st : List ℕ) (c : ℕ) : Type 0 where

@@ -5,11 +5,14 @@ use grid::Side;
 ghost use mathlib.Core.Path.{_≡_};
 ghost use Prim.Native.Nat.{ℕ, _+_, _*_, _≤_, _<_};
 ghost use mathlib.Core.Bool.{Bool, cond};
-ghost use lib.ListN.{length, take, replicate};
+ghost use lib.Dec.{eqb};
+ghost use lib.ListN.{length, getD, set, take, replicate};
 ghost use Rattle.grid.specs.Lists.{member};
 ghost use Rattle.grid.specs.Marks.{Marks};
 ghost use Rattle.grid.specs.Side.{InGrid, InPlace, sized, besideOf};
-ghost use Rattle.groups.specs.Arrays.{Line, labelArray, noGroup, counts};
+ghost use Rattle.grid.specs.Cells.{square};
+ghost use Rattle.groups.specs.Arrays.{Line, labelArray, noGroup, counts, marked, GroupTable};
+ghost use Rattle.groups.specs.Table.{Unused, labelled};
 ghost use Rattle.groups.specs.Flood.{unlabelled, free, Only, Walked, Offerable, Marked, Offered, OfferedSide, Spread, Ready};
 
 // The label of a cell that is in no group.
@@ -121,39 +124,92 @@ fn spread(
     waiting
 }
 
-// Labels the group of cell s with s, unless s is in no group or has a label.
-fn flood(labels: &mut [u16; 1024], stack: &mut [u16; 1025], h: usize, w: usize, s: usize)
-    requires { ⌜ InGrid h w s ⌝ }
+// Labels the group of cell s with s, unless s is in no group or has a label, and counts its squares and its arrow cells as they leave the stack. The counts
+// are written at s: 0 where s is not the first cell of a group.
+fn flood(
+    cells: &[u8; 1024],
+    onarrow: &[u8; 1024],
+    labels: &mut [u16; 1024],
+    stack: &mut [u16; 1025],
+    h: usize,
+    w: usize,
+    s: usize,
+    squares: &mut [u16; 1024],
+    arrowed: &mut [u16; 1024],
+)
+    requires { ⌜ InGrid h w s × Unused s (now labels) ⌝ }
     requires { ⌜ (length (now labels) ≡ 1024) × (length (now stack) ≡ 1025) ⌝ }
     ensures { λ _. ⌜ ((p : ℕ → Bool) → Only p (now (labels .entry)) → Walked (sized h w) p s s (now (labels .entry)) (now (labels .exit))) ⌝ }
-    ensures { λ _. ⌜ length (now (stack .exit)) ≡ 1025 ⌝ }
+    ensures { λ _. ⌜ (length (now (stack .exit)) ≡ 1025)
+        × (now (squares .exit) ≡ set (now (squares .entry)) s (length (labelled (now (labels .exit)) (marked (now (cells .entry))) s)))
+        × (now (arrowed .exit) ≡ set (now (arrowed .entry)) s (length (labelled (now (labels .exit)) (marked (now (onarrow .entry))) s))) ⌝ }
 {
+    if labels[s] != UNLABELLED {
+        squares[s] = 0;
+        arrowed[s] = 0;
+        return;
+    }
     let seed = s as u16;
     let mut count = offer(labels, stack, 0, s, seed);
+    let mut ones = 0;
+    let mut crossed = 0;
     while count > 0 {
+        let i = grid::wide(stack[count - 1]);
+        ones = count_with(ones, cells[i] == 1);
+        crossed = count_with(crossed, onarrow[i] == 1);
         count = spread(labels, stack, count, h, w, seed);
     }
+    squares[s] = ones as u16;
+    arrowed[s] = crossed as u16;
 }
 
-// The name of each cell's group: its first cell in row order, and NO_GROUP where there is none. The
-// groups are the potential groups or the blocks.
+// Lists cell s behind the first cells found so far if it is to be in a group and has no label yet: it is the first of its group then. It is written
+// there in any case, and only counted if it is one. Their new number.
+fn keep_first(labels: &[u16; 1024], s: usize, firsts: &mut [u16; 1024], number: usize) -> usize
+    requires { ⌜ (s < 1024) × (number ≤ s) ⌝ }
+    ensures { λ r. ⌜ (now (firsts .exit) ≡ set (now (firsts .entry)) number s) × (r ≡ cond (eqb (getD (now (labels .entry)) s 0) unlabelled) (number + 1) number) ⌝ }
+{
+    firsts[number] = s as u16;
+    count_with(number, labels[s] == UNLABELLED)
+}
+
+// The name of each cell's group: its first cell in row order, and NO_GROUP where there is none. The first cells by themselves, rising, with their
+// number, which is returned; and by first cell how many squares and how many arrow cells each group has. The groups are the potential groups or the blocks.
 pub fn compute_connected_components(
     cells: &[u8; 1024],
+    onarrow: &[u8; 1024],
     is_potential: bool,
     h: usize,
     w: usize,
     labels: &mut [u16; 1024],
-)
-    requires { ⌜ (h ≤ 32) × (w ≤ 32) ⌝ }
-    ensures { λ _. ⌜ now (labels .exit) ≡ labelArray (sized h w) (counts «is_potential» (take (h * w) (now (cells .entry)))) ⌝ }
+    firsts: &mut [u16; 1024],
+    squares: &mut [u16; 1024],
+    arrowed: &mut [u16; 1024],
+) -> usize
+    requires { ⌜ (h ≤ 32) × (w ≤ 32) × (length (now firsts) ≡ 1024) × (length (now squares) ≡ 1024) × (length (now arrowed) ≡ 1024) ⌝ }
+    ensures { λ r. ⌜ GroupTable (sized h w) (counts «is_potential» (take (h * w) (now (cells .entry)))) (square (take (h * w) (now (cells .entry)))) (marked (now (onarrow .entry)))
+        (now (labels .exit)) (now (firsts .exit)) (now (squares .exit)) (now (arrowed .exit)) r ⌝ }
 {
     let n = h * w;
     let mut stack = [0u16; 1025];
     *labels = [NO_GROUP; 1024];
     mark_check_cells(cells, is_potential, n, labels);
+    let mut number = 0;
     for s in 0..n {
-        flood(labels, &mut stack, h, w, s);
+        number = keep_first(&*labels, s, firsts, number);
+        flood(
+            cells,
+            onarrow,
+            labels,
+            &mut stack,
+            h,
+            w,
+            s,
+            squares,
+            arrowed,
+        );
     }
+    number
 }
 
 // Marks the cells of all arrows, which stand one after another in the first `total` places.

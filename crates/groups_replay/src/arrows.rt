@@ -1,4 +1,4 @@
-// The arrow cells of a board, and the marks of the blocks on them.
+// The arrow cells of a board.
 ghost use mathlib.Core.Bool.{true};
 ghost use mathlib.Core.Path.{_≡_};
 ghost use lib.ListN.{length};
@@ -33,17 +33,12 @@ fn in_line(arrows: &[u16; 1024], total: usize) -> bool
     true
 }
 
-// Marks the names of the arrow blocks; whether the first `total` places of arrows hold indices of cells.
-pub fn mark_arrows(
-    arrows: &[u16; 1024],
-    total: usize,
-    blocks: &[u16; 1024],
-    marks: &mut [u8; 1024],
-) -> bool
+// Marks the arrow cells; whether the first `total` places of arrows hold indices of cells.
+pub fn mark_arrows(arrows: &[u16; 1024], total: usize, marks: &mut [u8; 1024]) -> bool
     requires { ⌜ length (now arrows) ≡ 1024 ⌝ }
 {
     if in_line(arrows, total) {
-        kinds::mark_arrow_blocks(arrows, total, blocks, marks);
+        groups::mark_arrow_cells(arrows, total, marks);
         return true;
     }
     false

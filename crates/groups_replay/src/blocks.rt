@@ -87,14 +87,14 @@ fn run_block(
     Run::of(differs || replay::number_at(list, at) != f, end)
 }
 
-// Goes through the arrow blocks, whose names are marked; the list has their number at `start`, and then the blocks.
+// Goes through the arrow blocks, those whose count of arrow cells is not 0; the list has their number at `start`, and then the blocks.
 pub fn run_blocks(
     list: &[u8],
     start: usize,
     cells: &[u8; 1024],
     kinds: &[u8; 1024],
     owners: &[u16; 1024],
-    arrowed: &[u8; 1024],
+    arrowed: &[u16; 1024],
     h: usize,
     w: usize,
 ) -> Run
@@ -107,7 +107,7 @@ pub fn run_blocks(
     };
     let mut f = 0;
     while f < 1024 {
-        if arrowed[f] == 1 {
+        if arrowed[f] != 0 {
             if list.len() < found.end {
                 return Run::broken();
             }

@@ -4,9 +4,10 @@
 // A list has a head of lines that begin with `#`, an empty line, and two u16, how often the labels and how often the kinds of each board
 // are computed before they are compared, neither of them 0: two runs that differ in one of them tell its time. Then come entries to its end: u16
 // length, that many bytes of record, u16 number of decisions, and the decisions, u16 each. Then for each cell a u16 name of its potential
-// group; for each cell a u16 name of its block; for each cell a u8 kind; for each cell a u16 name of its owner. Then the u16 number of arrow
-// blocks, and for each by rising name: u16 name, u16 size of its reach, for each cell a u8 mark of its reach, u16 number of literals of its
-// fence, and the literals, u16 each. A u16 has its high byte first; where there is no group, the name is 1024.
+// group, and for each cell, as a name, the u16 counts of that group's squares and then of its arrow cells; the same of the blocks; for each cell a
+// u8 kind; for each cell a u16 name of its owner. Then the u16 number of arrow blocks, and for each by rising name: u16 name, u16 size of its reach,
+// for each cell a u8 mark of its reach, u16 number of literals of its fence, and the literals, u16 each. A u16 has its high byte first; where there is
+// no group, the name is 1024, and the counts are 0.
 mod arrays;
 mod arrows;
 mod blocks;
@@ -18,26 +19,46 @@ use replay::Tally;
 use rounds::Rounds;
 ghost use mathlib.Core.Path.{_≡_};
 ghost use Prim.Native.Nat.{_+_, _*_, _≤_, _<_};
-ghost use mathlib.Core.Bool.{true};
 ghost use lib.ListN.{length, take};
 ghost use Rattle.grid.specs.Side.{sized};
-ghost use Rattle.groups.specs.Arrays.{counts, labelArray};
+ghost use Rattle.groups.specs.Arrays.{marked};
 ghost use Rattle.replay.specs.Comparisons.{DiffersUnless};
-ghost use Rattle.groups_replay.specs.Blocks.{KindsSo, PotentialSo};
+ghost use Rattle.groups_replay.specs.Blocks.{KindsSo, GroupsSo, PotentialSo};
 
-// Whether the names of the potential groups differ from those that the list has at `at`. A list that says no rounds differs: nothing would be
-// computed.
+// Whether the names of groups or their counts differ from those that the list has at `at`.
+fn groups_differ(
+    list: &[u8],
+    at: usize,
+    n: usize,
+    names: &[u16; 1024],
+    squares: &[u16],
+    arrowed: &[u16],
+) -> bool
+    requires { ⌜ (at + 6 * n ≤ length (now list)) × (n ≤ 1024) ⌝ }
+    ensures { λ r. ⌜ DiffersUnless r (GroupsSo (now (list .entry)) at n (now (names .entry)) (now (squares .entry)) (now (arrowed .entry))) ⌝ }
+{
+    if replay::names_differ(list, at, n, names) {
+        return true;
+    }
+    if replay::numbers_differ(list, at + 2 * n, n, squares, 0) {
+        return true;
+    }
+    replay::numbers_differ(list, at + 4 * n, n, arrowed, 0)
+}
+
+// Whether the potential groups differ from those that the list has at `at`. A list that says no rounds differs: nothing would be computed.
 fn potential_groups_differ(
     list: &[u8],
     rounds: Rounds,
     at: usize,
     n: usize,
     cells: &[u8; 1024],
+    onarrow: &[u8; 1024],
     h: usize,
     w: usize,
 ) -> bool
-    requires { ⌜ (at + 2 * n ≤ length (now list)) × (h ≤ 32) × (w ≤ 32) ⌝ }
-    ensures { λ r. ⌜ DiffersUnless r (PotentialSo (rounds .labels) (rounds .kinds) (now (list .entry)) at n (labelArray (sized h w) (counts true (take (h * w) (now (cells .entry)))))) ⌝ }
+    requires { ⌜ (at + 6 * n ≤ length (now list)) × (n ≤ h * w) × (h ≤ 32) × (w ≤ 32) ⌝ }
+    ensures { λ r. ⌜ DiffersUnless r (PotentialSo (rounds .labels) (rounds .kinds) (sized h w) (take (h * w) (now (cells .entry))) (marked (now (onarrow .entry))) (now (list .entry)) at n) ⌝ }
 {
     if rounds.labels == 0 {
         return true;
@@ -46,32 +67,36 @@ fn potential_groups_differ(
         return true;
     }
     let mut names = arrays::no_names();
-    rounds::label_in_rounds(rounds.labels, cells, true, h, w, &mut names);
-    replay::names_differ(list, at, n, &names)
+    let mut firsts = arrays::no_names();
+    let mut squares = arrays::no_names();
+    let mut arrowed = arrays::no_names();
+    rounds::label_in_rounds(
+        rounds.labels,
+        cells,
+        onarrow,
+        true,
+        h,
+        w,
+        &mut names,
+        &mut firsts,
+        &mut squares,
+        &mut arrowed,
+    );
+    groups_differ(list, at, n, &names, &squares[..n], &arrowed[..n])
 }
 
-// Whether the names of the blocks, the kinds or the owners differ from those that the list has at `at`.
-fn kinds_differ(
-    list: &[u8],
-    at: usize,
-    n: usize,
-    blocks: &[u16; 1024],
-    kinds: &[u8; 1024],
-    owners: &[u16; 1024],
-) -> bool
-    requires { ⌜ (at + 5 * n ≤ length (now list)) × (n ≤ 1024) ⌝ }
-    ensures { λ r. ⌜ DiffersUnless r (KindsSo (now (list .entry)) at n (now (blocks .entry)) (now (kinds .entry)) (now (owners .entry))) ⌝ }
+// Whether the kinds or the owners differ from those that the list has at `at`.
+fn kinds_differ(list: &[u8], at: usize, n: usize, kinds: &[u8; 1024], owners: &[u16; 1024]) -> bool
+    requires { ⌜ (at + 3 * n ≤ length (now list)) × (n ≤ 1024) ⌝ }
+    ensures { λ r. ⌜ DiffersUnless r (KindsSo (now (list .entry)) at n (now (kinds .entry)) (now (owners .entry))) ⌝ }
 {
-    if replay::names_differ(list, at, n, blocks) {
+    if replay::cells_differ(list, at, n, kinds, 0) {
         return true;
     }
-    if replay::cells_differ(list, at + 2 * n, n, kinds, 0) {
-        return true;
-    }
-    replay::names_differ(list, at + 3 * n, n, owners)
+    replay::names_differ(list, at + n, n, owners)
 }
 
-// Computes kinds and owners, and compares them, the blocks and the arrow blocks with those that the list has at `at`.
+// Computes kinds and owners, and compares them and the arrow blocks with those that the list has at `at`.
 fn run_kinds(
     list: &[u8],
     rounds: Rounds,
@@ -79,11 +104,11 @@ fn run_kinds(
     n: usize,
     cells: &[u8; 1024],
     blocks: &[u16; 1024],
-    arrowed: &[u8; 1024],
+    arrowed: &[u16; 1024],
     h: usize,
     w: usize,
 ) -> Run
-    requires { ⌜ (at + 5 * n + 2 ≤ length (now list)) × (n ≤ 1024) × (h ≤ 32) × (w ≤ 32) ⌝ }
+    requires { ⌜ (at + 3 * n + 2 ≤ length (now list)) × (n ≤ 1024) × (h ≤ 32) × (w ≤ 32) ⌝ }
 {
     let mut kinds = arrays::no_marks();
     let mut owners = arrays::no_names();
@@ -97,32 +122,43 @@ fn run_kinds(
         &mut kinds,
         &mut owners,
     );
-    let differs = kinds_differ(list, at, n, blocks, &kinds, &owners);
-    let found = blocks::run_blocks(list, at + 5 * n, cells, &kinds, &owners, arrowed, h, w);
+    let differs = kinds_differ(list, at, n, &kinds, &owners);
+    let found = blocks::run_blocks(list, at + 3 * n, cells, &kinds, &owners, arrowed, h, w);
     found.also(differs)
 }
 
-// Computes blocks and arrow blocks, and compares them and the kinds with those that the list has at `at`.
+// Computes the blocks, and compares them, the kinds and the arrow blocks with those that the list has at `at`.
 fn run_arrows(
     list: &[u8],
     rounds: Rounds,
     at: usize,
     n: usize,
     cells: &[u8; 1024],
-    arrows: &[u16; 1024],
-    total: usize,
+    onarrow: &[u8; 1024],
     h: usize,
     w: usize,
 ) -> Run
-    requires { ⌜ (at + 5 * n + 2 ≤ length (now list)) × (n ≤ 1024) × (h ≤ 32) × (w ≤ 32) × (length (now arrows) ≡ 1024) ⌝ }
+    requires { ⌜ (at + 9 * n + 2 ≤ length (now list)) × (n ≤ 1024) × (h ≤ 32) × (w ≤ 32) ⌝ }
 {
     let mut blocks = arrays::no_names();
-    rounds::label_in_rounds(rounds.labels, cells, false, h, w, &mut blocks);
-    let mut arrowed = arrays::no_marks();
-    if !arrows::mark_arrows(arrows, total, &blocks, &mut arrowed) {
-        return Run::broken();
-    }
-    run_kinds(list, rounds, at, n, cells, &blocks, &arrowed, h, w)
+    let mut firsts = arrays::no_names();
+    let mut squares = arrays::no_names();
+    let mut arrowed = arrays::no_names();
+    rounds::label_in_rounds(
+        rounds.labels,
+        cells,
+        onarrow,
+        false,
+        h,
+        w,
+        &mut blocks,
+        &mut firsts,
+        &mut squares,
+        &mut arrowed,
+    );
+    let differs = groups_differ(list, at, n, &blocks, &squares[..n], &arrowed[..n]);
+    let found = run_kinds(list, rounds, at + 6 * n, n, cells, &blocks, &arrowed, h, w);
+    found.also(differs)
 }
 
 // Computes the groups and kinds of a board, and compares them with those that the list has at `at`.
@@ -138,15 +174,19 @@ fn run_board(list: &[u8], rounds: Rounds, at: usize, b: Board) -> Run
         return Run::broken();
     }
     let n = replay::area(h, w);
-    if list.len() < at + 7 * n + 2 {
+    if list.len() < at + 15 * n + 2 {
         return Run::broken();
     }
     let arrows = b.problem.arrows;
     let ends = b.problem.ends;
     let total = arrows::arrow_total(&ends, b.problem.count);
     let cells = b.cells;
-    let differs = potential_groups_differ(list, rounds, at, n, &cells, h, w);
-    let found = run_arrows(list, rounds, at + 2 * n, n, &cells, &arrows, total, h, w);
+    let mut onarrow = arrays::no_marks();
+    if !arrows::mark_arrows(&arrows, total, &mut onarrow) {
+        return Run::broken();
+    }
+    let differs = potential_groups_differ(list, rounds, at, n, &cells, &onarrow, h, w);
+    let found = run_arrows(list, rounds, at + 6 * n, n, &cells, &onarrow, h, w);
     found.also(differs)
 }
 

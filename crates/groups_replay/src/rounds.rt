@@ -2,9 +2,11 @@
 use super::arrays;
 ghost use Prim.Native.Nat.{_*_, _≤_, _<_};
 ghost use mathlib.Core.Path.{_≡_};
-ghost use lib.ListN.{take};
+ghost use lib.ListN.{length, take};
 ghost use Rattle.grid.specs.Side.{sized};
-ghost use Rattle.groups.specs.Arrays.{counts, labelArray};
+ghost use Rattle.grid.specs.Cells.{square};
+ghost use Rattle.groups.specs.Arrays.{counts, marked};
+ghost use Rattle.groups_replay.specs.Blocks.{Computed};
 
 // How often labels and kinds are computed.
 pub struct Rounds {
@@ -12,21 +14,37 @@ pub struct Rounds {
     pub kinds: usize,
 }
 
-// Computes the names of blocks or of potential groups this many times, each time in the same array.
+// Computes the table of blocks or of potential groups this many times, each time in the same arrays.
 pub fn label_in_rounds(
     rounds: usize,
     cells: &[u8; 1024],
+    onarrow: &[u8; 1024],
     is_potential: bool,
     h: usize,
     w: usize,
     names: &mut [u16; 1024],
+    firsts: &mut [u16; 1024],
+    squares: &mut [u16; 1024],
+    arrowed: &mut [u16; 1024],
 )
-    requires { ⌜ (h ≤ 32) × (w ≤ 32) ⌝ }
-    ensures { λ _. ⌜ (0 < rounds → now (names .exit) ≡ labelArray (sized h w) (counts «is_potential» (take (h * w) (now (cells .entry))))) ⌝ }
+    requires { ⌜ (h ≤ 32) × (w ≤ 32) × (length (now firsts) ≡ 1024) × (length (now squares) ≡ 1024) × (length (now arrowed) ≡ 1024) ⌝ }
+    ensures { λ _. ⌜ (length (now (squares .exit)) ≡ 1024) × (length (now (arrowed .exit)) ≡ 1024) ⌝ }
+    ensures { λ _. ⌜ (0 < rounds → Computed (sized h w) (counts «is_potential» (take (h * w) (now (cells .entry)))) (square (take (h * w) (now (cells .entry)))) (marked (now (onarrow .entry)))
+        (now (names .exit)) (now (squares .exit)) (now (arrowed .exit))) ⌝ }
 {
     let mut i = 0;
     while i < rounds {
-        groups::compute_connected_components(cells, is_potential, h, w, names);
+        groups::compute_connected_components(
+            cells,
+            onarrow,
+            is_potential,
+            h,
+            w,
+            names,
+            firsts,
+            squares,
+            arrowed,
+        );
         i += 1;
     }
 }
@@ -36,7 +54,7 @@ pub fn kinds_in_rounds(
     rounds: usize,
     cells: &[u8; 1024],
     blocks: &[u16; 1024],
-    arrowed: &[u8; 1024],
+    arrowed: &[u16; 1024],
     h: usize,
     w: usize,
     kinds: &mut [u8; 1024],

@@ -15,7 +15,7 @@ use Rattle.kinds.specs.Arrays.{reachMask}
 use Rattle.literals.specs.Literals.{Found}
 use Rattle.growth.specs.Growth.{reason3At, reason4At}
 use Rattle.reach.specs.Chains.{Chains}
-use Rattle.reach.specs.Near.{Sizes}
+use Rattle.reach.specs.Near.{Sizes, SquaresOf}
 use Rattle.kinds.specs.Inside.{puzzleWith, Held}
 
 -- reason 4 for a pair, or reason 3
@@ -55,10 +55,15 @@ pub record Seen (h w : ℕ) (cells kinds owners marks : List ℕ) (f : ℕ) : Ty
   pub held : Held (viewOn h w lines cells) kinds owners
   pub marked : marks ≡ reachMask (viewOn h w lines cells) f
 
--- the cells of each owner are linked and counted
-pub record Grouped (owners head next sizes : List ℕ) (n : ℕ) : Type 0 where
+-- the size of each arrow block, at its name
+abbrev pub Blocks : List ℕ → List ℕ → ℕ → List ℕ → Type 0
+Blocks kinds owners n squares = (f : ℕ) → f < 1024 → getD kinds f 0 ≡ 1 → SquaresOf kinds owners n squares f
+
+-- the cells of each owner are linked and counted, and the sizes of the arrow blocks are known
+pub record Grouped (kinds owners head next sizes squares : List ℕ) (n : ℕ) : Type 0 where
   pub chains : Chains owners head next n
-  pub counts : Sizes owners n sizes
+  pub counts : Sizes kinds owners n sizes
+  pub blocks : Blocks kinds owners n squares
 
 -- the kinds are those of some board, and the places from `from` up to `to` hold arrow cells of it
 pub record Line (h w : ℕ) (cells arrows kinds owners : List ℕ) (from to : ℕ) : Type 0 where

@@ -17,9 +17,9 @@ ghost use Rattle.kinds.specs.Inside.{Held, Limits, puzzleWith, ofBlock};
 ghost use mathlib.Core.List.{List};
 ghost use Rattle.grid.specs.Side.{sized};
 ghost use Rattle.reach.specs.Chains.{Chains};
-ghost use Rattle.growth.specs.Pairs.{viewOn, Shown, Seen};
-ghost use Rattle.reach.specs.Near.{Sizes};
-ghost use Rattle.shift.specs.Shift.{blockIn, Chained};
+ghost use Rattle.growth.specs.Pairs.{viewOn, Shown, Seen, Blocks};
+ghost use Rattle.reach.specs.Near.{Sizes, SquaresOf};
+ghost use Rattle.shift.specs.Shift.{blockIn};
 
 // The most undecided cells, no two consecutive, at the places from `from` up to `to` of an arrow: an undecided cell is
 // counted wherever the one before it was not.
@@ -93,20 +93,12 @@ fn reason_for_arrow_block(
     count
 }
 
-// How many cells the arrow block named f has: those of kind 1 of its chain.
-pub fn count_block(kinds: &[u8; 1024], head: &[u16; 1024], next: &[u16; 1024], f: u16) -> usize
-    requires { ⌜ Chained (now head) (now next) × (f < 1024) ⌝ }
-    ensures { λ r. ⌜ ((owners : List ℕ) (n : ℕ) → Chains owners (now (head .entry)) (now (next .entry)) n → r ≡ length (blockIn (now (kinds .entry)) owners n f)) ⌝ }
+// How many cells the arrow block named f has: its squares.
+pub fn block_size(squares: &[u16; 1024], f: u16) -> usize
+    requires { ⌜ f < 1024 ⌝ }
+    ensures { λ r. ⌜ ((kinds owners : List ℕ) (n : ℕ) → Blocks kinds owners n (now (squares .entry)) → getD kinds f 0 ≡ 1 → r ≡ length (blockIn kinds owners n f)) ⌝ }
 {
-    let mut count = 0;
-    let mut i = head[f as usize] as usize;
-    while i < 1024 {
-        if kinds[i] == 1 {
-            count += 1;
-        }
-        i = next[i] as usize;
-    }
-    count
+    grid::wide(squares[f as usize])
 }
 
 // How many cells the reach of the arrow block named f has.
@@ -116,6 +108,7 @@ pub fn count_reach(
     head: &[u16; 1024],
     next: &[u16; 1024],
     sizes: &[u16; 1024],
+    squares: &[u16; 1024],
     h: usize,
     w: usize,
     f: u16,
@@ -126,12 +119,12 @@ pub fn count_reach(
         × (f < 1024) × (length (now groups) ≡ 1024) ⌝ }
     ensures { λ r. ⌜ ((lines : List (List ℕ)) (cells : List ℕ)
         → Held (view (puzzleWith (sized h w) lines) cells) (now (kinds .entry)) (now (owners .entry))
-        → Sizes (now (owners .entry)) (h * w) (now (sizes .entry)) → getD (now (kinds .entry)) f 0 ≡ 1
+        → Sizes (now (kinds .entry)) (now (owners .entry)) (h * w) (now (sizes .entry)) → SquaresOf (now (kinds .entry)) (now (owners .entry)) (h * w) (now (squares .entry)) f → getD (now (kinds .entry)) f 0 ≡ 1
         → r ≡ length (reach (view (puzzleWith (sized h w) lines) cells) f)) ⌝ }
     ensures { λ r. ⌜ length (now (groups .exit)) ≡ 1024 ⌝ }
 {
     let count = near::near_floats(kinds, owners, head, next, h, w, f, near, groups);
-    near::reach_size(sizes, groups, count, f)
+    near::reach_size(sizes, squares, groups, count, f)
 }
 
 // The cells of the arrow block named b, the arrow cell i and the fence of the arrow block named f, whose reach is marked.

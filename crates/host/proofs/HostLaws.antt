@@ -34,7 +34,7 @@ use Rattle.groups.specs.Arrays.{linesOf}
 use Rattle.reasons.specs.Find.{cellsOn, reasonOn}
 use Rattle.reasons.proofs.BoardArrays.{codes-aside}
 use Rattle.reasons.proofs.Demand3.{reason-on}
-use Rattle.host.specs.Host.{acceptOr, decideBytes, hostFinds, Opens}
+use Rattle.host.specs.Host.{acceptOr, decideBytes, hostCall, hostFinds, Opens}
 
 -- the call's own board has no hint counted
 pub none-counted : 0 ≤ 65535
@@ -95,16 +95,7 @@ pub reason-held : (q : Problem) (hints : ℕ) (cells order : List ℕ) (decided 
 unfolding reasonOn cellsOn gridOf puzzleOf size
 reason-held q hints cells order decided = sym (codes-aside (puzzleOf q) (take (q .height * q .width) cells))
 
--- ---- the call, step by step
-
--- a refused record
-pub open-refused : (s : List ℕ) (o : Opened) {k : ℕ} → o ≡ openOf s → o .answer ≡ Refused k → (decisions : List ℕ) (n : ℕ) → hostFinds s decisions n ≡ refused k
-unfolding hostFinds openOf opening _>>=_
-open-refused s o {k} e f decisions n = rw (go (readRecord s) (sym (ap (λ (o : Opened). o .answer) e) ∙ f)) refl
-  where
-    go : (r : Outcome Puzzle) → opening r .answer ≡ Refused k → r ≡ refused k
-    go (refused m) q = let z : m ≡ k = cc in ap refused z
-    go (ok p) q = let z : _≡_ {A = ℕ} 0 1 = cc in absurd (omega arith)
+-- ---- a call, step by step
 
 -- an accepted record
 pub open-done : (s : List ℕ) (o : Opened) → o ≡ openOf s → o .answer ≡ Done → Opens s (o .board)
@@ -125,56 +116,92 @@ opens-as s b e = go (readRecord s) refl e
     go (ok p) q f = record { puzzle = p; reads = q; fresh = sym (ap (λ (o : Opened). o .board) f) }
 
 module _ (s : List ℕ) {p : Puzzle} (reads : readRecord s ≡ ok p) {b : Board} (fresh : b ≡ boardOf p [] 0) where
-  valid : Valid p
-  valid = record-valid s reads
+  pub opens-valid : Valid p
+  opens-valid = record-valid s reads
 
-  sizes : b .problem .height * b .problem .width ≡ size (p .grid)
+  pub opens-size : b .problem .height * b .problem .width ≡ size (p .grid)
   unfolding boardOf problemOf size
-  sizes = rw fresh refl
+  opens-size = rw fresh refl
 
   -- the cells are few, so nothing overflows
   pub opens-area : b .problem .height * b .problem .width ≤ 1024
-  opens-area = rw sizes (valid-size valid)
+  opens-area = rw opens-size (valid-size opens-valid)
 
   -- the board is well formed
   pub opens-well : wellFormed b ≡ true
-  opens-well = rw fresh (standing-well p valid none-counted none)
+  opens-well = rw fresh (standing-well p opens-valid none-counted none)
 
-  module _ (decisions : List ℕ) (n : ℕ) where
+  -- the board's list of decisions answers as the machine does
+  all-decided : (decisions : List ℕ) → allPlaced b (placedFrom b decisions) ≡ decidedBy b p (decideBytes (p .grid) [] decisions)
+  all-decided decisions = rw fresh (decided-bytes p opens-valid (boardOf p [] 0) decisions none)
+
+module _ {A : Type 0} (need : Grid → ℕ) (says : Puzzle → List Literal → A) where
+  -- a refused record
+  pub call-unread : (s : List ℕ) (o : Opened) {k : ℕ} → o ≡ openOf s → o .answer ≡ Refused k → (decisions : List ℕ) (n : ℕ) → hostCall need says s decisions n ≡ refused k
+  unfolding openOf opening _>>=_
+  call-unread s o {k} e f decisions n = rw (go (readRecord s) (sym (ap (λ (o : Opened). o .answer) e) ∙ f)) refl
+    where
+      go : (r : Outcome Puzzle) → opening r .answer ≡ Refused k → r ≡ refused k
+      go (refused m) q = let z : m ≡ k = cc in ap refused z
+      go (ok p) q = let z : _≡_ {A = ℕ} 0 1 = cc in absurd (omega arith)
+
+  module _ (s : List ℕ) {p : Puzzle} (reads : readRecord s ≡ ok p) {b : Board} (fresh : b ≡ boardOf p [] 0) (decisions : List ℕ) (n : ℕ) where
     -- an output that is too short
-    pub output-short : n < 2 * (3 * (b .problem .height * b .problem .width) + 1) → hostFinds s decisions n ≡ refused 11
-    unfolding hostFinds enough _>>=_ unless
-    output-short h = rw (reads, lt-leb (2 * (3 * size (p .grid) + 1)) n (rw sizes at h)) refl
+    pub call-short : n < need (p .grid) → hostCall need says s decisions n ≡ refused 11
+    unfolding _>>=_ unless
+    call-short h = rw (reads, lt-leb (need (p .grid)) n h) refl
 
     -- the decisions come next where it is long enough
-    output-long : 2 * (3 * (b .problem .height * b .problem .width) + 1) ≤ n → hostFinds s decisions n ≡ (decideBytes (p .grid) [] decisions >>= λ ds. ok (findOn p ds))
-    unfolding hostFinds enough _>>=_ unless
-    output-long h = rw (reads, le-leb (2 * (3 * size (p .grid) + 1)) n (rw sizes at h)) refl
-
-    -- the board's list of decisions answers as the machine does
-    all-decided : allPlaced b (placedFrom b decisions) ≡ decidedBy b p (decideBytes (p .grid) [] decisions)
-    all-decided = rw fresh (decided-bytes p valid (boardOf p [] 0) decisions none)
+    call-long : need (p .grid) ≤ n → hostCall need says s decisions n ≡ (decideBytes (p .grid) [] decisions >>= λ ds. ok (says p ds))
+    unfolding _>>=_ unless
+    call-long h = rw (reads, le-leb (need (p .grid)) n h) refl
 
     -- what placing all decisions answers, and the board that it leaves
-    module _ (a : Answer) (left : Board) (e : placedFrom b decisions ≡ record { answer = a; board = left }) (h : 2 * (3 * (b .problem .height * b .problem .width) + 1) ≤ n) where
+    module _ (a : Answer) (left : Board) (e : placedFrom b decisions ≡ record { answer = a; board = left }) (h : need (p .grid) ≤ n) where
       -- a decision is refused
-      pub decisions-refused : {k : ℕ} → a ≡ Refused k → hostFinds s decisions n ≡ refused k
+      pub call-refused : {k : ℕ} → a ≡ Refused k → hostCall need says s decisions n ≡ refused k
       unfolding onward decidedBy refusedWith _>>=_
-      decisions-refused {k} f = output-long h ∙ go (decideBytes (p .grid) [] decisions) (sym (ap (λ (x : Answer). allPlaced b (record { answer = x; board = left })) f) ∙ sym (ap (allPlaced b) e) ∙ all-decided)
+      call-refused {k} f =
+          call-long h ∙ go (decideBytes (p .grid) [] decisions) (sym (ap (λ (x : Answer). allPlaced b (record { answer = x; board = left })) f) ∙ sym (ap (allPlaced b) e) ∙ all-decided s reads fresh decisions)
         where
-          go : (r : Outcome (List Literal)) → refusedWith k b ≡ decidedBy b p r → (r >>= λ ds. ok (findOn p ds)) ≡ refused k
+          go : (r : Outcome (List Literal)) → refusedWith k b ≡ decidedBy b p r → (r >>= λ ds. ok (says p ds)) ≡ refused k
           go (refused m) q = let a = ap (λ (d : Decided). d .answer) q in let z : m ≡ k = cc in ap refused z
           go (ok ds) q = let a = ap (λ (d : Decided). d .answer) q in let z : _≡_ {A = ℕ} 0 1 = cc in absurd (omega arith)
 
-      -- all are accepted
-      pub decisions-done : a ≡ Done → hostFinds s decisions n ≡ ok (reasonOn left)
+      -- all are accepted: the call says what it says of the board that is left
+      pub call-done : a ≡ Done → (v : A) → ((ds : List Literal) → Standing (p .grid) ds → left ≡ boardOf p ds 0 → says p ds ≡ v) → hostCall need says s decisions n ≡ ok v
       unfolding onward decidedBy refusedWith _>>=_
-      decisions-done f = output-long h ∙ go (decideBytes (p .grid) [] decisions) refl (sym (ap (λ (x : Answer). allPlaced b (record { answer = x; board = left })) f) ∙ sym (ap (allPlaced b) e) ∙ all-decided)
+      call-done f v said =
+          call-long h
+          ∙ go (decideBytes (p .grid) [] decisions) refl (sym (ap (λ (x : Answer). allPlaced b (record { answer = x; board = left })) f) ∙ sym (ap (allPlaced b) e) ∙ all-decided s reads fresh decisions)
         where
-          go : (r : Outcome (List Literal)) → decideBytes (p .grid) [] decisions ≡ r → _≡_ {A = Decided} (record { answer = Done; board = left }) (decidedBy b p r)
-              → (r >>= λ ds. ok (findOn p ds)) ≡ ok (reasonOn left)
+          go : (r : Outcome (List Literal)) → decideBytes (p .grid) [] decisions ≡ r → _≡_ {A = Decided} (record { answer = Done; board = left }) (decidedBy b p r) → (r >>= λ ds. ok (says p ds)) ≡ ok v
           go (refused m) q g = let a = ap (λ (d : Decided). d .answer) g in let z : _≡_ {A = ℕ} 0 1 = cc in absurd (omega arith)
-          go (ok ds) q g =
-              let t : Standing (p .grid) ds = bytes-standing (p .grid) decisions none q in
-              let z : left ≡ boardOf p ds 0 = ap (λ (d : Decided). d .board) g in
-              rw (z, reason-on p valid 0 t) refl
+          go (ok ds) q g = ap ok (said ds (bytes-standing (p .grid) decisions none q) (ap (λ (d : Decided). d .board) g))
+
+-- ---- the host call
+
+-- a refused record
+pub open-refused : (s : List ℕ) (o : Opened) {k : ℕ} → o ≡ openOf s → o .answer ≡ Refused k → (decisions : List ℕ) (n : ℕ) → hostFinds s decisions n ≡ refused k
+unfolding hostFinds
+open-refused s o e f decisions n = call-unread (λ g. 2 * enough g) findOn s o e f decisions n
+
+module _ (s : List ℕ) {p : Puzzle} (reads : readRecord s ≡ ok p) {b : Board} (fresh : b ≡ boardOf p [] 0) (decisions : List ℕ) (n : ℕ) where
+  -- an output that is too short
+  pub output-short : n < 2 * (3 * (b .problem .height * b .problem .width) + 1) → hostFinds s decisions n ≡ refused 11
+  unfolding hostFinds enough
+  output-short h = call-short (λ g. 2 * enough g) findOn s reads fresh decisions n (rw (opens-size s reads fresh) at h)
+
+  -- what placing all decisions answers, and the board that it leaves, where it is long enough
+  module _ (a : Answer) (left : Board) (e : placedFrom b decisions ≡ record { answer = a; board = left }) (h : 2 * (3 * (b .problem .height * b .problem .width) + 1) ≤ n) where
+    -- a decision is refused
+    pub decisions-refused : {k : ℕ} → a ≡ Refused k → hostFinds s decisions n ≡ refused k
+    unfolding hostFinds enough
+    decisions-refused f = call-refused (λ g. 2 * enough g) findOn s reads fresh decisions n a left e (rw (opens-size s reads fresh) at h) f
+
+    -- all are accepted
+    pub decisions-done : a ≡ Done → hostFinds s decisions n ≡ ok (reasonOn left)
+    unfolding hostFinds enough
+    decisions-done f =
+        call-done (λ g. 2 * enough g) findOn s reads fresh decisions n a left e (rw (opens-size s reads fresh) at h) f (reasonOn left)
+        (λ ds t z. rw z (sym (reason-on p (opens-valid s reads fresh) 0 t)))

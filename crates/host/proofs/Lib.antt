@@ -4,5 +4,7 @@ pub mod HostLaws
 pub mod OutputLaws
 pub mod FoundLaws
 pub mod Returns
+pub mod ShadedLaws
+pub mod ShadedLeaves
 pub mod Behind
 pub mod JudgedLaws

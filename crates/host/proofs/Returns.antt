@@ -25,8 +25,12 @@ use Rattle.reasons.proofs.ReasonLaws.{found-length}
 use Rattle.reasons.proofs.OnMachine.{on-machine}
 use Rattle.clauses.specs.Clauses.{sheetBytes, sheetWithin, sheetFor}
 use Rattle.clauses.proofs.LengthLaws.{sheet-most}
+use Rattle.shades.specs.Shades.{shadesOn}
+use Rattle.shades.proofs.ShadeLaws.{shades-length}
+use Rattle.exported.proofs.BytesLaws.{bytes-length}
 use Rattle.host.specs.Host.{acceptOr, decideBytes, hostFinds, returned}
 use Rattle.host.specs.Judged.{hostFinished}
+use Rattle.host.specs.Shaded.{hostShades}
 use Rattle.host.specs.Returns.{faults, refusals, Returns, negated-refusal, literal-count, Possible, refusal-of, value-of, FoundOn, no-reason, some-reason, FoundWith}
 
 -- ---- an outcome step by step
@@ -259,3 +263,13 @@ unfolding sheetFor sheetWithin
 clauses-possible s n =
     then-possible (itself (possible-more (λ _ m. List·Memᴰ·tail m) (λ p _. tt {0}) (read-possible s))) λ p e.
     then-possible (unless-possible (leb (length (sheetBytes p)) n) 13 (λ _. List·Memᴰ·head refl)) λ _ _. value-of (sheet-most s p e)
+
+-- the call for the shades: 4 × H × W bytes, or a refusal of the record or of a decision, or 11, and never 6, 8 or 10
+pub shades-possible : (s decisions : List ℕ) (k : ℕ) → Bytes decisions
+    → Possible (11 ∷ refusals) (λ (l : List ℕ). (p : Puzzle) × (readRecord s ≡ ok p) × (length l ≡ 4 * size (p .grid))) (hostShades s decisions k)
+unfolding hostShades
+shades-possible s decisions k low =
+    then-possible (itself (possible-more (λ x m. List·Memᴰ·tail (fault-refusal x m)) (λ p _. tt {0}) (read-possible s))) λ p e.
+    then-possible (unless-possible (leb (4 * size (p .grid)) k) 11 (λ _. List·Memᴰ·head refl)) λ _ _.
+    then-possible (decide-possible (λ _ m. List·Memᴰ·tail m) (p .grid) decisions (λ a b m n h. absurd (byte-value low a b m n h)) none) λ ds _.
+    value-of (p, e, omega (arith, bytes-length (shadesOn (p .grid) (cellsAfter (p .grid) ds)), shades-length (p .grid) (cellsAfter (p .grid) ds)))

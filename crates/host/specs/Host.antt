@@ -9,7 +9,7 @@ use lib.Dec.{eqb, leb}
 use lib.IntN.{ℤ, pos, negℤ}
 use lib.ListN.{length, drop}
 use Rattle.grid.specs.Grid.{Grid}
-use Rattle.record.specs.Record.{Outcome, ok, refused, _>>=_, unless, readRecord}
+use Rattle.record.specs.Record.{Outcome, ok, refused, _>>=_, unless, Puzzle, readRecord}
 use Rattle.record.specs.declared.Answer.the-variants.{Done}
 use Rattle.exported.specs.Written.{bytesOf}
 use Rattle.grid.specs.Cells.{Literal, word}
@@ -34,13 +34,18 @@ decideBytes g ds (a ∷ b ∷ rest) =
     (decideBytes g (after g (decide ((a * 256 + b) % 1024) ((a * 256 + b) / 32768)) ds) rest))
     (refused 12)
 
--- the call opens, decides in order and finds: 1 to 5, then 11 for an output of k bytes that is too short, then the decisions' refusals
-unfoldable pub hostFinds : List ℕ → List ℕ → ℕ → Outcome Found
-hostFinds s decisions k =
+-- a call opens, decides in order and says something of the puzzle and its decisions: 1 to 5, then 11 for an output of k bytes, less than a board
+-- of this size needs, then the decisions' refusals
+abbrev pub hostCall : {A : Type 0} → (Grid → ℕ) → (Puzzle → List Literal → A) → List ℕ → List ℕ → ℕ → Outcome A
+hostCall need says s decisions k =
     readRecord s >>= λ p.
-    unless (leb (2 * enough (p .grid)) k) 11 >>= λ _.
+    unless (leb (need (p .grid)) k) 11 >>= λ _.
     decideBytes (p .grid) [] decisions >>= λ ds.
-    ok (findOn p ds)
+    ok (says p ds)
+
+-- the host call opens, decides in order and finds
+unfoldable pub hostFinds : List ℕ → List ℕ → ℕ → Outcome Found
+hostFinds s decisions k = hostCall (λ g. 2 * enough g) findOn s decisions k
 
 -- the number returned: the literal count, 0 for none, or the negated refusal number
 unfoldable pub returned : Outcome Found → ℤ

@@ -2,3 +2,4 @@ pub mod Host
 pub mod Inside
 pub mod Judged
 pub mod Returns
+pub mod Shaded

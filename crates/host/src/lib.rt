@@ -1,5 +1,6 @@
 // The calls that are exported for Rust and C.
 use board::Board;
+use exported::counted;
 use exported::negated;
 use finished::Verdict;
 use literals::Finding;
@@ -18,11 +19,13 @@ ghost use Rattle.inconsistency.specs.Arrays.{ArrowArrays};
 ghost use Rattle.board.specs.Decide.{decideAllOf};
 ghost use Rattle.exported.specs.Written.{bytesOf, written, outputWith};
 ghost use Rattle.clauses.specs.Clauses.{sheetFor};
+ghost use Rattle.shades.specs.Shades.{shadesOn};
 ghost use Rattle.host.specs.Host.{hostFinds, returned, outputAfter, Opens};
 ghost use Rattle.host.specs.Inside.{verdictNumber, judgedBy};
 ghost use Rattle.host.specs.Judged.{hostFinished, judged};
+ghost use Rattle.host.specs.Shaded.{hostShades};
 
-// Writes the first `count` literals to the output, each as two bytes, most significant first.
+// Writes the first `count` literals, or other numbers, to the output, each as two bytes, most significant first.
 fn write_literals(literals: &[u16], count: usize, output: &mut [u8])
     requires { ⌜ (count ≤ length (now literals)) × (2 * count ≤ length (now output)) ⌝ }
     ensures { λ _. ⌜ now (output .exit) ≡ bytesOf (take count (now (literals .entry))) ++ drop (2 * count) (now (output .entry)) ⌝ }
@@ -154,4 +157,57 @@ pub extern "C" fn evolmino_clauses(record: &[u8], output: &mut [u8]) -> i32
         × (now (output .exit) ≡ outputWith (sheetFor (length (now (output .entry))) (now («record» .entry))) (now (output .entry))) ⌝ }
 {
     clauses::write_clauses(record, output)
+}
+
+// Writes the shades of a board of h by w cells to the output, from the states of its cells. The output is long enough. Returns how many
+// bytes they are.
+fn shade_on(cells: &[u8; 1024], h: usize, w: usize, output: &mut [u8]) -> i32
+    requires { ⌜ (h ≤ 32) × (w ≤ 32) × (4 * (h * w) ≤ length (now output)) ⌝ }
+    ensures { λ r. ⌜ (r ≡ written (ok (bytesOf (shadesOn (sized h w) (take (h * w) (now (cells .entry)))))))
+        × (now (output .exit) ≡ outputWith (ok (bytesOf (shadesOn (sized h w) (take (h * w) (now (cells .entry)))))) (now (output .entry))) ⌝ }
+{
+    let mut shades = shades::no_shades();
+    shades::shade_cells(cells, h, w, &mut shades);
+    let count = 2 * (h * w);
+    write_literals(&shades, count, output);
+    counted(2 * count)
+}
+
+// Decides in order on a fresh board and writes its shades: 11 for an output that is too short, then the decisions' refusals. The board
+// is not tested, as in `decide_and_find`.
+fn decide_and_shade(board: Board, decisions: &[u8], output: &mut [u8]) -> i32
+    requires { ⌜ ((s : List ℕ) × Opens s board) ⌝ }
+    ensures { λ r. ⌜ ((s : List ℕ) → Opens s board
+        → (r ≡ written (hostShades s (now (decisions .entry)) (length (now (output .entry)))))
+        × (now (output .exit) ≡ outputWith (hostShades s (now (decisions .entry)) (length (now (output .entry)))) (now (output .entry)))) ⌝ }
+{
+    let h = board.problem.height;
+    let w = board.problem.width;
+    if output.len() < 4 * (h * w) {
+        return exported::negated(11);
+    }
+    let mut cells = board.cells;
+    let mut order = board.order;
+    let placed = board::place_all(&mut cells, &mut order, h * w, board.decided, decisions);
+    let answer = placed.answer;
+    match answer {
+        Answer::Done => shade_on(&cells, h, w, output),
+        Answer::Refused(k) => negated(k),
+    }
+}
+
+// Opens the record, decides in order and writes for each cell of the grid in row order the first cell of its block and the block's count
+// of squares, two bytes each, most significant first; 0 and 0 for a cell that is not square. Returns how many bytes are written, or the
+// negated number of a refusal, which leaves the output as it was.
+#[no_mangle]
+pub extern "C" fn evolmino_shades(record: &[u8], decisions: &[u8], output: &mut [u8]) -> i32
+    ensures { λ r. ⌜ (r ≡ written (hostShades (now («record» .entry)) (now (decisions .entry)) (length (now (output .entry)))))
+        × (now (output .exit) ≡ outputWith (hostShades (now («record» .entry)) (now (decisions .entry)) (length (now (output .entry)))) (now (output .entry))) ⌝ }
+{
+    let begun = Board::open(record);
+    let answer = begun.answer;
+    match answer {
+        Answer::Done => decide_and_shade(begun.board, decisions, output),
+        Answer::Refused(k) => negated(k),
+    }
 }

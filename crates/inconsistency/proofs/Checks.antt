@@ -2,9 +2,9 @@
 -- Assumes nothing.
 use Prim.Native.Nat.{ℕ, _*_, _≤_, _<_}
 use mathlib.Core.Bool.{true, false}
-use mathlib.Core.Path.{_≡_, subst}
+use mathlib.Core.Path.{_≡_, sym, ap, _∙_, subst}
 use mathlib.Core.List.{List, List·Memᴰ}
-use lib.ListN.{take}
+use lib.ListN.{length, take}
 use Rattle.grid.specs.Lists.{member}
 use Rattle.grid.specs.Marks.{Marks}
 use Rattle.grid.specs.Grid.{size}
@@ -14,9 +14,12 @@ use Rattle.grid.proofs.ListLaws.{flatMap-mem}
 use Rattle.record.specs.Record.{Puzzle}
 use Rattle.record.specs.Problem.{arrowCells}
 use Rattle.groups.specs.Arrows.{onArrow}
-use Rattle.groups.specs.Arrays.{Line, linesOf, maskOf, labelArray, counts}
+use Rattle.grid.specs.Cells.{square}
+use Rattle.grid.proofs.GridLaws.{size-most}
+use Rattle.groups.specs.Arrays.{Line, linesOf, maskOf, counts, marked, Counted, GroupTable}
+use Rattle.groups.proofs.TableLaws.{table-on}
 use Rattle.groups.proofs.MarkLaws.{arrow-marks}
-use Rattle.kinds.specs.Inside.{puzzleWith}
+use Rattle.kinds.specs.Inside.{puzzleWith, Held}
 use Rattle.kinds.specs.Kinds.{view}
 use Rattle.literals.specs.declared.Finding.{Finding}
 use Rattle.literals.specs.declared.Finding.the-variants.{Nothing, Reason, Refused}
@@ -25,8 +28,12 @@ use Rattle.units.specs.Units.{reason1}
 use Rattle.paths.specs.Paths.{reason2}
 use Rattle.growth.specs.Growth.{reason34}
 use Rattle.inconsistency.specs.Reasons.{findReason}
-use Rattle.units.specs.Arrays.{PotentialArrays, Listed}
-use Rattle.paths.specs.Ends.{BlockArrays}
+use Rattle.units.specs.Arrays.{PotentialTable}
+use Rattle.paths.specs.Ends.{BlockTable}
+use Rattle.growth.specs.Pairs.{viewOn, Blocks}
+use Rattle.growth.proofs.PairChecks.{block-in}
+use Rattle.shift.specs.Shift.{blockIn}
+use Rattle.reach.proofs.BlockSize.{block-cell, block-size}
 use Rattle.inconsistency.specs.Arrays.{ArrowArrays}
 use Rattle.literals.specs.Inside.{FoundAs, Fit}
 use Rattle.literals.proofs.Findings.{nothing-found, not-refused, found-first, found-next}
@@ -48,19 +55,27 @@ module _ (h w : ℕ) (tall : h ≤ 32) (wide : w ≤ 32) {arrows ends : List ℕ
   pub line-is : Line arrows total
   line-is = record { long = d .drawn .places .long; within = d .within; cells = λ k h. d .drawn .places .cells k }
 
-  pub listed-is : {onarrow : List ℕ} → Marks onarrow (λ i. member i (take total arrows)) → Listed arrows total onarrow
-  listed-is m = record { line = line-is; marks = m }
-
-  -- the potential groups and the blocks that were labelled
-  pub potentials-held : (cells : List ℕ) {labels onarrow : List ℕ} → labels ≡ labelArray (sized h w) (counts true (take (h * w) cells)) → Marks onarrow (λ i. member i (take total arrows))
-      → PotentialArrays (puzzleWith (sized h w) (linesOf arrows ends number)) (take (h * w) cells) labels onarrow
+  -- the tables of the potential groups and of the blocks
+  pub potentials-held : (cells : List ℕ) {onarrow groups names squares arrowed : List ℕ} {count : ℕ}
+      → GroupTable (sized h w) (counts true (take (h * w) cells)) (square (take (h * w) cells)) (marked onarrow) groups names squares arrowed count → Marks onarrow (λ i. member i (take total arrows))
+      → PotentialTable (puzzleWith (sized h w) (linesOf arrows ends number)) (take (h * w) cells) groups names squares arrowed count
   unfolding counts
-  potentials-held cells l m = record { groups-are = l; arrows-are = marks-are m }
+  potentials-held cells t m = table-on (sized h w) _ (linesOf arrows ends number) (marks-are m) t
 
-  pub blocks-held : (cells : List ℕ) {labels onarrow : List ℕ} → labels ≡ labelArray (sized h w) (counts false (take (h * w) cells)) → Marks onarrow (λ i. member i (take total arrows))
-      → BlockArrays (puzzleWith (sized h w) (linesOf arrows ends number)) (take (h * w) cells) labels onarrow
+  pub blocks-held : (cells : List ℕ) {onarrow groups names squares arrowed : List ℕ} {count : ℕ}
+      → GroupTable (sized h w) (counts false (take (h * w) cells)) (square (take (h * w) cells)) (marked onarrow) groups names squares arrowed count → Marks onarrow (λ i. member i (take total arrows))
+      → BlockTable (puzzleWith (sized h w) (linesOf arrows ends number)) (take (h * w) cells) groups onarrow names squares arrowed count
   unfolding counts
-  blocks-held cells l m = record { groups-are = l; arrows-are = marks-are m }
+  blocks-held cells t m = record { table = table-on (sized h w) _ (linesOf arrows ends number) (marks-are m) t; arrows-are = marks-are m }
+
+-- the sizes of the arrow blocks are the counts of their squares
+pub blocks-counted : (h w : ℕ) → h ≤ 32 → w ≤ 32 → (lines : List (List ℕ)) (cells : List ℕ) {kinds owners squares : List ℕ} → Held (viewOn h w lines cells) kinds owners
+    → Counted (sized h w) (square (take (h * w) cells)) (square (take (h * w) cells)) squares → Blocks kinds owners (h * w) squares
+unfolding blockIn
+blocks-counted h w tall wide lines cells {kinds} {owners} held counted f l b =
+    counted .at f (block-cell (puzzleWith (sized h w) lines) (size-most (sized h w) tall wide) (take (h * w) cells) kinds owners held f b)
+    ∙ sym (block-size (puzzleWith (sized h w) lines) (size-most (sized h w) tall wide) (take (h * w) cells) kinds owners held f b)
+    ∙ sym (ap length (block-in h w lines cells held f))
 
 -- ---- one search after another
 

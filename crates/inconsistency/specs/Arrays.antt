@@ -7,7 +7,8 @@ use lib.ListN.{take}
 use Rattle.grid.specs.Side.{sized}
 use Rattle.record.specs.Problem.{arrowCells}
 use Rattle.kinds.specs.Inside.{puzzleWith, Given}
-use Rattle.groups.specs.Arrays.{linesOf, Drawn}
+use Rattle.grid.specs.Cells.{square}
+use Rattle.groups.specs.Arrays.{Counted, linesOf, Drawn}
 
 -- the arrays hold the arrows of a board of n cells; together the arrows have `total` cells, which stand first in the array
 pub record ArrowArrays (n : ℕ) (arrows ends : List ℕ) (number total : ℕ) : Type 0 where
@@ -15,7 +16,8 @@ pub record ArrowArrays (n : ℕ) (arrows ends : List ℕ) (number total : ℕ) :
   pub within : total ≤ 1024
   pub cells-are : take total arrows ≡ arrowCells (linesOf arrows ends number)
 
--- the arrays hold a board with its arrows, its blocks and its arrow blocks
-pub record Ready (h w : ℕ) (cells arrows ends : List ℕ) (number : ℕ) (blocks arrowed : List ℕ) : Type 0 where
+-- the arrays hold a board with its arrows, its blocks and by name the squares and the arrow cells of each block
+pub record Ready (h w : ℕ) (cells arrows ends : List ℕ) (number : ℕ) (blocks squares arrowed : List ℕ) : Type 0 where
   pub drawn : Drawn (h * w) arrows ends number
   pub held : Given (puzzleWith (sized h w) (linesOf arrows ends number)) (take (h * w) cells) blocks arrowed
+  pub counted : Counted (sized h w) (square (take (h * w) cells)) (square (take (h * w) cells)) squares

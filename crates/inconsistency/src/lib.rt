@@ -19,12 +19,13 @@ fn check_arrows(
     ends: &[u16; 1024],
     number: usize,
     blocks: &[u16; 1024],
-    arrowed: &[u8; 1024],
+    squares: &[u16; 1024],
+    arrowed: &[u16; 1024],
     h: usize,
     w: usize,
     buffer: &mut [u16],
 ) -> Finding
-    requires { ⌜ Fit h w (now buffer) × Ready h w (now cells) (now arrows) (now ends) number (now blocks) (now arrowed) ⌝ }
+    requires { ⌜ Fit h w (now buffer) × Ready h w (now cells) (now arrows) (now ends) number (now blocks) (now squares) (now arrowed) ⌝ }
     ensures { λ r. ⌜ FoundAs (reason34 (viewOn h w (linesOf (now (arrows .entry)) (now (ends .entry)) number) (now (cells .entry)))) (now (buffer .entry)) (now (buffer .exit)) r ⌝ }
 {
     let mut kinds = [0u8; 1024];
@@ -34,7 +35,7 @@ fn check_arrows(
     let mut next = [1024u16; 1024];
     let mut sizes = [0u16; 1024];
     reach::chain_cells(&owners, h * w, &mut head, &mut next);
-    near::count_cells(&owners, h * w, &mut sizes);
+    near::count_cells(&kinds, &owners, h * w, &mut sizes);
     pairs::search_pairs(
         cells,
         arrows,
@@ -45,6 +46,7 @@ fn check_arrows(
         &head,
         &next,
         &sizes,
+        squares,
         h,
         w,
         buffer,
@@ -67,15 +69,29 @@ pub fn find_inconsistency<'a>(
 {
     let mut onarrow = [0u8; 1024];
     let mut labels = [0u16; 1024];
+    let mut names = [0u16; 1024];
+    let mut squares = [0u16; 1024];
+    let mut arrowed = [0u16; 1024];
     let total = record::arrow_total(ends, number);
     groups::mark_arrow_cells(arrows, total, &mut onarrow);
-    groups::compute_connected_components(cells, true, h, w, &mut labels);
+    let potentials = groups::compute_connected_components(
+        cells,
+        &onarrow,
+        true,
+        h,
+        w,
+        &mut labels,
+        &mut names,
+        &mut squares,
+        &mut arrowed,
+    );
     let first = units::check_potential_groups(
         cells,
-        arrows,
-        total,
         &labels,
-        &onarrow,
+        &names,
+        potentials,
+        &squares,
+        &arrowed,
         h,
         w,
         buffer,
@@ -89,17 +105,26 @@ pub fn find_inconsistency<'a>(
             return Finding::Refused(k);
         }
     }
-    groups::compute_connected_components(cells, false, h, w, &mut labels);
-    let mut arrowed = [0u8; 1024];
-    let second = paths::check_blocks(
+    let blocks = groups::compute_connected_components(
         cells,
-        arrows,
-        total,
-        &labels,
         &onarrow,
+        false,
         h,
         w,
+        &mut labels,
+        &mut names,
+        &mut squares,
         &mut arrowed,
+    );
+    let second = paths::check_blocks(
+        cells,
+        &labels,
+        &onarrow,
+        &names,
+        blocks,
+        &arrowed,
+        h,
+        w,
         buffer,
     );
     match second {
@@ -109,6 +134,7 @@ pub fn find_inconsistency<'a>(
             ends,
             number,
             &labels,
+            &squares,
             &arrowed,
             h,
             w,

@@ -8,6 +8,5 @@ pub mod Filled
 pub mod Traversal
 pub mod Owners
 pub mod Views
-pub mod ArrowMarks
 pub mod BlockArrays
 pub mod Lengths

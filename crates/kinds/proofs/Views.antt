@@ -5,7 +5,7 @@ use native.Mathlib.Decide.{decLt}
 use native.Mathlib.Omega.{arith}
 use mathlib.Core.Logic.{_⊎_, inl, inr}
 use mathlib.Core.Path.{_≡_, refl, sym, ap, _∙_, fun-ext}
-use mathlib.Core.Bool.{Bool, true, false, So, cond, _&&_, false≢true}
+use mathlib.Core.Bool.{Bool, true, false, So, cond, _&&_, not, false≢true}
 use mathlib.Core.List.{List, [], _∷_, map, List·Memᴰ, List·Memᴰ·head, List·Memᴰ·tail}
 use lib.Dec.{eqb, ltb}
 use lib.ListN.{length, getD, take, List·getD-eq-default}
@@ -20,11 +20,12 @@ use Rattle.grid.proofs.GridLaws.{beside as side, on-grid}
 use Rattle.grid.proofs.FilledLaws.{filled-at, filled-past, filled-is, filled-length, filled-same}
 use Rattle.record.specs.Record.{Puzzle}
 use Rattle.grid.specs.Cells.{empty, square}
-use Rattle.groups.specs.Groups.{labels}
+use Rattle.groups.specs.Groups.{labels, group}
+use Rattle.groups.specs.Arrows.{onArrow}
 use Rattle.groups.specs.Arrays.{labelAt}
 use Rattle.groups.specs.Flood.{Unlabelled, Sofar}
 use Rattle.groups.proofs.GroupLaws.{label-least}
-use Rattle.groups.proofs.MarkLaws.{mask-test}
+use Rattle.groups.proofs.TableLaws.{tally-any, any-filter}
 use Rattle.groups.proofs.LabelLaws.{label-at}
 use Rattle.groups.proofs.LabellingLaws.{sofar-label}
 use Rattle.kinds.specs.Kinds.{Kind, vacant, barrier, floating, inBlock, neighbour, isFloating, kindTouching, arrowBlock, blocksTouched, kindAt, kindsOf, has, view, viewWith}
@@ -58,10 +59,13 @@ module _ (p : Puzzle) (small : size (p .grid) ≤ 1024) (cells blocks A : List �
   unfolding labelAt
   block-at i l = ap (λ (b : List ℕ). getD b i 0) (given .named) ∙ label-at g (square cells) i l
 
-  -- ---- kinds, with the marks of arrow blocks in A
+  -- ---- kinds, with the counts of arrow cells in A
 
-  mark-at : (f : ℕ) → f < size g → eqb (getD A f 0) 1 ≡ arrowed f
-  mark-at f h = ap (λ (m : List ℕ). eqb (getD m f 0) 1) (given .marked) ∙ mask-test g arrowed f h
+  mark-at : (f : ℕ) → f < size g → not (eqb (getD A f 0) 0) ≡ arrowed f
+  unfolding arrowBlock group
+  mark-at f h =
+      tally-any g (square cells) (given .counted) f h
+      ∙ any-filter (onArrow (p .arrows)) (λ i. square cells i && eqb (blockName i) f) (cellsOf g)
 
   -- the cell is a square of an arrow block
   abbrev inArrow : ℕ → Bool
@@ -71,7 +75,7 @@ module _ (p : Puzzle) (small : size (p .grid) ≤ 1024) (cells blocks A : List �
   unfolding arrowBlockAt
   arrow-at j l = by (square cells j) refl
     where
-      by : (s : Bool) → square cells j ≡ s → cond (ltb (getD blocks j 0) 1024 && eqb (getD A (getD blocks j 0) 0) 1) (getD blocks j 0) 1024 ≡ cond (s && arrowed (blockName j)) (blockName j) 1024
+      by : (s : Bool) → square cells j ≡ s → cond (ltb (getD blocks j 0) 1024 && not (eqb (getD A (getD blocks j 0) 0) 0)) (getD blocks j 0) 1024 ≡ cond (s && arrowed (blockName j)) (blockName j) 1024
       by true e =
           let b : getD blocks j 0 ≡ blockName j = block-at j l ∙ rw e in
           let low : blockName j < 1024 = omega (arith, label-below j l e) in

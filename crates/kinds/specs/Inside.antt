@@ -2,20 +2,19 @@
 -- Assumes nothing.
 use Prim.Native.Nat.{ℕ, _≤_, _<_}
 use mathlib.Core.Path.{_≡_}
-use mathlib.Core.Bool.{Bool, true, false, cond, _&&_, _||_}
+use mathlib.Core.Bool.{Bool, true, false, cond, _&&_, not}
 use mathlib.Core.List.{List, [], map, List·Memᴰ}
 use lib.Dec.{eqb, ltb}
 use lib.ListN.{getD}
-use Rattle.grid.specs.Lists.{upto, any, filter, once, arrayOf}
-use Rattle.grid.specs.Marks.{Marks}
+use Rattle.grid.specs.Lists.{upto, filter, once, arrayOf}
 use Rattle.grid.specs.Grid.{Grid, neighbours}
 use Rattle.grid.specs.Side.{InGrid}
 use Rattle.record.specs.Record.{Puzzle}
 use Rattle.grid.specs.Cells.{square}
-use Rattle.groups.specs.Groups.{labels}
-use Rattle.groups.specs.Arrays.{noGroup, labelArray, maskOf}
+use Rattle.groups.specs.Arrows.{onArrow}
+use Rattle.groups.specs.Arrays.{noGroup, labelArray, Counted}
 use Rattle.groups.specs.Flood.{unlabelled}
-use Rattle.kinds.specs.Kinds.{Kind, vacant, barrier, floating, inBlock, neighbour, kindTouching, arrowBlock, View}
+use Rattle.kinds.specs.Kinds.{Kind, vacant, barrier, floating, inBlock, neighbour, kindTouching, View}
 use Rattle.kinds.specs.Arrays.{kindCode, ownerBy, kindArray, ownerArray}
 use Rattle.kinds.specs.declared.Owner.{Owner}
 use Rattle.kinds.specs.declared.Owner.the-variants.{Nobody, One, Many}
@@ -32,10 +31,10 @@ pub record Limits (h w : ℕ) : Type 0 where
 abbrev pub puzzleWith : Grid → List (List ℕ) → Puzzle
 puzzleWith g arrows = record { grid = g; given = []; arrows = arrows }
 
--- what the arrays hold: the names of the blocks of a board, and marks at the names of its arrow blocks
+-- what the arrays hold: the names of the blocks of a board, and by name how many arrow cells each block has
 pub record Given (p : Puzzle) (cells blocks arrowed : List ℕ) : Type 0 where
   pub named : blocks ≡ labelArray (p .grid) (square cells)
-  pub marked : arrowed ≡ maskOf (p .grid) (arrowBlock p cells (labels (p .grid) (square cells)))
+  pub counted : Counted (p .grid) (square cells) (onArrow (p .arrows)) arrowed
 
 -- the arrays hold the kinds and the owners of a view
 pub record Held (v : View) (kinds owners : List ℕ) : Type 0 where
@@ -45,25 +44,6 @@ pub record Held (v : View) (kinds owners : List ℕ) : Type 0 where
 -- cell i is in the arrow block f, by the arrays of kinds and owners
 abbrev pub ofBlock : List ℕ → List ℕ → ℕ → ℕ → Bool
 ofBlock kinds owners f i = eqb (getD kinds i 0) 1 && eqb (getD owners i 0) f
-
--- the cells in a line, and the names of their groups
-module _ (names line : List ℕ) where
-  -- the name of the group of the cell at place k
-  abbrev pub nameAt : ℕ → ℕ
-  nameAt k = getD names (getD line k 0) 0
-
-  -- one of the first k cells is in the group named f
-  unfoldable pub nameAmong : ℕ → ℕ → Bool
-  nameAmong k f = any (λ j. eqb (nameAt j) f) (upto k)
-
-  -- one of the first k cells is in the same group as one before it
-  unfoldable pub nameTwice : ℕ → Bool
-  nameTwice k = any (λ j. ltb (nameAt j) 1024 && nameAmong j (nameAt j)) (upto k)
-
--- the name f is marked, if a group has it, and met tells whether it was marked before
-pub record Met (f : ℕ) (t : ℕ → Bool) (marks : List ℕ) (met : Bool) : Type 0 where
-  pub marked : Marks marks (λ m. t m || eqb f m)
-  pub before : met ≡ (ltb f 1024 && t f)
 
 -- ---- kinds
 
@@ -90,7 +70,7 @@ pub data Owned (l : List ℕ) : Owner → Type 0 where
 module _ (blocks arrowed : List ℕ) where
   -- the name of the arrow block of cell j, 1024 where it is in none
   unfoldable pub arrowBlockAt : ℕ → ℕ
-  arrowBlockAt j = cond (ltb (getD blocks j 0) 1024 && eqb (getD arrowed (getD blocks j 0) 0) 1) (getD blocks j 0) 1024
+  arrowBlockAt j = cond (ltb (getD blocks j 0) 1024 && not (eqb (getD arrowed (getD blocks j 0) 0) 0)) (getD blocks j 0) 1024
 
   -- the names of the arrow blocks of the cells js
   unfoldable pub arrowBlocksAt : List ℕ → List ℕ

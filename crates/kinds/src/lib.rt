@@ -9,11 +9,10 @@ ghost use lib.ListN.{getD, set, take, replicate};
 ghost use Rattle.grid.specs.Marks.{Marks};
 ghost use Rattle.grid.specs.Grid.{neighbours};
 ghost use Rattle.grid.specs.Side.{sized, InGrid};
-ghost use Rattle.groups.specs.Arrays.{Line};
 ghost use Rattle.groups.specs.Flood.{free, Only, Unlabelled, Walked, Sofar};
 ghost use Rattle.kinds.specs.Kinds.{view};
 ghost use Rattle.kinds.specs.Arrays.{kindCode, ownerBy};
-ghost use Rattle.kinds.specs.Inside.{Limits, puzzleWith, Given, Held, nameAmong, nameTwice, Met, kindFrom, meetOf, Owned, arrowBlockAt, arrowBlocksAt, kindIn, codesIn, ownersIn, unnamed, Walkable};
+ghost use Rattle.kinds.specs.Inside.{Limits, puzzleWith, Given, Held, kindFrom, meetOf, Owned, arrowBlockAt, arrowBlocksAt, kindIn, codesIn, ownersIn, unnamed, Walkable};
 
 // No mark is set.
 pub fn clear(marks: &mut [u8; 1024])
@@ -36,47 +35,6 @@ pub fn mark_name(tags: &[u8; 1024], tag: u8, names: &[u16; 1024], j: usize, mark
         return;
     }
     marks[f as usize] = 1;
-}
-
-// One of two marks. A function of its own, so that it can be compiled without a branch: the choice is hard to predict where it is used.
-fn pick_mark(first: bool, a: u8, b: u8) -> u8
-    ensures { λ r. ⌜ r ≡ cond first a b ⌝ }
-{
-    if first { a } else { b }
-}
-
-// Marks the name of the group of cell i, if it is in one; whether it was marked before.
-fn mark_group(names: &[u16; 1024], i: usize, marks: &mut [u8; 1024]) -> bool
-    requires { ⌜ i < 1024 ⌝ }
-    ensures { λ r. ⌜ ((t : ℕ → Bool) → Marks (now (marks .entry)) t → Met (getD (now (names .entry)) i 0) t (now (marks .exit)) r) ⌝ }
-{
-    let f = names[i];
-    let known = f < 1024;
-    let slot = (f % 1024) as usize;
-    let mark = marks[slot];
-    marks[slot] = pick_mark(known, 1, mark);
-    known & (mark == 1)
-}
-
-// Marks the name of each block that has an arrow cell; whether a block has been met twice. Arrows holds the arrow cells in its first
-// places. It does the same for potential groups.
-pub fn mark_arrow_blocks(
-    arrows: &[u16; 1024],
-    total: usize,
-    names: &[u16; 1024],
-    marks: &mut [u8; 1024],
-) -> bool
-    requires { ⌜ Line (now arrows) total ⌝ }
-    ensures { λ r. ⌜ Marks (now (marks .exit)) (nameAmong (now (names .entry)) (now (arrows .entry)) total)
-        × (r ≡ nameTwice (now (names .entry)) (now (arrows .entry)) total) ⌝ }
-{
-    clear(marks);
-    let mut twice = false;
-    for k in 0..total {
-        let met = mark_group(names, arrows[k] as usize, marks);
-        twice = twice | met;
-    }
-    twice
 }
 
 // Stands for the name of a floating group that has none yet.
@@ -141,7 +99,7 @@ fn meet(owner: Owner, f: u16) -> Owner
 }
 
 // The name of the arrow block of cell j, 1024 where it is in none.
-fn arrow_block_at(blocks: &[u16; 1024], arrowed: &[u8; 1024], j: usize) -> u16
+fn arrow_block_at(blocks: &[u16; 1024], arrowed: &[u16; 1024], j: usize) -> u16
     requires { ⌜ j < 1024 ⌝ }
     ensures { λ r. ⌜ r ≡ arrowBlockAt (now (blocks .entry)) (now (arrowed .entry)) j ⌝ }
 {
@@ -149,11 +107,11 @@ fn arrow_block_at(blocks: &[u16; 1024], arrowed: &[u8; 1024], j: usize) -> u16
     if 1024 <= f {
         return 1024;
     }
-    if arrowed[f as usize] == 1 { f } else { 1024 }
+    if arrowed[f as usize] != 0 { f } else { 1024 }
 }
 
 // One more neighbour j: its arrow block is met, if it is in one.
-fn meet_at(blocks: &[u16; 1024], arrowed: &[u8; 1024], j: usize, owner: Owner) -> Owner
+fn meet_at(blocks: &[u16; 1024], arrowed: &[u16; 1024], j: usize, owner: Owner) -> Owner
     requires { ⌜ j < 1024 ⌝ }
     ensures { λ r. ⌜ ((js : List ℕ) → Owned (arrowBlocksAt (now (blocks .entry)) (now (arrowed .entry)) js) owner
         → Owned (arrowBlocksAt (now (blocks .entry)) (now (arrowed .entry)) (js ++ (j ∷ []))) r) ⌝ }
@@ -166,7 +124,7 @@ fn meet_at(blocks: &[u16; 1024], arrowed: &[u8; 1024], j: usize, owner: Owner) -
 }
 
 // The arrow blocks that cell i touches.
-fn look_around(blocks: &[u16; 1024], arrowed: &[u8; 1024], h: usize, w: usize, i: usize) -> Owner
+fn look_around(blocks: &[u16; 1024], arrowed: &[u16; 1024], h: usize, w: usize, i: usize) -> Owner
     requires { ⌜ InGrid h w i ⌝ }
     ensures { λ r. ⌜ Owned (arrowBlocksAt (now (blocks .entry)) (now (arrowed .entry)) (neighbours (sized h w) i)) r ⌝ }
 {
@@ -189,7 +147,7 @@ fn look_around(blocks: &[u16; 1024], arrowed: &[u8; 1024], h: usize, w: usize, i
 fn kind_at(
     cells: &[u8; 1024],
     blocks: &[u16; 1024],
-    arrowed: &[u8; 1024],
+    arrowed: &[u16; 1024],
     h: usize,
     w: usize,
     i: usize,
@@ -220,7 +178,7 @@ fn kind_at(
 fn set_kind(
     cells: &[u8; 1024],
     blocks: &[u16; 1024],
-    arrowed: &[u8; 1024],
+    arrowed: &[u16; 1024],
     h: usize,
     w: usize,
     i: usize,
@@ -240,7 +198,7 @@ fn set_kind(
 fn compute_cell_kinds(
     cells: &[u8; 1024],
     blocks: &[u16; 1024],
-    arrowed: &[u8; 1024],
+    arrowed: &[u16; 1024],
     h: usize,
     w: usize,
     kinds: &mut [u8; 1024],
@@ -290,11 +248,11 @@ fn name_floating_groups(owners: &mut [u16; 1024], h: usize, w: usize)
     }
 }
 
-// The kind of each cell and the group that it belongs to; arrowed marks the names of the arrow blocks. The arrays come without kinds and owners.
+// The kind of each cell and the group that it belongs to; arrowed has by name how many arrow cells each block has. The arrays come without kinds and owners.
 pub fn compute_board_info_detailed(
     cells: &[u8; 1024],
     blocks: &[u16; 1024],
-    arrowed: &[u8; 1024],
+    arrowed: &[u16; 1024],
     h: usize,
     w: usize,
     kinds: &mut [u8; 1024],

@@ -13,26 +13,29 @@ ghost use Rattle.kinds.specs.Kinds.{view, reach};
 ghost use Rattle.reach.specs.Chains.{Chains};
 ghost use Rattle.kinds.specs.Inside.{Limits, puzzleWith, Held};
 ghost use Rattle.reach.specs.Inside.{reachesAt, floatAmong};
-ghost use Rattle.reach.specs.Near.{Sizes, Listed, Listing, NearFloats, Names};
+ghost use Rattle.groups.specs.Arrays.{Names};
+ghost use Rattle.reach.specs.Near.{Sizes, SquaresOf, Listed, Listing, NearFloats};
 
-// Counts cell i for its owner. Without one the size that is read is written back, so that there is no branch to predict.
-fn count_cell(owners: &[u16; 1024], i: usize, sizes: &mut [u16; 1024])
-    requires { ⌜ (i < 1024) × Sizes (now owners) i (now sizes) ⌝ }
-    ensures { λ _. ⌜ Sizes (now (owners .entry)) (i + 1) (now (sizes .exit)) ⌝ }
+// Counts cell i for its owner, unless it is a square of an arrow block: those the grouping step has counted. Otherwise the size that is read is
+// written back, so that there is no branch to predict.
+fn count_cell(kinds: &[u8; 1024], owners: &[u16; 1024], i: usize, sizes: &mut [u16; 1024])
+    requires { ⌜ (i < 1024) × Sizes (now kinds) (now owners) i (now sizes) ⌝ }
+    ensures { λ _. ⌜ Sizes (now (kinds .entry)) (now (owners .entry)) (i + 1) (now (sizes .exit)) ⌝ }
 {
     let f = owners[i];
+    let other = kinds[i] != 1;
     let slot = (f % 1024) as usize;
     let size = sizes[slot];
-    sizes[slot] = grid::pick(f < 1024, size + 1, size);
+    sizes[slot] = grid::pick((f < 1024) & other, size + 1, size);
 }
 
-// How many of the cells below n each owner has. The sizes come as zeros.
-pub fn count_cells(owners: &[u16; 1024], n: usize, sizes: &mut [u16; 1024])
+// How many of the cells below n each owner has beside the squares of arrow blocks. The sizes come as zeros.
+pub fn count_cells(kinds: &[u8; 1024], owners: &[u16; 1024], n: usize, sizes: &mut [u16; 1024])
     requires { ⌜ (n ≤ 1024) × (now sizes ≡ replicate 1024 0) ⌝ }
-    ensures { λ _. ⌜ Sizes (now (owners .entry)) n (now (sizes .exit)) ⌝ }
+    ensures { λ _. ⌜ Sizes (now (kinds .entry)) (now (owners .entry)) n (now (sizes .exit)) ⌝ }
 {
     for i in 0..n {
-        count_cell(owners, i, sizes);
+        count_cell(kinds, owners, i, sizes);
     }
 }
 
@@ -146,15 +149,21 @@ pub fn near_floats(
     total
 }
 
-// The size of the reach of the block f, whose floating groups are listed.
-pub fn reach_size(sizes: &[u16; 1024], groups: &[u16; 1024], count: usize, f: u16) -> usize
+// The size of the reach of the block f, whose floating groups are listed: its squares, its neighbours and the cells of those groups.
+pub fn reach_size(
+    sizes: &[u16; 1024],
+    squares: &[u16; 1024],
+    groups: &[u16; 1024],
+    count: usize,
+    f: u16,
+) -> usize
     requires { ⌜ (f < 1024) × Names (now groups) count ⌝ }
     ensures { λ r. ⌜ ((h w : ℕ) (arrows : List (List ℕ)) (cells kinds owners near : List ℕ) → Limits h w
-        → Held (view (puzzleWith (sized h w) arrows) cells) kinds owners → Sizes owners (h * w) (now (sizes .entry))
+        → Held (view (puzzleWith (sized h w) arrows) cells) kinds owners → Sizes kinds owners (h * w) (now (sizes .entry)) → SquaresOf kinds owners (h * w) (now (squares .entry)) f
         → NearFloats (view (puzzleWith (sized h w) arrows) cells) f near (now (groups .entry)) count → getD kinds f 0 ≡ 1
         → r ≡ length (reach (view (puzzleWith (sized h w) arrows) cells) f)) ⌝ }
 {
-    let mut total = grid::wide(sizes[f as usize]);
+    let mut total = grid::wide(squares[f as usize]) + grid::wide(sizes[f as usize]);
     for k in 0..count {
         total += grid::wide(sizes[groups[k] as usize]);
     }

@@ -97,6 +97,7 @@ fn check_pair(
     head: &[u16; 1024],
     next: &[u16; 1024],
     sizes: &[u16; 1024],
+    squares: &[u16; 1024],
     h: usize,
     w: usize,
     last: usize,
@@ -108,7 +109,7 @@ fn check_pair(
     buffer: &mut [u16],
 ) -> Finding
     requires { ⌜ Fit h w (now buffer) × Squares h w (now cells) (now arrows) (now kinds) (now owners) last cur
-        × Grouped (now owners) (now head) (now next) (now sizes) (h * w) × Work (now groups) (now rows) (now columns) ⌝ }
+        × Grouped (now kinds) (now owners) (now head) (now next) (now sizes) (now squares) (h * w) × Work (now groups) (now rows) (now columns) ⌝ }
     ensures { λ r. ⌜ ((lines : List (List ℕ))
         → Scene h w lines (now (cells .entry)) (now (arrows .entry)) (now (kinds .entry)) (now (owners .entry)) last (cur + 1)
         → FoundAs (reasonAt fourth (viewOn h w lines (now (cells .entry))) (pairAt (now (arrows .entry)) last cur)) (now (buffer .entry)) (now (buffer .exit)) r) ⌝ }
@@ -141,6 +142,7 @@ fn check_pair(
         head,
         next,
         sizes,
+        squares,
         h,
         w,
         last,
@@ -158,6 +160,7 @@ fn check_pair(
             head,
             next,
             sizes,
+            squares,
             h,
             w,
             last,
@@ -181,6 +184,7 @@ fn search_arrow(
     head: &[u16; 1024],
     next: &[u16; 1024],
     sizes: &[u16; 1024],
+    squares: &[u16; 1024],
     h: usize,
     w: usize,
     from: usize,
@@ -192,7 +196,7 @@ fn search_arrow(
     buffer: &mut [u16],
 ) -> Finding
     requires { ⌜ Fit h w (now buffer) × Line h w (now cells) (now arrows) (now kinds) (now owners) from to
-        × Grouped (now owners) (now head) (now next) (now sizes) (h * w) × Work (now groups) (now rows) (now columns) ⌝ }
+        × Grouped (now kinds) (now owners) (now head) (now next) (now sizes) (now squares) (h * w) × Work (now groups) (now rows) (now columns) ⌝ }
     ensures { λ r. ⌜ ((lines : List (List ℕ))
         → Scene h w lines (now (cells .entry)) (now (arrows .entry)) (now (kinds .entry)) (now (owners .entry)) from to
         → FoundAs (firstOf (reasonAt fourth (viewOn h w lines (now (cells .entry)))) (pairs (take (h * w) (now (cells .entry))) (slice from to (now (arrows .entry))))) (now (buffer .entry)) (now (buffer .exit)) r) ⌝ }
@@ -213,6 +217,7 @@ fn search_arrow(
             head,
             next,
             sizes,
+            squares,
             h,
             w,
             last,
@@ -250,6 +255,7 @@ fn search_arrows(
     head: &[u16; 1024],
     next: &[u16; 1024],
     sizes: &[u16; 1024],
+    squares: &[u16; 1024],
     h: usize,
     w: usize,
     near: &mut [u8; 1024],
@@ -259,7 +265,7 @@ fn search_arrows(
     buffer: &mut [u16],
 ) -> Finding
     requires { ⌜ Fit h w (now buffer) × Whole h w (now cells) (now arrows) (now ends) (now kinds) (now owners) number
-        × Grouped (now owners) (now head) (now next) (now sizes) (h * w) × Work (now groups) (now rows) (now columns) ⌝ }
+        × Grouped (now kinds) (now owners) (now head) (now next) (now sizes) (now squares) (h * w) × Work (now groups) (now rows) (now columns) ⌝ }
     ensures { λ r. ⌜ FoundAs (firstOf (reasonAt fourth (viewOn h w (linesOf (now (arrows .entry)) (now (ends .entry)) number) (now (cells .entry)))) (flatMap (pairs (take (h * w) (now (cells .entry)))) (linesOf (now (arrows .entry)) (now (ends .entry)) number))) (now (buffer .entry)) (now (buffer .exit)) r ⌝ }
     ensures { λ r. ⌜ Work (now (groups .exit)) (now (rows .exit)) (now (columns .exit)) ⌝ }
 {
@@ -276,6 +282,7 @@ fn search_arrows(
             head,
             next,
             sizes,
+            squares,
             h,
             w,
             from,
@@ -313,12 +320,13 @@ pub fn search_pairs(
     head: &[u16; 1024],
     next: &[u16; 1024],
     sizes: &[u16; 1024],
+    squares: &[u16; 1024],
     h: usize,
     w: usize,
     buffer: &mut [u16],
 ) -> Finding
     requires { ⌜ Fit h w (now buffer) × Whole h w (now cells) (now arrows) (now ends) (now kinds) (now owners) number
-        × Grouped (now owners) (now head) (now next) (now sizes) (h * w) ⌝ }
+        × Grouped (now kinds) (now owners) (now head) (now next) (now sizes) (now squares) (h * w) ⌝ }
     ensures { λ r. ⌜ FoundAs (reason34 (viewOn h w (linesOf (now (arrows .entry)) (now (ends .entry)) number) (now (cells .entry)))) (now (buffer .entry)) (now (buffer .exit)) r ⌝ }
 {
     let mut near = [0u8; 1024];
@@ -336,6 +344,7 @@ pub fn search_pairs(
         head,
         next,
         sizes,
+        squares,
         h,
         w,
         &mut near,
@@ -356,6 +365,7 @@ pub fn search_pairs(
             head,
             next,
             sizes,
+            squares,
             h,
             w,
             &mut near,

@@ -4,4 +4,3 @@ pub mod Breadth
 pub mod Ways
 pub mod Crossings
 pub mod Found
-pub mod Quick

@@ -5,18 +5,16 @@ ghost use mathlib.Core.Path.{_≡_};
 ghost use Prim.Native.Nat.{ℕ, _*_, _<_, _≤_};
 ghost use lib.ListN.{length, getD, take, drop, replicate};
 ghost use mathlib.Core.List.{List, _++_};
-ghost use mathlib.Core.Bool.{_&&_, not};
-ghost use lib.Dec.{eqb};
-ghost use Rattle.grid.specs.Lists.{upto};
 ghost use Rattle.grid.specs.Grid.{size};
 ghost use Rattle.grid.specs.Side.{InGrid, sized};
 ghost use Rattle.record.specs.Record.{Puzzle};
 ghost use Rattle.literals.specs.Literals.{each};
 ghost use Rattle.paths.specs.Paths.{listFrom, way, reason2};
 ghost use Rattle.literals.specs.Inside.{Wrote, Fit, FoundAs};
-ghost use Rattle.units.specs.Arrays.{Listed, firstName};
-ghost use Rattle.paths.specs.Ends.{BlockArrays, Kept, Firsts, Crossing, Blocked};
-ghost use Rattle.kinds.specs.Inside.{puzzleWith, Given};
+ghost use Rattle.groups.specs.Arrays.{Names};
+ghost use Rattle.units.specs.Arrays.{firstName};
+ghost use Rattle.paths.specs.Ends.{BlockTable, crossed, arrowCellOf, arrowCellsFrom, Crossing, Blocked};
+ghost use Rattle.kinds.specs.Inside.{puzzleWith};
 ghost use Rattle.paths.specs.Search.{Offered, Room, ListedBeside, Listing, PathEnds};
 
 // The first two arrow cells of a block that has two or more.
@@ -137,68 +135,52 @@ fn reason_for_path(
     count + 1
 }
 
-// Keeps cell i as the first or the second arrow cell of its block, if it is an arrow cell and a square.
-fn keep_arrow_cell(
-    blocks: &[u16; 1024],
-    onarrow: &[u8; 1024],
-    i: usize,
-    first: &mut [u16; 1024],
-    second: &mut [u16; 1024],
-)
-    requires { ⌜ (i < 1024) × (length (now first) ≡ 1024) × (length (now second) ≡ 1024) ⌝ }
-    ensures { λ _. ⌜ Kept (now (blocks .entry)) (now (onarrow .entry)) i (now (first .entry)) (now (second .entry)) (now (first .exit)) (now (second .exit)) ⌝ }
+// The lowest numbered block with two arrow cells or more, of those that are listed.
+fn first_crossed(names: &[u16; 1024], number: usize, arrowed: &[u16; 1024]) -> Name
+    requires { ⌜ Names (now names) number ⌝ }
+    ensures { λ r. ⌜ r ≡ firstName (crossed (now (arrowed .entry))) (take number (now (names .entry))) ⌝ }
 {
-    if onarrow[i] != 1 {
-        return;
+    let mut k = 0;
+    while k < number {
+        let f = grid::wide(names[k]);
+        if 2 <= arrowed[f] {
+            return Name::At(f);
+        }
+        k += 1;
     }
-    let f = grid::wide(blocks[i]);
-    if 1024 <= f {
-        return;
-    }
-    if first[f] == 1024 {
-        first[f] = i as u16;
-        return;
-    }
-    if second[f] == 1024 {
-        second[f] = i as u16;
-    }
+    Name::Nobody
 }
 
-// The first and the second arrow cell of each block, at its name.
-fn keep_arrow_cells(
+// Whether cell i is an arrow cell of the block named f.
+fn is_arrow_cell_of(blocks: &[u16; 1024], onarrow: &[u8; 1024], f: u16, i: usize) -> bool
+    requires { ⌜ i < 1024 ⌝ }
+    ensures { λ r. ⌜ r ≡ arrowCellOf (now (blocks .entry)) (now (onarrow .entry)) f i ⌝ }
+{
+    if blocks[i] != f {
+        return false;
+    }
+    onarrow[i] == 1
+}
+
+// The first arrow cell of the block named f from cell `from` on, n if there is none below n.
+fn next_arrow_cell(
     blocks: &[u16; 1024],
     onarrow: &[u8; 1024],
     n: usize,
-    first: &mut [u16; 1024],
-    second: &mut [u16; 1024],
-)
-    requires { ⌜ (n ≤ 1024) × (length (now first) ≡ 1024) × (length (now second) ≡ 1024) ⌝ }
-    ensures { λ _. ⌜ Firsts (now (blocks .entry)) (now (onarrow .entry)) n n (now (first .exit)) (now (second .exit)) ⌝ }
+    f: u16,
+    from: usize,
+) -> usize
+    requires { ⌜ n ≤ 1024 ⌝ }
+    ensures { λ r. ⌜ (r ≡ getD (arrowCellsFrom (now (blocks .entry)) (now (onarrow .entry)) n f from) 0 n) × (r ≤ n) ⌝ }
 {
-    reset(first, n);
-    reset(second, n);
-    let mut i = 0;
+    let mut i = from;
     while i < n {
-        keep_arrow_cell(blocks, onarrow, i, first, second);
+        if is_arrow_cell_of(blocks, onarrow, f, i) {
+            return i;
+        }
         i += 1;
     }
-}
-
-// The first name of a block that has a second arrow cell.
-fn first_crossed(blocks: &[u16; 1024], second: &[u16; 1024], n: usize) -> Name
-    requires { ⌜ n ≤ 1024 ⌝ }
-    ensures { λ r. ⌜ r ≡ firstName (λ f. eqb (getD (now (blocks .entry)) f 0) f && not (eqb (getD (now (second .entry)) f 0) 1024)) (upto n) ⌝ }
-{
-    let mut f = 0;
-    while f < n {
-        if grid::wide(blocks[f]) == f {
-            if second[f] != 1024 {
-                return Name::At(f);
-            }
-        }
-        f += 1;
-    }
-    Name::Nobody
+    n
 }
 
 // The first two arrow cells of the lowest numbered block that has two or more.
@@ -206,53 +188,48 @@ fn find_crossing(
     blocks: &[u16; 1024],
     onarrow: &[u8; 1024],
     n: usize,
-    first: &mut [u16; 1024],
-    second: &mut [u16; 1024],
+    names: &[u16; 1024],
+    number: usize,
+    arrowed: &[u16; 1024],
 ) -> Ends
-    requires { ⌜ (n ≤ 1024) × (length (now first) ≡ 1024) × (length (now second) ≡ 1024) ⌝ }
-    ensures { λ r. ⌜ ((p : Puzzle) (cells : List ℕ) → BlockArrays p cells (now (blocks .entry)) (now (onarrow .entry)) → n ≡ size (p .grid) → Crossing p cells r) ⌝ }
-    ensures { λ _. ⌜ (length (now (first .exit)) ≡ 1024) × (length (now (second .exit)) ≡ 1024) ⌝ }
+    requires { ⌜ (n ≤ 1024) × Names (now names) number ⌝ }
+    ensures { λ r. ⌜ ((p : Puzzle) (cells squares : List ℕ)
+        → BlockTable p cells (now (blocks .entry)) (now (onarrow .entry)) (now (names .entry)) squares (now (arrowed .entry)) number → n ≡ size (p .grid) → Crossing p cells r) ⌝ }
 {
-    keep_arrow_cells(blocks, onarrow, n, first, second);
-    let name = first_crossed(blocks, &*second, n);
+    let name = first_crossed(names, number, arrowed);
     match name {
-        Name::At(f) => Ends::Between(grid::wide(first[f]), grid::wide(second[f])),
+        Name::At(f) => {
+            let a = next_arrow_cell(blocks, onarrow, n, f as u16, 0);
+            let b = next_arrow_cell(blocks, onarrow, n, f as u16, a + 1);
+            Ends::Between(a, b)
+        }
         Name::Nobody => Ends::Nowhere,
     }
 }
 
-// Reason 2, if it applies. Mostly no two arrow cells are in one block, which one pass over the arrow cells shows. `arrowed` marks the arrow
-// blocks afterwards.
+// Reason 2, if it applies.
 pub fn check_blocks(
     cells: &[u8; 1024],
-    arrows: &[u16; 1024],
-    total: usize,
     blocks: &[u16; 1024],
     onarrow: &[u8; 1024],
+    names: &[u16; 1024],
+    number: usize,
+    arrowed: &[u16; 1024],
     h: usize,
     w: usize,
-    arrowed: &mut [u8; 1024],
     buffer: &mut [u16],
 ) -> Finding
-    requires { ⌜ Fit h w (now buffer) × Blocked h w (now cells) (now blocks) (now onarrow) × Listed (now arrows) total (now onarrow) ⌝ }
-    ensures { λ r. ⌜ ((lines : List (List ℕ))
-        → BlockArrays (puzzleWith (sized h w) lines) (take (h * w) (now (cells .entry))) (now (blocks .entry)) (now (onarrow .entry))
+    requires { ⌜ Fit h w (now buffer) × Blocked h w (now cells) (now blocks) (now onarrow) (now names) (now arrowed) number ⌝ }
+    ensures { λ r. ⌜ ((lines : List (List ℕ)) (squares : List ℕ)
+        → BlockTable (puzzleWith (sized h w) lines) (take (h * w) (now (cells .entry))) (now (blocks .entry)) (now (onarrow .entry)) (now (names .entry)) squares (now (arrowed .entry)) number
         → FoundAs (reason2 (puzzleWith (sized h w) lines) (take (h * w) (now (cells .entry)))) (now (buffer .entry)) (now (buffer .exit)) r) ⌝ }
-    ensures { λ _. ⌜ ((lines : List (List ℕ))
-        → BlockArrays (puzzleWith (sized h w) lines) (take (h * w) (now (cells .entry))) (now (blocks .entry)) (now (onarrow .entry))
-        → Given (puzzleWith (sized h w) lines) (take (h * w) (now (cells .entry))) (now (blocks .entry)) (now (arrowed .exit))) ⌝ }
 {
-    let twice = kinds::mark_arrow_blocks(arrows, total, blocks, arrowed);
-    if !twice {
-        return Finding::Nothing;
-    }
-    let mut first = [0u16; 1024];
-    let mut second = [0u16; 1024];
-    let ends = find_crossing(blocks, onarrow, h * w, &mut first, &mut second);
+    let ends = find_crossing(blocks, onarrow, h * w, names, number, arrowed);
     match ends {
         Ends::Between(a, b) => {
-            // The two arrays serve again, as the parents and as the order of the breadth-first list.
-            let count = reason_for_path(cells, h, w, a, b, &mut first, &mut second, buffer);
+            let mut from = [0u16; 1024];
+            let mut order = [0u16; 1024];
+            let count = reason_for_path(cells, h, w, a, b, &mut from, &mut order, buffer);
             Finding::Reason(count)
         }
         Ends::Nowhere => Finding::Nothing,

@@ -4,3 +4,4 @@ pub mod ChainLaws
 pub mod ChainWalks
 pub mod NearLaws
 pub mod NearReach
+pub mod BlockSize

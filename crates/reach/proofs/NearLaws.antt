@@ -6,7 +6,7 @@ use native.Mathlib.Numerals.{add-one}
 use native.Mathlib.Omega.{arith}
 use mathlib.Core.Logic.{_⊎_, inl, inr, ⊎-elim}
 use mathlib.Core.Path.{_≡_, refl, sym, ap, _∙_, subst}
-use mathlib.Core.Bool.{Bool, true, false, cond, _&&_, _||_, false≢true, or-false, or-assoc, or-true, and-or-distrib-right, and-false}
+use mathlib.Core.Bool.{Bool, true, false, cond, _&&_, _||_, not, false≢true, or-false, or-assoc, or-true, and-or-distrib-right, and-false, and-comm}
 use mathlib.Core.List.{List, [], _∷_, _++_, List·Memᴰ, List·Memᴰ·head, List·Memᴰ·tail, List·Memᴰ·append-cases, List·Memᴰ·eq-of-singleton, List·Memᴰ·not-nil}
 use lib.Dec.{eqb, ltb}
 use lib.ListN.{length, getD, set, take, replicate, length-append, length-set, length-replicate, getD-replicate}
@@ -16,14 +16,17 @@ use Rattle.grid.specs.Lists.{range, upto, any, filter, member, Distinct}
 use Rattle.grid.specs.Grid.{Grid, neighbours}
 use Rattle.grid.specs.Side.{towards, besideOf}
 use Rattle.grid.specs.declared.Side.the-variants.{At, Off}
-use Rattle.grid.proofs.ListLaws.{length-range, filter-length, distinct-snoc, at-mem, so-false, member-mem, distinct-few}
+use Rattle.grid.proofs.ListLaws.{length-range, filter-length, filter-split, distinct-snoc, at-mem, so-false, member-mem, distinct-few}
 use Rattle.grid.proofs.SideLaws.{beside-at, beside-off}
 use Rattle.grid.proofs.AroundLaws.{gathered, gathered-all}
-use Rattle.grid.proofs.AppendLaws.{count-hit, count-miss, any-append, any-agree}
+use Rattle.grid.proofs.AppendLaws.{count-hit, count-miss, any-append, any-agree, filter-filter, filter-agree}
 use Rattle.grid.proofs.MarkLaws.{marks-none, marks-same, marks-set, mark-on, mark-off}
 use Rattle.reach.specs.Inside.{nearAt, nearAmong, floatAmong}
 use Rattle.reach.specs.Chains.{ownedBy, cellsFrom, Chains}
-use Rattle.reach.specs.Near.{Sizes, Listed, Listing, Names}
+use Rattle.kinds.specs.Inside.{ofBlock}
+use Rattle.groups.specs.Arrays.{Names}
+use Rattle.groups.proofs.TableLaws.{any-filter}
+use Rattle.reach.specs.Near.{besideOwned, Sizes, Listed, Listing}
 use Rattle.reach.proofs.ChainWalks.{Walk, walk-start, walk-more, walk-end}
 
 -- ---- the cells of each owner are counted
@@ -39,46 +42,53 @@ unfolding upto
 cells-few owners n f = omega (arith, ap length (cells-are owners n f), filter-length (ownedBy owners f) (upto n), length-range 0 n)
 
 -- before the first
-pub sizes-none : (owners : List ℕ) → Sizes owners 0 (replicate 1024 0)
-unfolding cellsFrom range filter
-sizes-none owners = record { long = length-replicate {A = ℕ} 1024 0; at = λ f h. getD-replicate {A = ℕ} 1024 f 0 0 h }
+pub sizes-none : (kinds owners : List ℕ) → Sizes kinds owners 0 (replicate 1024 0)
+unfolding upto range filter
+sizes-none kinds owners = record { long = length-replicate {A = ℕ} 1024 0; at = λ f h. getD-replicate {A = ℕ} 1024 f 0 0 h }
 
-module _ {owners sizes : List ℕ} {i : ℕ} (S : Sizes owners i sizes) where
-  -- cell i has another owner
-  size-same : (f : ℕ) → (getD owners i 0 ≡ f → ⊥) → length (cellsFrom owners i f 0) ≡ length (cellsFrom owners (i + 1) f 0)
-  unfolding ownedBy
-  size-same f ne = ap length (cells-are owners i f) ∙ sym (count-miss (ownedBy owners f) i (ne-eqb (getD owners i 0) f ne)) ∙ sym (ap length (cells-are owners (i + 1) f))
+module _ {kinds owners sizes : List ℕ} {i : ℕ} (S : Sizes kinds owners i sizes) where
+  -- one more cell that is not counted
+  sizes-same : ((f : ℕ) → f < 1024 → besideOwned kinds owners f i ≡ false) → Sizes kinds owners (i + 1) sizes
+  sizes-same no-go = record { long = S .long; at = λ f h. S .at f h ∙ sym (count-miss (besideOwned kinds owners f) i (no-go f h)) }
 
-  -- cell i has the owner f
-  size-next : (f : ℕ) → getD owners i 0 ≡ f → length (cellsFrom owners (i + 1) f 0) ≡ length (cellsFrom owners i f 0) + 1
-  unfolding ownedBy
-  size-next f e = ap length (cells-are owners (i + 1) f) ∙ count-hit (ownedBy owners f) i (eq-eqb (getD owners i 0) f e) ∙ sym (ap (λ (l : List ℕ). length l + 1) (cells-are owners i f))
-
-  -- one more cell, with no owner
-  pub sizes-same : 1024 ≤ getD owners i 0 → Sizes owners (i + 1) sizes
-  sizes-same l = record { long = S .long; at = λ f h. S .at f h ∙ size-same f (λ q. omega (arith, q)) }
-
-  -- one more cell, with an owner
-  pub sizes-more : getD owners i 0 < 1024 → Sizes owners (i + 1) (set sizes (getD owners i 0) (getD sizes (getD owners i 0) 0 + 1))
-  sizes-more l = record { long = length-set sizes o _ ∙ S .long; at = λ f h. go f h (ℕ-discrete f o) }
+  -- one more cell that is counted
+  sizes-more : getD owners i 0 < 1024 → not (eqb (getD kinds i 0) 1) ≡ true → Sizes kinds owners (i + 1) (set sizes (getD owners i 0) (getD sizes (getD owners i 0) 0 + 1))
+  unfolding besideOwned ownedBy
+  sizes-more l m = record { long = length-set sizes o _ ∙ S .long; at = λ f h. go f h (ℕ-discrete f o) }
     where
       o : ℕ
       o = getD owners i 0
 
-      go : (f : ℕ) → f < 1024 → Dec (f ≡ o) → getD (set sizes o (getD sizes o 0 + 1)) f 0 ≡ length (cellsFrom owners (i + 1) f 0)
-      go f h (yes q) = rw q (getD-set-same sizes o (getD sizes o 0 + 1) 0 (omega (arith, S .long)) ∙ ap (λ (x : ℕ). x + 1) (S .at o l) ∙ sym (size-next o refl))
-      go f h (no ne) = getD-set-other sizes o f (getD sizes o 0 + 1) 0 ne ∙ S .at f h ∙ size-same f (λ q. ne (sym q))
+      go : (f : ℕ) → f < 1024 → Dec (f ≡ o) → getD (set sizes o (getD sizes o 0 + 1)) f 0 ≡ length (filter (besideOwned kinds owners f) (upto (i + 1)))
+      go f h (yes q) =
+          rw q (getD-set-same sizes o (getD sizes o 0 + 1) 0 (omega (arith, S .long)) ∙ ap (λ (x : ℕ). x + 1) (S .at o l) ∙ sym (count-hit (besideOwned kinds owners o) i (rw (eq-eqb o o refl) m)))
+      go f h (no ne) = getD-set-other sizes o f (getD sizes o 0 + 1) 0 ne ∙ S .at f h ∙ sym (count-miss (besideOwned kinds owners f) i (rw (ne-eqb o f (λ q. ne (sym q))) refl))
 
   -- both at once, as they are written without a branch: no owner goes by the place of its remainder, which stays as it is
-  pub sizes-either : Sizes owners (i + 1) (set sizes (getD owners i 0 % 1024) (cond (ltb (getD owners i 0) 1024) (getD sizes (getD owners i 0 % 1024) 0 + 1) (getD sizes (getD owners i 0 % 1024) 0)))
-  sizes-either = go (decLt (getD owners i 0) 1024)
+  pub sizes-either : Sizes kinds owners (i + 1)
+      (set sizes (getD owners i 0 % 1024) (cond (ltb (getD owners i 0) 1024 && not (eqb (getD kinds i 0) 1)) (getD sizes (getD owners i 0 % 1024) 0 + 1) (getD sizes (getD owners i 0 % 1024) 0)))
+  unfolding besideOwned ownedBy
+  sizes-either = go (decLt (getD owners i 0) 1024) (not (eqb (getD kinds i 0) 1)) refl
     where
-      go : Dec (getD owners i 0 < 1024) → Sizes owners (i + 1) (set sizes (getD owners i 0 % 1024) (cond (ltb (getD owners i 0) 1024) (getD sizes (getD owners i 0 % 1024) 0 + 1) (getD sizes (getD owners i 0 % 1024) 0)))
-      go (yes l) = let e : getD owners i 0 % 1024 ≡ getD owners i 0 = omega arith in rw (e, lt-ltb (getD owners i 0) 1024 l) (sizes-more l)
-      go (no h) = rw (le-ltb (getD owners i 0) 1024 (omega arith), set-getD sizes (getD owners i 0 % 1024) 0) (sizes-same (omega arith))
+      go : Dec (getD owners i 0 < 1024) → (b : Bool) → not (eqb (getD kinds i 0) 1) ≡ b
+          → Sizes kinds owners (i + 1) (set sizes (getD owners i 0 % 1024) (cond (ltb (getD owners i 0) 1024 && b) (getD sizes (getD owners i 0 % 1024) 0 + 1) (getD sizes (getD owners i 0 % 1024) 0)))
+      go (yes l) true m = let e : getD owners i 0 % 1024 ≡ getD owners i 0 = omega arith in rw (e, lt-ltb (getD owners i 0) 1024 l) (sizes-more l m)
+      go (yes l) false m = rw (lt-ltb (getD owners i 0) 1024 l, set-getD sizes (getD owners i 0 % 1024) 0) (sizes-same (λ f h. rw m (and-false (eqb (getD owners i 0) f))))
+      go (no h) b m = rw (le-ltb (getD owners i 0) 1024 (omega arith), set-getD sizes (getD owners i 0 % 1024) 0) (sizes-same (λ f k. rw (ne-eqb (getD owners i 0) f (λ q. omega (arith, q))) refl))
 
   pub size-few : (f : ℕ) → f < 1024 → getD sizes f 0 ≤ i
-  size-few f h = omega (arith, S .at f h, cells-few owners i f)
+  unfolding upto
+  size-few f h = omega (arith, S .at f h, filter-length (besideOwned kinds owners f) (upto i), length-range 0 i)
+
+-- the cells of f are the squares of its block and the others
+pub sizes-split : (kinds owners : List ℕ) (n f : ℕ) → length (filter (ofBlock kinds owners f) (upto n)) + length (filter (besideOwned kinds owners f) (upto n)) ≡ length (cellsFrom owners n f 0)
+unfolding besideOwned ownedBy
+sizes-split kinds owners n f =
+    sym (ap length (cells-are owners n f)
+    ∙ filter-split (λ i. eqb (getD kinds i 0) 1) (filter (ownedBy owners f) (upto n))
+    ∙ ap (λ (x : ℕ). x + length (filter (λ i. not (eqb (getD kinds i 0) 1)) (filter (ownedBy owners f) (upto n))))
+    (ap length (filter-filter (λ i. eqb (getD kinds i 0) 1) (ownedBy owners f) (upto n) ∙ filter-agree _ (ofBlock kinds owners f) (upto n) (λ i _. and-comm (eqb (getD owners i 0) f) (eqb (getD kinds i 0) 1))))
+    ∙ ap (λ (x : ℕ). length (filter (ofBlock kinds owners f) (upto n)) + x) (ap length (filter-filter (λ i. not (eqb (getD kinds i 0) 1)) (ownedBy owners f) (upto n))))
 
 -- ---- names are listed
 
@@ -226,15 +236,6 @@ module _ (kinds owners : List ℕ) (g : Grid) {near groups : List ℕ} {c : ℕ}
 -- one of the cells is a neighbour of its owner and touches the floating group m
 unfoldable pub nearIn : List ℕ → List ℕ → Grid → List ℕ → ℕ → Bool
 nearIn kinds owners g cells m = any (λ i. eqb (getD kinds i 0) 2 && floatAmong kinds owners (neighbours g i) m) cells
-
-any-filter : (p q : ℕ → Bool) (l : List ℕ) → any p (filter q l) ≡ any (λ x. q x && p x) l
-unfolding any filter
-any-filter p q [] = refl
-any-filter p q (x ∷ xs) = go (q x) (any-filter p q xs)
-  where
-    go : (b : Bool) → any p (filter q xs) ≡ any (λ x. q x && p x) xs → any p (cond b (x ∷ filter q xs) (filter q xs)) ≡ ((b && p x) || any (λ x. q x && p x) xs)
-    go true h = ap (λ (d : Bool). p x || d) h
-    go false h = h
 
 -- amid the walk along the chain of f: the floating groups that touch the cells passed are listed, and i is the next cell
 pub record Nearby (kinds owners : List ℕ) (g : Grid) (n f i : ℕ) (near groups : List ℕ) (c : ℕ) : Type 0 where

@@ -3,8 +3,9 @@
 use Prim.Native.Nat.{ℕ, _+_, _*_, _≤_, _<_}
 use native.Mathlib.Decide.{decLt}
 use native.Mathlib.Omega.{arith}
+use mathlib.Core.Logic.{_⊎_, inl, inr}
 use mathlib.Core.Path.{_≡_, refl, sym, ap, _∙_, subst}
-use mathlib.Core.Bool.{Bool, true, false, So, cond, _&&_, _||_, false≢true, or-false}
+use mathlib.Core.Bool.{Bool, true, false, So, cond, _&&_, _||_, not, false≢true, or-false}
 use mathlib.Core.List.{List, _∷_, List·Memᴰ, List·Memᴰ·head, Memᴰ·of-map}
 use lib.Dec.{eqb}
 use lib.ListN.{length, getD, take, List·getD-eq-default}
@@ -14,7 +15,7 @@ use Rattle.grid.specs.Marks.{Marks}
 use Rattle.grid.specs.Grid.{Grid, size, cellsOf, neighbours}
 use Rattle.grid.specs.Side.{sized}
 use Rattle.grid.proofs.LinkLaws.{linked-end}
-use Rattle.grid.proofs.ListLaws.{so-false, and-true, any-mem, upto-mem, filter-mem, once-mem, member-mem, mem-member}
+use Rattle.grid.proofs.ListLaws.{split, so-false, and-true, any-mem, upto-mem, filter-mem, once-mem, member-mem, mem-member}
 use Rattle.grid.proofs.GridLaws.{beside as side, on-grid}
 use Rattle.grid.proofs.SideLaws.{area}
 use Rattle.grid.proofs.AppendLaws.{same-test, filter-agree}
@@ -29,12 +30,12 @@ use Rattle.kinds.specs.Kinds.{Kind, vacant, barrier, floating, inBlock, neighbo
 use Rattle.kinds.specs.Arrays.{kindCode, ownerBy, kindArray}
 use Rattle.kinds.specs.Inside.{Limits, puzzleWith, Held}
 use Rattle.reach.specs.Inside.{nearAmong, reachesAt}
-use Rattle.reach.specs.Chains.{cellsFrom}
-use Rattle.reach.specs.Near.{Sizes, Listed, NearFloats}
+use Rattle.reach.specs.Chains.{ownedBy, cellsFrom}
+use Rattle.reach.specs.Near.{besideOwned, Sizes, SquaresOf, Listed, NearFloats}
 use Rattle.kinds.proofs.Bridge.{in-of, beside-of}
 use Rattle.kinds.proofs.BlockArrays.{kind-get}
 use Rattle.reach.proofs.Reaches.{code-get, owner-get, near-is, near-out, groups-are, reaches-is}
-use Rattle.reach.proofs.NearLaws.{listed-same, total, total-same, ownedIn, any-owned, length-owned}
+use Rattle.reach.proofs.NearLaws.{cells-are, sizes-split, listed-same, total, total-same, ownedIn, any-owned, length-owned}
 
 -- a square of an arrow block is not floating
 block-kind : (k : Kind) → kindCode k ≡ 1 → isFloating k ≡ false
@@ -112,6 +113,28 @@ module _ (p : Puzzle) (small : size (p .grid) ≤ 1024) (cells K O : List ℕ) (
       let b = and-true (isFloating (kind (t .0))) _ (t .2) in
       let l = on-grid g (upto-mem (size g) (r .1)) (side g (r .0) (t .1)) in
       subst (λ x. So (isFloating (kind x))) (eqb-true (float (t .0)) m (b .1)) (float-own (t .0) l (b .0))
+
+  -- no cell of a floating group is a square of an arrow block
+  floats-only : (f m : ℕ) → floatNear v f m ≡ true → length (filter (besideOwned K O m) (upto (size g))) ≡ length (cellsFrom O (size g) m 0)
+  unfolding besideOwned ownedBy kindCode ownerBy isIn
+  floats-only f m s = ap length (filter-agree (besideOwned K O m) (ownedBy O m) (upto (size g)) (λ i q. at i (upto-mem (size g) q)) ∙ sym (cells-are O (size g) m))
+    where
+      other : (i : ℕ) → i < size g → (k : Kind) → kind i ≡ k → eqb (ownerBy (float i) k) m ≡ true → kindCode k ≡ 1 → ⊥
+      other i l vacant e o c = omega (arith, c)
+      other i l barrier e o c = omega (arith, c)
+      other i l floating e o c = omega (arith, c)
+      other i l (inBlock x) e o c =
+          let q : x ≡ m = eqb-true x m o in
+          false≢true (sym (in-name i m l (subst (λ k. So (isIn m k)) (sym e) (eq-eqb x m q))) ∙ float-name f m s)
+      other i l (neighbour x) e o c = omega (arith, c)
+
+      at : (i : ℕ) → i < size g → (eqb (getD O i 0) m && not (eqb (getD K i 0) 1)) ≡ eqb (getD O i 0) m
+      at i l = go (split (eqb (getD O i 0) m)) (split (eqb (getD K i 0) 1))
+        where
+          go : (eqb (getD O i 0) m ≡ true) ⊎ (eqb (getD O i 0) m ≡ false) → (eqb (getD K i 0) 1 ≡ true) ⊎ (eqb (getD K i 0) 1 ≡ false) → (eqb (getD O i 0) m && not (eqb (getD K i 0) 1)) ≡ eqb (getD O i 0) m
+          go (inr a) b = rw a refl
+          go (inl a) (inr b) = rw (a, b) refl
+          go (inl a) (inl b) = absurd (other i l (kind i) refl (ap (λ (o : ℕ). eqb o m) (sym (owner-get p small cells K O H i l)) ∙ a) (sym (code-get p small cells K O H i l) ∙ eqb-true (getD K i 0) 1 b))
 
   module _ (f : ℕ) (near groups : List ℕ) (c : ℕ) (N : NearFloats v f near groups c) where
     near-marks : Marks near (nearAmong K O g f (size g))
@@ -218,8 +241,12 @@ module _ (h w : ℕ) (limits : Limits h w) (arrows : List (List ℕ)) (cells K O
   unfolding size
   reach-length b = length-reach (puzzleWith (sized h w) arrows) small cells K O H f near groups c N b
 
-  -- its size by the sizes of the groups
-  pub reach-sum : getD K f 0 ≡ 1 → f < 1024 → (sizes : List ℕ) → Sizes O (h * w) sizes → getD sizes f 0 + total (λ m. getD sizes m 0) (take c groups) ≡ length (reach (view (puzzleWith (sized h w) arrows) cells) f)
-  reach-sum b l sizes S =
-      ap (λ (x : ℕ). x + total (λ m. getD sizes m 0) (take c groups)) (S .at f l)
-      ∙ ap (λ (x : ℕ). length (cellsFrom O (h * w) f 0) + x) (total-same _ _ (take c groups) (λ m q. S .at m (N .listed m .0 q .0))) ∙ sym (reach-length b)
+  -- its size by the squares of the block and the sizes of the groups
+  pub reach-sum : getD K f 0 ≡ 1 → f < 1024 → (sizes squares : List ℕ) → Sizes K O (h * w) sizes → SquaresOf K O (h * w) squares f
+      → getD squares f 0 + getD sizes f 0 + total (λ m. getD sizes m 0) (take c groups) ≡ length (reach (view (puzzleWith (sized h w) arrows) cells) f)
+  unfolding size
+  reach-sum b l sizes squares S Q =
+      let own : getD squares f 0 + getD sizes f 0 ≡ length (cellsFrom O (h * w) f 0) = omega (arith, Q, S .at f l, sizes-split K O (h * w) f) in
+      let rest : total (λ m. getD sizes m 0) (take c groups) ≡ total (λ m. length (cellsFrom O (h * w) m 0)) (take c groups)
+      = total-same _ _ (take c groups) (λ m q. S .at m (N .listed m .0 q .0) ∙ floats-only (puzzleWith (sized h w) arrows) small cells K O H f m (N .listed m .0 q .1)) in
+      omega (arith, own, rest, reach-length b)

@@ -3,19 +3,29 @@
 use Prim.Native.Nat.{ℕ, _≤_, _<_}
 use mathlib.Core.Logic.{_↔_}
 use mathlib.Core.Path.{_≡_}
-use mathlib.Core.Bool.{Bool, true}
+use mathlib.Core.Bool.{Bool, true, _&&_, not}
 use mathlib.Core.List.{List, List·Memᴰ}
+use lib.Dec.{eqb}
 use lib.ListN.{length, getD, take}
-use Rattle.grid.specs.Lists.{Distinct}
+use Rattle.grid.specs.Lists.{upto, filter, Distinct}
 use Rattle.grid.specs.Marks.{Marks}
 use Rattle.groups.specs.Arrays.{maskOf}
 use Rattle.kinds.specs.Kinds.{View, floatNear}
-use Rattle.reach.specs.Chains.{cellsFrom}
+use Rattle.kinds.specs.Inside.{ofBlock}
+use Rattle.reach.specs.Chains.{ownedBy}
 
--- how many of the cells below n each owner has
-pub record Sizes (owners : List ℕ) (n : ℕ) (sizes : List ℕ) : Type 0 where
+-- cell j has the owner f and is no square of an arrow block
+unfoldable pub besideOwned : List ℕ → List ℕ → ℕ → ℕ → Bool
+besideOwned kinds owners f j = ownedBy owners f j && not (eqb (getD kinds j 0) 1)
+
+-- how many of the cells below n each owner has beside the squares of arrow blocks, which the grouping step has counted
+pub record Sizes (kinds owners : List ℕ) (n : ℕ) (sizes : List ℕ) : Type 0 where
   pub long : length sizes ≡ 1024
-  pub at : (f : ℕ) → f < 1024 → getD sizes f 0 ≡ length (cellsFrom owners n f 0)
+  pub at : (f : ℕ) → f < 1024 → getD sizes f 0 ≡ length (filter (besideOwned kinds owners f) (upto n))
+
+-- how many squares the arrow block f has
+abbrev pub SquaresOf : List ℕ → List ℕ → ℕ → List ℕ → ℕ → Type 0
+SquaresOf kinds owners n squares f = getD squares f 0 ≡ length (filter (ofBlock kinds owners f) (upto n))
 
 -- the names below 1024 that pass the test: marked, and listed once each in the first c places
 pub record Listed (test : ℕ → Bool) (near groups : List ℕ) (c : ℕ) : Type 0 where
@@ -37,9 +47,3 @@ pub record NearFloats (v : View) (f : ℕ) (near groups : List ℕ) (r : ℕ) : 
   pub few : r ≤ 1024
   pub distinct : Distinct (take r groups)
   pub listed : (m : ℕ) → List·Memᴰ m (take r groups) ↔ ((m < 1024) × (floatNear v f m ≡ true))
-
--- the first c of 1024 places have names below 1024
-pub record Names (groups : List ℕ) (c : ℕ) : Type 0 where
-  pub long : length groups ≡ 1024
-  pub few : c ≤ 1024
-  pub small : (k : ℕ) → k < c → getD groups k 0 < 1024

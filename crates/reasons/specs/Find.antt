@@ -4,10 +4,10 @@ use Prim.Native.Nat.{ℕ, _/_, _%_}
 use mathlib.Core.List.{List, map}
 use mathlib.Core.Option.{none, some}
 use lib.ListN.{length, take}
-use Rattle.grid.specs.Grid.{size}
 use Rattle.record.specs.Record.{Outcome, ok, refused}
-use Rattle.record.specs.Problem.{gridOf, puzzleOf}
+use Rattle.record.specs.Problem.{puzzleOf}
 use Rattle.grid.specs.Cells.{Literal}
+unfoldable pub use Rattle.board.specs.Kept.{cellsOn}
 use Rattle.board.specs.Hints.{findRefusal}
 use Rattle.board.specs.declared.Board.{Board}
 use Rattle.literals.specs.Literals.{Found}
@@ -15,10 +15,6 @@ use Rattle.reasons.specs.Reasons.{findReason}
 use Rattle.literals.specs.declared.Finding.{Finding}
 use Rattle.literals.specs.declared.Finding.the-variants.{Nothing, Reason, Refused}
 use Rattle.literals.specs.Buffer.{findingBy, bufferBy}
-
--- the states of a board's cells
-unfoldable pub cellsOn : Board → List ℕ
-cellsOn b = take (size (gridOf (b .problem))) (b .cells)
 
 -- the first reason that applies on a board
 unfoldable pub reasonOn : Board → Found

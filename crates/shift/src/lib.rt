@@ -12,7 +12,8 @@ ghost use Rattle.kinds.specs.Kinds.{view, block};
 ghost use Rattle.reach.specs.Chains.{Chains, cellsFrom};
 ghost use Rattle.kinds.specs.Inside.{Limits, puzzleWith, Held};
 ghost use Rattle.reach.specs.Inside.{reachesAt};
-ghost use Rattle.reach.specs.Near.{NearFloats, Names};
+ghost use Rattle.groups.specs.Arrays.{Names};
+ghost use Rattle.reach.specs.Near.{NearFloats};
 ghost use Rattle.shift.specs.Fits.{shiftFits};
 ghost use Rattle.shift.specs.Shift.{blockIn, Chained, Gathered, Places, BlockPlaces, landsIn, allLand, fitsAt, Work};
 

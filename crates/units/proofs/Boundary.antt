@@ -52,6 +52,11 @@ module _ (t : ℕ → Bool) (g : Grid) (i : ℕ) where
 pub any-placed : (t : ℕ → Bool) (h w i : ℕ) → any t (neighbours (sized h w) i) ≡ any (λ k. any t (towards (sized h w) (i / w * w + i % w) k)) (upto 4)
 any-placed t h w i = any-around t (sized h w) i ∙ ap (λ (m : ℕ). any (λ k. any t (towards (sized h w) m k)) (upto 4)) (sym (div-add-mod' i w))
 
+-- no cell is passed yet
+pub any-start : (t : ℕ → Bool) → any t (upto 0) ≡ false
+unfolding any upto range
+any-start t = refl
+
 -- ---- the last cell that passes: a loop from behind
 
 module _ (t : ℕ → Bool) (i : ℕ) where

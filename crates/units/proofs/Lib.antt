@@ -1,4 +1,3 @@
-pub mod Ranks
+pub mod Names
 pub mod Boundary
 pub mod Checks
-pub mod Quick

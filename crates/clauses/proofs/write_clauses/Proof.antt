@@ -9,7 +9,8 @@ use Rattle.record.specs.Problem.{problemOf}
 use Rattle.record.proofs.ProblemLaws.{read-refused, read-done}
 use Rattle.record.proofs.RecordLaws.{record-valid}
 use Rattle.clauses.specs.Clauses.{sheetFor}
-use Rattle.clauses.proofs.AnswerLaws.{told-refused, sheet-refused, told-read}
+use Rattle.exported.proofs.WrittenLaws.{told-refused}
+use Rattle.clauses.proofs.AnswerLaws.{sheet-refused, told-read}
 use borrow.Author.Needs.{needs}
 use Rattle.clauses.proofs.write_clauses.Statement.{statement}
 use Rattle.clauses.proofs.write_clauses.Tie as tie

@@ -36,11 +36,11 @@ abbrev start : tie.After-count-reach → tie.Start
 start c = begun (c .before)
 
 -- the count of the reach, seen from behind the count of the block
-abbrev reach-counted : tie.After-count-block → tie.After-count-reach
+abbrev reach-counted : tie.After-block-size → tie.After-count-reach
 reach-counted c = c .before .before
 
 -- the count of the block, seen from behind the first parts of the reason
-abbrev block-counted : tie.After-reason-for-pair → tie.After-count-block
+abbrev block-counted : tie.After-reason-for-pair → tie.After-block-size
 block-counted c = c .before .before .before
 
 -- those parts, seen from behind the gap
@@ -67,7 +67,9 @@ reached : (c : tie.After-count-reach) (lines : List (List ℕ)) → Shown (start
 reached c lines k =
     let s = start c in
     let a = s .args in
-    c .count-reach .ensures .0 lines (take (a .h * a .w) (a .cells .now)) (k .held) (s .pre .2 .counts) (scene-kind k (a .last) (omega arith) (omega (arith, s .pre .1 .order)) (s .pre .1 .first))
+    c .count-reach .ensures .0 lines (take (a .h * a .w) (a .cells .now)) (k .held) (s .pre .2 .counts)
+    (s .pre .2 .blocks _ (omega (arith, last-name (s .pre .1), small s)) (scene-kind k (a .last) (omega arith) (omega (arith, s .pre .1 .order)) (s .pre .1 .first)))
+    (scene-kind k (a .last) (omega arith) (omega (arith, s .pre .1 .order)) (s .pre .1 .first))
 
 -- the size of that reach is at most 1,024
 reach-low : (c : tie.After-count-reach) → c .count-reach .result ≤ 1024
@@ -78,12 +80,12 @@ reach-low c =
     omega (arith, reached c (l .lines) (l .scene), reach-few (a .h) (a .w) (l .lines) (a .cells .now) (lastBlock s), small s)
 
 -- the size of the current square's block
-size-is : (c : tie.After-count-block) (lines : List (List ℕ)) → Shown (start (reach-counted c)) lines
-    → c .count-block .result ≡ length (block (board (start (reach-counted c)) lines) (curBlock (start (reach-counted c))))
+size-is : (c : tie.After-block-size) (lines : List (List ℕ)) → Shown (start (reach-counted c)) lines
+    → c .block-size .result ≡ length (block (board (start (reach-counted c)) lines) (curBlock (start (reach-counted c))))
 size-is c lines k =
     let s = start (reach-counted c) in
     let a = s .args in
-    c .count-block .ensures (a .owners .now) (a .h * a .w) (s .pre .2 .chains) ∙ ap length (block-in (a .h) (a .w) lines (a .cells .now) (k .held) (curBlock s))
+    c .block-size .ensures (a .kinds .now) (a .owners .now) (a .h * a .w) (s .pre .2 .blocks) (scene-kind k (a .cur) (omega (arith, s .pre .1 .order)) (omega arith) (s .pre .1 .second)) ∙ ap length (block-in (a .h) (a .w) lines (a .cells .now) (k .held) (curBlock s))
 
 -- the first parts of the reason leave room for the gap
 few : (c : tie.After-reason-for-pair)
@@ -142,11 +144,10 @@ sub-gap-count c = search needs
 gap-count-requires : tie.Need-gap-count-requires
 gap-count-requires c κs = search needs
 
-count-block-requires : tie.Need-count-block-requires
-count-block-requires c κs =
+block-size-requires : tie.Need-block-size-requires
+block-size-requires c κs =
     let s = start (c .before) in
-    let a = s .args in
-    (record { owners = a .owners .now; size = a .h * a .w; chains = s .pre .2 .chains }, omega (arith, cur-name (s .pre .1), small s))
+    omega (arith, cur-name (s .pre .1), small s)
 
 add-if1 : tie.Need-add-if1
 add-if1 c = omega (arith, reach-low (reach-counted c))
@@ -205,8 +206,8 @@ reason-for-gap-requires c κs =
       rw (lent (r .reason-for-pair .ensures (p .line .lines) (p .line .scene .held)) (fits r), length-drop) (omega (arith, few r, s .pre .0 .room, p .line .scene .few)),
     )
 
-add-t31 : tie.Need-add-t31
-add-t31 c =
+add-t32 : tie.Need-add-t32
+add-t32 c =
     let r = parted c in
     let s = start (reach-counted (block-counted r)) in
     let a = s .args in
@@ -245,7 +246,7 @@ check-gap-spec =
     add-gap-count
     sub-gap-count
     gap-count-requires
-    count-block-requires
+    block-size-requires
     add-if1
     add-if1-2
     returns
@@ -257,6 +258,6 @@ check-gap-spec =
     part-reason-for-gap-start
     part-reason-for-gap-end
     reason-for-gap-requires
-    add-t31
+    add-t32
     same-length
     returns-2)

@@ -2,7 +2,7 @@
 -- Assumes nothing.
 use Prim.Native.Nat.{ℕ, _*_, _≤_}
 use native.Mathlib.Omega.{arith}
-use mathlib.Core.Path.{refl, ap, _∙_}
+use mathlib.Core.Path.{_≡_, refl, ap, _∙_}
 use lib.ListN.{length, getD, take}
 use Rattle.grid.proofs.SideLaws.{area}
 use Rattle.growth.proofs.PairChecks.{block-in}
@@ -23,6 +23,12 @@ start c = c .before .before .before .before .before .before .before
 -- the name of the last square's block
 abbrev lastBlock : tie.Start → ℕ
 lastBlock s = getD (s .args .owners .now) (getD (s .args .arrows .now) (s .args .last) 0) 0
+
+-- it is an arrow block
+last-kind : (s : tie.Start) → getD (s .args .kinds .now) (lastBlock s) 0 ≡ 1
+last-kind s =
+    let p = s .pre .1 in
+    scene-kind (p .line .scene) (s .args .last) (omega arith) (omega (arith, p .order)) (p .first)
 
 mul-last-block : tie.Need-mul-last-block
 mul-last-block c = search needs
@@ -60,17 +66,16 @@ count-reach-requires c κs =
     let p = s .pre in
     (record { tall = p .0 .tall; wide = p .0 .wide }, p .2 .chains, omega (arith, cur-name (s .pre .1), small s), p .3)
 
-count-block-requires : tie.Need-count-block-requires
-count-block-requires c κs =
+block-size-requires : tie.Need-block-size-requires
+block-size-requires c κs =
     let s = start (c .before) in
-    let a = s .args in
-    (record { owners = a .owners .now; size = a .h * a .w; chains = s .pre .2 .chains }, omega (arith, last-name (s .pre .1), small s))
+    omega (arith, last-name (s .pre .1), small s)
 
 add-if1 : tie.Need-add-if1
 add-if1 c =
     let s = start (c .before .before) in
     let a = s .args in
-    omega (arith, c .count-block .ensures (a .owners .now) (a .h * a .w) (s .pre .2 .chains), in-few (a .kinds .now) (a .owners .now) (lastBlock s) (a .h * a .w), small s)
+    omega (arith, c .block-size .ensures (a .kinds .now) (a .owners .now) (a .h * a .w) (s .pre .2 .blocks) (last-kind s), in-few (a .kinds .now) (a .owners .now) (lastBlock s) (a .h * a .w), small s)
 
 returns : tie.Need-returns
 returns c =
@@ -78,13 +83,15 @@ returns c =
     let a = s .args in
     let p = s .pre .1 in
     let reach = c .before .before .count-reach .ensures in
-    let size = c .before .count-block .ensures (a .owners .now) (a .h * a .w) (s .pre .2 .chains) in (
+    let size = c .before .block-size .ensures (a .kinds .now) (a .owners .now) (a .h * a .w) (s .pre .2 .blocks) (last-kind s) in (
       (λ lines k. no-growth k (p .order) (p .first) (p .second) _ _ refl refl
           (omega (
             arith,
             c .if1 .taken,
             size ∙ ap length (block-in (a .h) (a .w) lines (a .cells .now) (k .held) (lastBlock s)),
-            reach .0 lines (take (a .h * a .w) (a .cells .now)) (k .held) (s .pre .2 .counts) (scene-kind k (a .cur) (omega (arith, p .order)) (omega arith) (p .second)),
+            reach .0 lines (take (a .h * a .w) (a .cells .now)) (k .held) (s .pre .2 .counts)
+                (s .pre .2 .blocks _ (omega (arith, cur-name (s .pre .1), small s)) (scene-kind k (a .cur) (omega (arith, p .order)) (omega arith) (p .second)))
+                (scene-kind k (a .cur) (omega (arith, p .order)) (omega arith) (p .second)),
           ))),
       reach .1,
     )
@@ -105,13 +112,15 @@ returns-2 c =
     let a = s .args in
     let p = s .pre .1 in
     let reach = e .before .before .count-reach .ensures in
-    let size = e .before .count-block .ensures (a .owners .now) (a .h * a .w) (s .pre .2 .chains) in (
+    let size = e .before .block-size .ensures (a .kinds .now) (a .owners .now) (a .h * a .w) (s .pre .2 .blocks) (last-kind s) in (
       (λ lines k. growth-found k (p .order) (p .first) (p .second) _ _ refl refl
           (omega (
             arith,
             e .if1 .left,
             size ∙ ap length (block-in (a .h) (a .w) lines (a .cells .now) (k .held) (lastBlock s)),
-            reach .0 lines (take (a .h * a .w) (a .cells .now)) (k .held) (s .pre .2 .counts) (scene-kind k (a .cur) (omega (arith, p .order)) (omega arith) (p .second)),
+            reach .0 lines (take (a .h * a .w) (a .cells .now)) (k .held) (s .pre .2 .counts)
+                (s .pre .2 .blocks _ (omega (arith, cur-name (s .pre .1), small s)) (scene-kind k (a .cur) (omega (arith, p .order)) (omega arith) (p .second)))
+                (scene-kind k (a .cur) (omega (arith, p .order)) (omega arith) (p .second)),
           ))
           (c .before .before .reason-for-pair .ensures lines (k .held))),
       reach .1,
@@ -132,7 +141,7 @@ check-growth-spec =
     mul-block
     element-copy-out-block
     count-reach-requires
-    count-block-requires
+    block-size-requires
     add-if1
     returns
     reason-for-pair-requires

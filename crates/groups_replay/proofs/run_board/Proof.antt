@@ -1,8 +1,11 @@
 -- `groups_replay::run_board` is safe: what it hands on is as long as its type says.
 -- Assumes nothing.
 use borrow.Author.Needs.{needs}
+use Prim.Native.Nat.{_*_, _≤_}
+use native.Mathlib.Omega.{arith}
 use mathlib.Core.Path.{_≡_}
 use lib.ListN.{length}
+use Rattle.groups_replay.proofs.BlockLaws.{area-low}
 use Rattle.groups_replay.proofs.run_board.Statement.{statement}
 use Rattle.groups_replay.proofs.run_board.Tie as tie
 
@@ -43,8 +46,24 @@ returns-3 c = search needs
 arrow-total-requires : tie.Need-arrow-total-requires
 arrow-total-requires c κs = search needs
 
+no-marks-requires : tie.Need-no-marks-requires
+no-marks-requires c κs = search needs
+
+mark-arrows-requires : tie.Need-mark-arrows-requires
+mark-arrows-requires c κs = long-arrows (c .before .before .before .before .before .before .before .before .before .before .before .before .before)
+
+broken-requires-4 : tie.Need-broken-requires-4
+broken-requires-4 c κs = search needs
+
+returns-4 : tie.Need-returns-4
+returns-4 c = search needs
+
 potential-groups-differ-requires : tie.Need-potential-groups-differ-requires
-potential-groups-differ-requires c κs = search needs
+potential-groups-differ-requires c κs =
+    let a = c .before .before .before .before .before .before .before .before .before .before .before .before .before in
+    let p = a .before .before .before .before .args .b .problem in
+    let low : a .area .result ≤ p .height * p .width = omega (arith, a .area .ensures .0, area-low (p .height) (p .width)) in
+    search (needs, low)
 
 mul-run-arrows : tie.Need-mul-run-arrows
 mul-run-arrows c = search needs
@@ -53,15 +72,13 @@ add-run-arrows : tie.Need-add-run-arrows
 add-run-arrows c = search needs
 
 run-arrows-requires : tie.Need-run-arrows-requires
-run-arrows-requires c κs =
-    let s = c .before .before .before .before .before .before .before .before .before .before .before .before .before .before in
-    search (needs, long-arrows s)
+run-arrows-requires c κs = search needs
 
 also-requires : tie.Need-also-requires
 also-requires c κs = search needs
 
-returns-4 : tie.Need-returns-4
-returns-4 c = search needs
+returns-5 : tie.Need-returns-5
+returns-5 c = search needs
 
 pub run-board-spec : {M : Type 1} → statement M
 run-board-spec =
@@ -78,9 +95,13 @@ run-board-spec =
     broken-requires-3
     returns-3
     arrow-total-requires
+    no-marks-requires
+    mark-arrows-requires
+    broken-requires-4
+    returns-4
     potential-groups-differ-requires
     mul-run-arrows
     add-run-arrows
     run-arrows-requires
     also-requires
-    returns-4)
+    returns-5)

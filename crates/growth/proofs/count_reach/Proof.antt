@@ -14,7 +14,7 @@ returns c =
     let s = c .before .before .before .before .before in
     let a = s .args in
     let near = c .before .before .near-floats .ensures in
-    ((λ lines cells held sizes arrow. c .reach-size .ensures (a .h) (a .w) lines cells (a .kinds .now) (a .owners .now) _ (s .pre .0) held sizes (near .0 lines cells held) arrow), near .1 .long)
+    ((λ lines cells held sizes own arrow. c .reach-size .ensures (a .h) (a .w) lines cells (a .kinds .now) (a .owners .now) _ (s .pre .0) held sizes own (near .0 lines cells held) arrow), near .1 .long)
 
 pub count-reach-spec : {M : Type 1} → statement M
 count-reach-spec =

@@ -4,6 +4,7 @@ use Prim.Native.Nat.{_*_, _≤_}
 use mathlib.Core.Path.{refl}
 use Rattle.grid.proofs.SideLaws.{area}
 use Rattle.groups.specs.Arrays.{linesOf}
+use Rattle.inconsistency.proofs.Checks.{blocks-counted}
 use borrow.Author.Needs.{needs}
 use Rattle.inconsistency.proofs.check_arrows.Statement.{statement}
 use Rattle.inconsistency.proofs.check_arrows.Tie as tie
@@ -16,7 +17,7 @@ abbrev known : tie.After-chain-cells → tie.After-compute-board-info-detailed
 known c = c .before .before .before .before
 
 abbrev chained : tie.After-count-cells → tie.After-chain-cells
-chained c = c .before .before .before
+chained c = c .before .before .before .before
 
 -- the cells are few
 few : (s : tie.Start) → s .args .h * s .args .w ≤ 1024
@@ -35,7 +36,7 @@ mul-count-cells : tie.Need-mul-count-cells
 mul-count-cells c = search needs
 
 count-cells-requires : tie.Need-count-cells-requires
-count-cells-requires c κs = (few (start (known (c .before .before))), refl)
+count-cells-requires c κs = (few (start (known (c .before .before .before))), refl)
 
 search-pairs-requires : tie.Need-search-pairs-requires
 search-pairs-requires c κs =
@@ -44,7 +45,15 @@ search-pairs-requires c κs =
     let k = known l in
     let s = start k in
     let lines = linesOf (s .args .arrows .now) (s .args .ends .now) (s .args .number) in
-    (s .pre .0, record { held = k .compute-board-info-detailed .ensures lines (s .pre .1 .held); drawn = s .pre .1 .drawn }, record { chains = l .chain-cells .ensures; counts = n .count-cells .ensures })
+    let held = k .compute-board-info-detailed .ensures lines (s .pre .1 .held) in (
+      s .pre .0,
+      record { held = held; drawn = s .pre .1 .drawn },
+      record {
+        chains = l .chain-cells .ensures;
+        counts = n .count-cells .ensures;
+        blocks = blocks-counted (s .args .h) (s .args .w) (s .pre .0 .tall) (s .pre .0 .wide) lines (s .args .cells .now) held (s .pre .1 .counted);
+      },
+    )
 
 same-length : tie.Need-same-length
 same-length c = search needs

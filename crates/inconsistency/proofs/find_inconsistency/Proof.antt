@@ -3,7 +3,7 @@
 use Prim.Native.Nat.{ℕ, _*_}
 use mathlib.Core.Path.{_≡_, _∙_}
 use mathlib.Core.List.{List}
-use lib.ListN.{take}
+use lib.ListN.{take, length-replicate}
 use Rattle.grid.specs.Side.{sized}
 use Rattle.record.specs.Record.{Puzzle}
 use Rattle.kinds.specs.Inside.{puzzleWith}
@@ -12,16 +12,18 @@ use Rattle.paths.specs.Paths.{reason2}
 use Rattle.groups.specs.Arrays.{linesOf}
 use Rattle.literals.specs.Inside.{FoundAs}
 use Rattle.literals.specs.declared.Finding.the-variants.{Nothing}
-use Rattle.paths.specs.Ends.{BlockArrays}
+use Rattle.grid.proofs.GridLaws.{size-most}
+use Rattle.groups.proofs.TableLaws.{table-few}
+use Rattle.paths.specs.Ends.{BlockTable}
 use Rattle.inconsistency.specs.Arrays.{ArrowArrays}
-use Rattle.inconsistency.proofs.Checks.{line-is, listed-is, potentials-held, blocks-held, fit-after, same-after, never-refused, first-found, second-found, rest-found}
+use Rattle.inconsistency.proofs.Checks.{line-is, potentials-held, blocks-held, fit-after, same-after, never-refused, first-found, second-found, rest-found}
 use borrow.Author.Needs.{needs}
 use Rattle.inconsistency.proofs.find_inconsistency.Statement.{statement}
 use Rattle.inconsistency.proofs.find_inconsistency.Tie as tie
 
 -- the marks of the arrow cells, the total of the arrows' cells and the start, seen from behind the search for reason 1
 abbrev marked : tie.After-check-potential-groups → tie.After-mark-arrow-cells
-marked c = c .before .before .before .before .before .before
+marked c = c .before .before .before .before .before .before .before .before .before .before .before .before
 
 abbrev totalled : tie.After-check-potential-groups → tie.After-arrow-total
 totalled c = marked c .before .before
@@ -35,11 +37,11 @@ searched c = c .before .before .before .before
 
 -- that place, seen from behind the labels of the blocks
 abbrev passed : tie.After-compute-connected-components2 → tie.After-enum-told
-passed c = c .before .before
+passed c = c .before .before .before .before .before .before
 
 -- the labels of the blocks, seen from behind the search for reason 2
 abbrev labelled : tie.After-check-blocks → tie.After-compute-connected-components2
-labelled c = c .before .before .before .before .before
+labelled c = c .before .before .before .before .before .before
 
 -- the search for reason 2, seen from where it found nothing
 abbrev searched-2 : tie.After-enum-told2 → tie.After-check-blocks
@@ -58,7 +60,7 @@ held s = take (s .args .h * s .args .w) (s .args .cells .now)
 
 -- the buffer after each of the two searches
 abbrev after-one : tie.After-check-potential-groups → List ℕ
-after-one c = c .check-potential-groups .last .1 .1 .1 .1 .1 .1 .1 .0
+after-one c = c .check-potential-groups .last .1 .1 .1 .1 .1 .1 .1 .1 .0
 
 abbrev after-two : tie.After-check-blocks → List ℕ
 after-two c = c .check-blocks .last .1 .1 .1 .1 .1 .1 .1 .1 .0
@@ -72,16 +74,18 @@ one : (c : tie.After-check-potential-groups) → FoundAs (reason1 (puzzle (start
 one c =
     let s = start c in
     let fit = s .pre .0 in
-    let labels = c .before .before .before .before .compute-connected-components .ensures in
-    c .check-potential-groups .ensures (lines s) (potentials-held (s .args .h) (s .args .w) (fit .tall) (fit .wide) (drawn (totalled c)) (s .args .cells .now) labels (marked c .mark-arrow-cells .ensures))
+    let table = c .before .before .before .before .before .before .compute-connected-components .ensures in
+    c .check-potential-groups .ensures (lines s) (potentials-held (s .args .h) (s .args .w) (fit .tall) (fit .wide) (drawn (totalled c)) (s .args .cells .now) table (marked c .mark-arrow-cells .ensures))
 
 -- the search for reason 1 found nothing
 none : (c : tie.After-enum-told) → searched c .check-potential-groups .result ≡ Nothing
 none c = c .enum-told .given .1
 
--- the blocks that were labelled
+-- the table of the blocks
 blocks : (c : tie.After-compute-connected-components2)
-    → let k = searched (passed c) in BlockArrays (puzzle (start k)) (held (start k)) (c .compute-connected-components2 .last .1 .1 .1 .1 .0) (marked k .mark-arrow-cells .last .1 .1 .0)
+    → let k = searched (passed c) in
+    let l = c .compute-connected-components2 .last in
+    BlockTable (puzzle (start k)) (held (start k)) (l .1 .1 .1 .1 .1 .0) (marked k .mark-arrow-cells .last .1 .1 .0) (l .1 .1 .1 .1 .1 .1 .0) (l .1 .1 .1 .1 .1 .1 .1 .0) (l .1 .1 .1 .1 .1 .1 .1 .1 .0) (c .compute-connected-components2 .result)
 blocks c =
     let k = searched (passed c) in
     let s = start k in
@@ -91,7 +95,7 @@ blocks c =
 -- what the search for reason 2 says
 two : (c : tie.After-check-blocks)
     → let k = searched (passed (labelled c)) in FoundAs (reason2 (puzzle (start k)) (held (start k))) (after-one k) (after-two c) (c .check-blocks .result)
-two c = c .check-blocks .ensures .0 (lines (start (searched (passed (labelled c))))) (blocks (labelled c))
+two c = c .check-blocks .ensures (lines (start (searched (passed (labelled c))))) _ (blocks (labelled c))
 
 arrow-total-requires : tie.Need-arrow-total-requires
 arrow-total-requires c κs = search needs
@@ -102,15 +106,16 @@ mark-arrow-cells-requires c κs =
     line-is (s .args .h) (s .args .w) (s .pre .0 .tall) (s .pre .0 .wide) (drawn (c .before))
 
 compute-connected-components-requires : tie.Need-compute-connected-components-requires
-compute-connected-components-requires c κs = search needs
+compute-connected-components-requires c κs =
+    let fit = c .before .before .before .before .before .before .before .before .before .pre .0 in
+    (fit .tall, fit .wide, length-replicate {A = ℕ} 1024 0, length-replicate {A = ℕ} 1024 0, length-replicate {A = ℕ} 1024 0)
 
 check-potential-groups-requires : tie.Need-check-potential-groups-requires
 check-potential-groups-requires c κs =
-    let m = c .before .before .before .before .before in
-    let t = m .before .before in
-    let s = t .before .before in
+    let t = c .before .before .before .before .before in
+    let s = t .before .before .before .before .before .before .before .before .before .before in
     let fit = s .pre .0 in
-    (fit, listed-is (s .args .h) (s .args .w) (fit .tall) (fit .wide) (drawn t) (m .mark-arrow-cells .ensures))
+    (fit, table-few (sized (s .args .h) (s .args .w)) _ (t .compute-connected-components .ensures) (size-most (sized (s .args .h) (s .args .w)) (fit .tall) (fit .wide)))
 
 enum-told : tie.Need-enum-told
 enum-told c = search needs
@@ -138,30 +143,31 @@ returns-2 c =
     absurd (never-refused (reason1 (puzzle (start k)) (held (start k))) (one k) (c .before .first2 .given .1))
 
 compute-connected-components-requires-2 : tie.Need-compute-connected-components-requires-2
-compute-connected-components-requires-2 c κs = search needs
+compute-connected-components-requires-2 c κs =
+    let k = searched (c .before .before .before .before .before) in
+    let fit = start k .pre .0 in
+    let t = k .before .before .before .before .before .before .compute-connected-components .ensures in
+    (fit .tall, fit .wide, t .firsts-long, t .squares-are .long, t .arrowed-are .long)
 
 check-blocks-requires : tie.Need-check-blocks-requires
 check-blocks-requires c κs =
-    let b = c .before .before .before .before in
+    let b = c .before .before .before .before .before in
     let k = searched (passed b) in
     let s = start k in
-    let fit = s .pre .0 in (
-      fit-after fit (same-after (reason1 (puzzle s) (held s)) (one k) (none (passed b))),
-      record { arrows = lines s; held = blocks b },
-      listed-is (s .args .h) (s .args .w) (fit .tall) (fit .wide) (drawn (totalled k)) (marked k .mark-arrow-cells .ensures),
-    )
+    (fit-after (s .pre .0) (same-after (reason1 (puzzle s) (held s)) (one k) (none (passed b))), record { arrows = lines s; squares = _; held = blocks b })
 
 enum-told-2 : tie.Need-enum-told-2
 enum-told-2 c = search needs
 
 check-arrows-requires : tie.Need-check-arrows-requires
 check-arrows-requires c κs =
-    let e = c .before .before .before in
+    let e = c .before .before .before .before in
     let b = searched-2 e in
     let p = passed (labelled b) in
-    let s = start (searched p) in (
+    let s = start (searched p) in
+    let t = blocks (labelled b) .table in (
       fit-after (s .pre .0) (same-after (reason2 (puzzle s) (held s)) (two b) (e .enum-told2 .given .1) ∙ same-after (reason1 (puzzle s) (held s)) (one (searched p)) (none p)),
-      record { drawn = s .pre .1 .drawn; held = b .check-blocks .ensures .1 (lines s) (blocks (labelled b)) },
+      record { drawn = s .pre .1 .drawn; held = record { named = t .groups-are; counted = t .arrowed-are }; counted = t .squares-are },
     )
 
 enum-known-second : tie.Need-enum-known-second
@@ -171,12 +177,17 @@ enum-known-second-2 : tie.Need-enum-known-second-2
 enum-known-second-2 c = search needs
 
 same-length-3 : tie.Need-same-length-3
-same-length-3 c = search needs
+same-length-3 c =
+    let k = c .before .before in
+    let b = searched-2 (k .before .before .before .before .before) in
+    k .check-arrows .kept .1 .1 .1 .1 .1 .1 .1 .1 .1 .0
+    ∙ b .check-blocks .kept .1 .1 .1 .1 .1 .1 .1 .1 .0
+    ∙ searched (passed (labelled b)) .check-potential-groups .kept .1 .1 .1 .1 .1 .1 .1 .1 .0
 
 returns-3 : tie.Need-returns-3
 returns-3 c =
     let k = c .before .before in
-    let e = k .before .before .before .before in
+    let e = k .before .before .before .before .before in
     let b = searched-2 e in
     let p = passed (labelled b) in
     let s = start (searched p) in

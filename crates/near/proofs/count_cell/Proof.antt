@@ -14,6 +14,9 @@ mul-f c = search needs
 element-copy-out-f : tie.Need-element-copy-out-f
 element-copy-out-f c = search needs
 
+element-copy-out-other : tie.Need-element-copy-out-other
+element-copy-out-other c = search needs
+
 cast-slot : tie.Need-cast-slot
 cast-slot c = omega arith
 
@@ -25,7 +28,7 @@ element-copy-out-size c = omega arith
 
 add-pick : tie.Need-add-pick
 add-pick c =
-    let s = c .before .before in
+    let s = c .before .before .before in
     omega (arith, size-few (s .pre .1) (getD (s .args .owners .now) (s .args .i) 0 % 1024) (omega arith), s .pre .0)
 
 pick-requires : tie.Need-pick-requires
@@ -38,7 +41,7 @@ element-write-sizes : tie.Need-element-write-sizes
 element-write-sizes c = omega arith
 
 returns : tie.Need-returns
-returns c = rw (c .pick .ensures) (sizes-either (c .before .before .before .pre .1))
+returns c = rw (c .pick .ensures) (sizes-either (c .before .before .before .before .pre .1))
 
 pub count-cell-spec : {M : Type 1} → statement M
 count-cell-spec =
@@ -46,6 +49,7 @@ count-cell-spec =
     (tie.spec
     mul-f
     element-copy-out-f
+    element-copy-out-other
     cast-slot
     mul-size
     element-copy-out-size

@@ -10,13 +10,13 @@ use Rattle.near.proofs.count_cells.Statement.{statement}
 use Rattle.near.proofs.count_cells.Tie as tie
 
 abbrev Inv-loop : tie.InvT-loop
-Inv-loop owners n sizes₀ i₀ sizes i = (i ≤ n) × Sizes owners i sizes
+Inv-loop kinds owners n sizes₀ i₀ sizes i = (i ≤ n) × Sizes kinds owners i sizes
 
 abbrev μ-loop : tie.MeasureT-loop
-μ-loop owners n sizes₀ i₀ sizes i = n - i
+μ-loop kinds owners n sizes₀ i₀ sizes i = n - i
 
 loop-holds : tie.Need-loop-holds Inv-loop μ-loop
-loop-holds c = (omega arith, rw (c .pre .1) (sizes-none _))
+loop-holds c = (omega arith, rw (c .pre .1) (sizes-none _ _))
 
 count-cell-requires : tie.Need-count-cell-requires Inv-loop μ-loop
 count-cell-requires c κs =

@@ -28,11 +28,11 @@ record Amid (fourth : Bool) (cells arrows kinds owners : List ℕ) (h w from to 
   passed : (lines : List (List ℕ)) → Scene h w lines cells arrows kinds owners from to → ahead fourth h w lines cells arrows to from ≡ ahead fourth h w lines cells arrows to last
 
 abbrev Inv-loop : tie.InvT-loop
-Inv-loop fourth cells arrows kinds owners head next sizes h w from to near₀ groups₀ rows₀ columns₀ buffer₀ last₀ near groups rows columns buffer last =
+Inv-loop fourth cells arrows kinds owners head next sizes squares h w from to near₀ groups₀ rows₀ columns₀ buffer₀ last₀ near groups rows columns buffer last =
     Amid fourth cells arrows kinds owners h w from to groups rows columns buffer₀ buffer last
 
 abbrev μ-loop : tie.MeasureT-loop
-μ-loop fourth cells arrows kinds owners head next sizes h w from to near₀ groups₀ rows₀ columns₀ buffer₀ last₀ near groups rows columns buffer last = to - last
+μ-loop fourth cells arrows kinds owners head next sizes squares h w from to near₀ groups₀ rows₀ columns₀ buffer₀ last₀ near groups rows columns buffer last = to - last
 
 -- the start, seen from the loop
 abbrev start : tie.At-loop Inv-loop μ-loop → tie.Start Inv-loop μ-loop
@@ -136,7 +136,7 @@ enum-known-finding c = search needs
 same-length-2 : tie.Need-same-length-2 Inv-loop μ-loop
 same-length-2 c =
     let p = checked (c .before .before .before) in
-    p .check-pair .kept .1 .1 .1 .1 .1 .1 .1 .1 .1 .1 .1 .1 .1 .1 .1 .1 .0 ∙ ap length (around (met (p .before)) .loop .inv .same)
+    p .check-pair .kept .1 .1 .1 .1 .1 .1 .1 .1 .1 .1 .1 .1 .1 .1 .1 .1 .1 .0 ∙ ap length (around (met (p .before)) .loop .inv .same)
 
 returns-2 : tie.Need-returns-2 Inv-loop μ-loop
 returns-2 c =
@@ -158,7 +158,7 @@ enum-known-finding-2 c = search needs
 same-length-3 : tie.Need-same-length-3 Inv-loop μ-loop
 same-length-3 c =
     let p = checked (c .before .before .before) in
-    p .check-pair .kept .1 .1 .1 .1 .1 .1 .1 .1 .1 .1 .1 .1 .1 .1 .1 .1 .0 ∙ ap length (around (met (p .before)) .loop .inv .same)
+    p .check-pair .kept .1 .1 .1 .1 .1 .1 .1 .1 .1 .1 .1 .1 .1 .1 .1 .1 .1 .0 ∙ ap length (around (met (p .before)) .loop .inv .same)
 
 returns-3 : tie.Need-returns-3 Inv-loop μ-loop
 returns-3 c =

@@ -30,11 +30,11 @@ record Amid (fourth : Bool) (cells arrows ends : List ℕ) (number : ℕ) (h w :
       ≡ restOf (reasonAt fourth (viewOn h w (linesOf arrows ends number) cells)) (take (h * w) cells) (linesFrom arrows ends number from a)
 
 abbrev Inv-loop : tie.InvT-loop
-Inv-loop fourth cells arrows ends number kinds owners head next sizes h w near₀ groups₀ rows₀ columns₀ buffer₀ from₀ a₀ near groups rows columns buffer from a =
+Inv-loop fourth cells arrows ends number kinds owners head next sizes squares h w near₀ groups₀ rows₀ columns₀ buffer₀ from₀ a₀ near groups rows columns buffer from a =
     Amid fourth cells arrows ends number h w groups rows columns buffer₀ buffer from a
 
 abbrev μ-loop : tie.MeasureT-loop
-μ-loop fourth cells arrows ends number kinds owners head next sizes h w near₀ groups₀ rows₀ columns₀ buffer₀ from₀ a₀ near groups rows columns buffer from a = number - a
+μ-loop fourth cells arrows ends number kinds owners head next sizes squares h w near₀ groups₀ rows₀ columns₀ buffer₀ from₀ a₀ near groups rows columns buffer from a = number - a
 
 -- the start, seen from inside the loop
 abbrev start : tie.In-loop Inv-loop μ-loop → tie.Start Inv-loop μ-loop
@@ -70,7 +70,7 @@ Says c to =
     let n = start i .args in
     let l = i .before .loop in
     FoundAs (firstOf (reason (start i)) (pairs (take (n .h * n .w) (n .cells .now)) (slice (l .from) to (n .arrows .now)))) (l .buffer)
-    (c .search-arrow .last .1 .1 .1 .1 .1 .1 .1 .1 .1 .1 .1 .1 .1 .1 .1 .1 .0) (c .search-arrow .result)
+    (c .search-arrow .last .1 .1 .1 .1 .1 .1 .1 .1 .1 .1 .1 .1 .1 .1 .1 .1 .1 .0) (c .search-arrow .result)
 
 found : (c : tie.After-search-arrow Inv-loop μ-loop) → let i = ended (c .before) .before .before in Says c (getD (start i .args .ends .now) (i .before .loop .a) 0)
 found c =
@@ -138,7 +138,7 @@ enum-known-finding c = search needs
 same-length : tie.Need-same-length Inv-loop μ-loop
 same-length c =
     let p = searched (c .before .before .before) in
-    p .search-arrow .kept .1 .1 .1 .1 .1 .1 .1 .1 .1 .1 .1 .1 .1 .1 .1 .1 .0 ∙ ap length (ended (p .before) .before .before .before .loop .inv .same)
+    p .search-arrow .kept .1 .1 .1 .1 .1 .1 .1 .1 .1 .1 .1 .1 .1 .1 .1 .1 .1 .0 ∙ ap length (ended (p .before) .before .before .before .loop .inv .same)
 
 returns : tie.Need-returns Inv-loop μ-loop
 returns c =
@@ -158,7 +158,7 @@ enum-known-finding-2 c = search needs
 same-length-2 : tie.Need-same-length-2 Inv-loop μ-loop
 same-length-2 c =
     let p = searched (c .before .before .before) in
-    p .search-arrow .kept .1 .1 .1 .1 .1 .1 .1 .1 .1 .1 .1 .1 .1 .1 .1 .1 .0 ∙ ap length (ended (p .before) .before .before .before .loop .inv .same)
+    p .search-arrow .kept .1 .1 .1 .1 .1 .1 .1 .1 .1 .1 .1 .1 .1 .1 .1 .1 .1 .0 ∙ ap length (ended (p .before) .before .before .before .loop .inv .same)
 
 returns-2 : tie.Need-returns-2 Inv-loop μ-loop
 returns-2 c =

@@ -13,8 +13,7 @@ use Rattle.grid.specs.Side.{sized, towards}
 use Rattle.grid.proofs.ListLaws.{mem-any, mem-upto}
 use Rattle.grid.proofs.SideLaws.{in-place}
 use Rattle.grid.proofs.AppendLaws.{any-more}
-use Rattle.units.proofs.Quick.{any-start}
-use Rattle.units.proofs.Boundary.{any-placed}
+use Rattle.units.proofs.Boundary.{any-placed, any-start}
 use Rattle.units.proofs.touches_group.Statement.{statement}
 use Rattle.units.proofs.touches_group.Tie as tie
 

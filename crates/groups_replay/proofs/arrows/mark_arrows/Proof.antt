@@ -1,4 +1,4 @@
--- `groups_replay::arrows::mark_arrows` marks the arrow blocks by a line that was tested.
+-- `groups_replay::arrows::mark_arrows` marks the arrow cells by a line that was tested.
 -- Assumes nothing.
 use borrow.Author.Needs.{needs}
 use Rattle.groups_replay.proofs.arrows.mark_arrows.Statement.{statement}
@@ -7,8 +7,8 @@ use Rattle.groups_replay.proofs.arrows.mark_arrows.Tie as tie
 in-line-requires : tie.Need-in-line-requires
 in-line-requires c κs = search needs
 
-mark-arrow-blocks-requires : tie.Need-mark-arrow-blocks-requires
-mark-arrow-blocks-requires c κs = c .before .before .in-line .ensures (c .before .if1 .taken)
+mark-arrow-cells-requires : tie.Need-mark-arrow-cells-requires
+mark-arrow-cells-requires c κs = c .before .before .in-line .ensures (c .before .if1 .taken)
 
 returns : tie.Need-returns
 returns c = search needs
@@ -21,6 +21,6 @@ mark-arrows-spec =
     tie.close
     (tie.spec
     in-line-requires
-    mark-arrow-blocks-requires
+    mark-arrow-cells-requires
     returns
     returns-2)

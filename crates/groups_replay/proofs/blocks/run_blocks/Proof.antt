@@ -17,6 +17,9 @@ add-also c = search needs
 loop-holds : tie.Need-loop-holds Inv-loop μ-loop
 loop-holds c = search needs
 
+mul-if1 : tie.Need-mul-if1 Inv-loop μ-loop
+mul-if1 c = search needs
+
 element-copy-out-if1 : tie.Need-element-copy-out-if1 Inv-loop μ-loop
 element-copy-out-if1 c = search needs
 
@@ -58,6 +61,7 @@ run-blocks-spec =
     μ-loop
     add-also
     loop-holds
+    mul-if1
     element-copy-out-if1
     broken-requires
     returns

@@ -4,23 +4,30 @@ use borrow.Author.Needs.{needs}
 use Prim.Native.Nat.{_-_, _*_, _<_}
 use native.Mathlib.Omega.{arith}
 use mathlib.Core.Path.{_≡_}
-use lib.ListN.{take}
+use lib.ListN.{length, take}
 use Rattle.grid.specs.Side.{sized}
-use Rattle.groups.specs.Arrays.{counts, labelArray}
+use Rattle.grid.specs.Cells.{square}
+use Rattle.groups.specs.Arrays.{counts, marked}
+use Rattle.groups_replay.specs.Blocks.{Computed}
 use Rattle.groups_replay.proofs.rounds.label_in_rounds.Statement.{statement}
 use Rattle.groups_replay.proofs.rounds.label_in_rounds.Tie as tie
 
 abbrev Inv-loop : tie.InvT-loop
-Inv-loop rounds cells is-potential h w names₀ i₀ names i = 0 < i → names ≡ labelArray (sized h w) (counts is-potential (take (h * w) cells))
+Inv-loop rounds cells onarrow is-potential h w names₀ firsts₀ squares₀ arrowed₀ i₀ names firsts squares arrowed i =
+    ((length firsts ≡ 1024) × (length squares ≡ 1024) × (length arrowed ≡ 1024)) × (0 < i → Computed (sized h w) (counts is-potential (take (h * w) cells)) (square (take (h * w) cells)) (marked onarrow) names squares arrowed)
 
 abbrev μ-loop : tie.MeasureT-loop
-μ-loop rounds cells is-potential h w names₀ i₀ names i = rounds - i
+μ-loop rounds cells onarrow is-potential h w names₀ firsts₀ squares₀ arrowed₀ i₀ names firsts squares arrowed i = rounds - i
 
 loop-holds : tie.Need-loop-holds Inv-loop μ-loop
-loop-holds c = λ l. absurd (omega arith)
+loop-holds c = let p = c .pre in ((p .2, p .3, p .4), λ l. absurd (omega arith))
 
 compute-connected-components-requires : tie.Need-compute-connected-components-requires Inv-loop μ-loop
-compute-connected-components-requires c κs = search needs
+compute-connected-components-requires c κs =
+    let l = c .before .before .before .before .before in
+    let p = l .before .pre in
+    let v = l .loop .inv .0 in
+    (p .0, p .1, v .0, v .1, v .2)
 
 add-i : tie.Need-add-i Inv-loop μ-loop
 add-i c = search needs
@@ -29,10 +36,12 @@ loop-less : tie.Need-loop-less Inv-loop μ-loop
 loop-less c = search needs
 
 loop-again : tie.Need-loop-again Inv-loop μ-loop
-loop-again c = λ l. c .compute-connected-components .ensures
+loop-again c =
+    let t = c .compute-connected-components .ensures in
+    ((t .firsts-long, t .squares-are .long, t .arrowed-are .long), λ l. record { groups-are = t .groups-are; squares-are = t .squares-are; arrowed-are = t .arrowed-are })
 
 returns : tie.Need-returns Inv-loop μ-loop
-returns c = λ l. c .before .loop .inv (omega (arith, c .loop-test .left))
+returns c = let v = c .before .loop .inv in ((v .0 .1, v .0 .2), λ l. v .1 (omega (arith, c .loop-test .left)))
 
 pub label-in-rounds-spec : {M : Type 1} → statement M
 label-in-rounds-spec =

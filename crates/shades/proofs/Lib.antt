@@ -1,0 +1,3 @@
+pub mod AnswerLaws
+pub mod PairLaws
+pub mod ShadeLaws
