@@ -16,6 +16,9 @@
 /* The length in bytes of an output that is long enough for evolmino_shades and every record: 4 * 32 * 32. */
 #define EVOLMINO_SHADES 4096
 
+/* The length in bytes of the longest record, so the same for evolmino_turn. */
+#define EVOLMINO_RECORD 2819
+
 /* What a negated return value says. */
 enum {
     EVOLMINO_RECORD_ENDS = 1,   /* the record ends inside a field, or before one that is due */
@@ -27,7 +30,9 @@ enum {
     EVOLMINO_DECIDED = 9,       /* the cell is decided already */
     EVOLMINO_OUTPUT_SHORT = 11, /* the output is shorter than the call asks for */
     EVOLMINO_DECISION = 12,     /* a decision's five bits are not zero, or a single byte is left over at the end */
-    EVOLMINO_SHEET_SHORT = 13   /* the output is too short for the whole clause sheet */
+    EVOLMINO_SHEET_SHORT = 13,  /* the output is too short for the whole clause sheet */
+    EVOLMINO_TURNING = 14,      /* the number of a turning is above 7 */
+    EVOLMINO_RECORD_OUTPUT_SHORT = 15 /* the output is shorter than the record that is to be written */
 };
 
 #ifdef __cplusplus
@@ -80,6 +85,18 @@ int32_t evolmino_clauses(const uint8_t *record, size_t record_len,
 int32_t evolmino_shades(const uint8_t *record, size_t record_len,
                         const uint8_t *decisions, size_t decisions_len,
                         uint8_t *output, size_t output_len);
+
+/* Turns a record for the page, by turning k, 0 to 7: it flips left and right first if k is 4 or more, then makes k modulo 4 quarter turns
+ * clockwise. The turned record has its grid, its cells and its arrows turned; the arrows keep their order. Turning k is undone by turning k
+ * where k is 4 or more, else by turning (4 - k) % 4, which gives the same bytes again.
+ *
+ * Returns the number of bytes written, which is the record's length, or the negated number of a refusal, which changes no byte: the record's 1
+ * to 5, then 14 for k above 7, then 15 for an output shorter than the record. Bytes behind those written are unchanged. The pointers are not
+ * null, also where a length is 0, and the output does not overlap the record. The call keeps nothing and may be made from any thread, also
+ * from several at once; it takes up to about 30 kilobytes of stack.
+ */
+int32_t evolmino_turn(const uint8_t *record, size_t record_len, uint32_t k,
+                      uint8_t *output, size_t output_len);
 
 #ifdef __cplusplus
 }

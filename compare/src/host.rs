@@ -56,6 +56,15 @@ pub const PACKAGE_BLOCKS: Option<PackageBlocks> = Some(package_blocks);
 #[cfg(not(feature = "host"))]
 pub const PACKAGE_BLOCKS: Option<PackageBlocks> = None;
 
+/// Record, turning, output; the number of bytes written, or the negated refusal number.
+pub type TurnCall = fn(&[u8], u32, &mut [u8]) -> i32;
+
+/// The call that turns a record, if this program was built with it.
+#[cfg(feature = "host")]
+pub const TURN_CALL: Option<TurnCall> = Some(turn_call);
+#[cfg(not(feature = "host"))]
+pub const TURN_CALL: Option<TurnCall> = None;
+
 pub const MISSING: &str = "the host call is not linked: build with --features host, \
                            with libhost.a in the folder that EVOLMINO_HOST names";
 
@@ -109,4 +118,12 @@ fn package_blocks(
     let blocks = evolmino::blocks(record, &decisions).map_err(|refusal| refusal.number())?;
     let block = |block: evolmino::Block| (block.first, block.size, block.cells);
     Ok(blocks.map(block).collect())
+}
+
+#[cfg(feature = "host")]
+fn turn_call(record: &[u8], k: u32, output: &mut [u8]) -> i32 {
+    match evolmino::turn_bytes(record, k, output) {
+        Ok(count) => count as i32,
+        Err(refusal) => -(refusal.number() as i32),
+    }
 }

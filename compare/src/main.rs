@@ -58,7 +58,7 @@ compare program PATH [--seed N] [--count N]
 compare bench [--seed N] [--count ROUNDS]
 compare host [--seed N] [--count N]
 compare constraint [--seed N] [--count N]
-compare fuzz|finished|clauses|shades [--seed N] [--count N]
+compare fuzz|finished|clauses|shades|turn [--seed N] [--count N]
 compare reason < INPUT
 compare original";
 
@@ -91,6 +91,7 @@ fn run(options: &Options) -> Outcome {
         "finished" => commands::finished::run(seed, count(1_000)),
         "clauses" => commands::clauses::run(seed, count(2_000)),
         "shades" => commands::shades::run(seed, count(20_000)),
+        "turn" => commands::turn::run(seed, count(10_000)),
         "finds" | "calls" | "groups" | "lists" | "bench" | "host" | "constraint" | "original"
             if !original::AT_HAND =>
         {

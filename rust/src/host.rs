@@ -59,6 +59,10 @@ pub enum Refusal {
     Decision,
     /// 13: the output is too short for the whole clause sheet.
     SheetShort,
+    /// 14: the number of a turning is above 7.
+    Turning,
+    /// 15: the output is shorter than the record that is to be written.
+    RecordOutputShort,
     /// Another number: the linked library has refusals that this package doesn't know.
     Unknown(u32),
 }
@@ -80,6 +84,8 @@ impl Refusal {
             11 => Refusal::OutputShort,
             12 => Refusal::Decision,
             13 => Refusal::SheetShort,
+            14 => Refusal::Turning,
+            15 => Refusal::RecordOutputShort,
             _ => Refusal::Unknown(number),
         }
     }
@@ -100,6 +106,8 @@ impl Refusal {
             Refusal::OutputShort => 11,
             Refusal::Decision => 12,
             Refusal::SheetShort => 13,
+            Refusal::Turning => 14,
+            Refusal::RecordOutputShort => 15,
             Refusal::Unknown(number) => number,
         }
     }
@@ -123,6 +131,10 @@ impl fmt::Display for Refusal {
                 "a decision's five bits are not zero, or a single byte is left over"
             }
             Refusal::SheetShort => "the output is too short for the whole clause sheet",
+            Refusal::Turning => "the number of a turning is above 7",
+            Refusal::RecordOutputShort => {
+                "the output is shorter than the record that is to be written"
+            }
             Refusal::Unknown(_) => "this package doesn't know why",
         };
         write!(f, "refused {}: {}", self.number(), what)

@@ -1,9 +1,9 @@
 //! The proved Evolmino constraint, for Rust.
 //!
-//! [`find`] asks the proved library why a board can't be finished, [`finished`] whether it is, [`blocks`] which blocks it has, and [`clauses`]
-//! gives a puzzle's clauses for other solvers; [`Record`] writes a [`Problem`] in the form that they read; and [`Constraint`] has `notify`,
-//! `undo` and `find_inconsistency` with the signatures of cspuz_core's
-//! `SimpleCustomConstraint`, so that it can stand where `EvolminoConstraint` stood.
+//! [`find`] asks the proved library why a board can't be finished, [`finished`] whether it is, [`blocks`] which blocks it has, [`clauses`]
+//! gives a puzzle's clauses for other solvers, and [`turn()`] turns a record for the page; [`Record`] writes a [`Problem`] in the form that they
+//! read; and [`Constraint`] has `notify`, `undo` and `find_inconsistency` with the signatures of cspuz_core's `SimpleCustomConstraint`, so that
+//! it can stand where `EvolminoConstraint` stood.
 //!
 //! What is proved are the library's exported calls. This package around them, which writes records, keeps decisions and reads the
 //! answer, is plain Rust: `compare constraint` holds it beside the original.
@@ -27,9 +27,11 @@ mod constraint;
 mod host;
 mod record;
 mod shades;
+mod turn;
 
 pub use clauses::{clauses, clauses_bytes, dimacs, SHEET_LIMIT};
 pub use constraint::Constraint;
 pub use host::{find, find_bytes, finished, finished_bytes, Literal, Refusal};
 pub use record::{Problem, ProblemCell, Record, RecordError};
 pub use shades::{blocks, shades_bytes, Block, Blocks};
+pub use turn::{turn, turn_bytes, Turning};

@@ -3,6 +3,7 @@
 
 use super::parts::{self, Known};
 use super::sheets;
+use super::turnings;
 use crate::generate::boards::{usual_board, Decided};
 use crate::generate::puzzles::square;
 use crate::host::{HostCall, HOST_CALL, MISSING};
@@ -57,6 +58,7 @@ pub fn run(seed: u64, rounds: usize) -> Outcome {
         println!("{MISSING}");
     }
     sheets::run(seed, &SIDES, rounds)?;
+    turnings::run(seed, &SIDES, rounds)?;
     parts::run(&boards_by_side)
 }
 

@@ -6,6 +6,7 @@
 
 use super::clauses::FuzzedSheets;
 use super::shades::FuzzedShades;
+use super::turn::FuzzedTurnings;
 use crate::answers::host_facts;
 use crate::generate::boards::{board_of_size, Decided};
 use crate::generate::hosts::{host_input, HostInput};
@@ -46,6 +47,7 @@ pub fn run(seed: u64, count: usize) -> Outcome {
     let mut counts = Counts::default();
     let mut sheets = FuzzedSheets::new(seed)?;
     let mut shades = FuzzedShades::new(seed)?;
+    let mut turnings = FuzzedTurnings::new(seed)?;
     let leaves = finished_leaves(&mut random, FINISHED);
     let mut done = 0;
     while done < count {
@@ -60,6 +62,7 @@ pub fn run(seed: u64, count: usize) -> Outcome {
             sheets.check(&input.record)?;
             counts.finished += usize::from(check_finished(finished, &input)?);
             shades.check(&input)?;
+            turnings.check(&input.record)?;
             match check(&mut random, host_call, &input)? {
                 Ok(reason) => counts.found[Tally::column(reason.as_ref())] += 1,
                 Err(refusal) => counts.refused[usize::from(refusal.number())] += 1,
@@ -79,6 +82,7 @@ pub fn run(seed: u64, count: usize) -> Outcome {
     println!("finished: {} leaves", counts.finished);
     println!("{}", sheets.line());
     println!("{}", shades.line());
+    println!("{}", turnings.line());
     Ok(())
 }
 

@@ -16,3 +16,5 @@ pub mod records;
 pub mod shades;
 mod sheets;
 pub mod small;
+pub mod turn;
+mod turnings;

@@ -15,6 +15,7 @@ pub mod program;
 pub mod reasons;
 pub mod record;
 pub mod shades;
+pub mod turn;
 
 #[cfg(test)]
 mod leaves;
@@ -38,6 +39,8 @@ pub enum Refusal {
     OutputShort = 11,
     Decision = 12,
     SheetShort = 13,
+    Turning = 14,
+    RecordOutputShort = 15,
 }
 
 impl Refusal {

@@ -62,7 +62,7 @@ pub next-col : (i w : ℕ) → i % w + 1 < w → (i + 1) % w ≡ i % w + 1
 next-col i w h = sym (mod-add-mod i w 1) ∙ mod-eq-of-lt h
 
 -- a cell with one in its row before it
-prev-col : (j w : ℕ) → 0 < w → 0 < (j + 1) % w → j % w + 1 < w
+pub prev-col : (j w : ℕ) → 0 < w → 0 < (j + 1) % w → j % w + 1 < w
 prev-col j w p h = go (split (ltb (j % w + 1) w))
   where
     go : (ltb (j % w + 1) w ≡ true) ⊎ (ltb (j % w + 1) w ≡ false) → j % w + 1 < w

@@ -5,6 +5,7 @@ pub mod LinkLaws
 pub mod Count
 pub mod Finite
 pub mod GridLaws
+pub mod PlaceLaws
 pub mod RisingLaws
 pub mod ArrayLaws
 pub mod FilledLaws

@@ -20,6 +20,7 @@ ghost use Rattle.board.specs.Decide.{decideAllOf};
 ghost use Rattle.exported.specs.Written.{bytesOf, written, outputWith};
 ghost use Rattle.clauses.specs.Clauses.{sheetFor};
 ghost use Rattle.shades.specs.Shades.{shadesOn};
+ghost use Rattle.turn.specs.Turn.{turnRecord};
 ghost use Rattle.host.specs.Host.{hostFinds, returned, outputAfter, Opens};
 ghost use Rattle.host.specs.Inside.{verdictNumber, judgedBy};
 ghost use Rattle.host.specs.Judged.{hostFinished, judged};
@@ -210,4 +211,14 @@ pub extern "C" fn evolmino_shades(record: &[u8], decisions: &[u8], output: &mut 
         Answer::Done => decide_and_shade(begun.board, decisions, output),
         Answer::Refused(k) => negated(k),
     }
+}
+
+// Turns the record by k: flipped left and right first if k is 4 or more, then k modulo 4 quarter turns clockwise. The turned record stands in the
+// output's first bytes. Returns how many they are, or the negated number of a refusal, which leaves the output as it was.
+#[no_mangle]
+pub extern "C" fn evolmino_turn(record: &[u8], k: u32, output: &mut [u8]) -> i32
+    ensures { λ r. ⌜ (r ≡ written (turnRecord k (length (now (output .entry))) (now («record» .entry))))
+        × (now (output .exit) ≡ outputWith (turnRecord k (length (now (output .entry))) (now («record» .entry))) (now (output .entry))) ⌝ }
+{
+    turn::turn(record, k, output)
 }

@@ -221,14 +221,14 @@ fn read_arrows(
 }
 
 // 1,024 zeros for codes or marks.
-fn no_codes() -> [u8; 1024]
+pub fn no_codes() -> [u8; 1024]
     ensures { λ r. ⌜ r ≡ arrayOf 0 [] ⌝ }
 {
     [0; 1024]
 }
 
 // 1,024 zeros for cells or places.
-fn no_cells() -> [u16; 1024]
+pub fn no_cells() -> [u16; 1024]
     ensures { λ r. ⌜ r ≡ arrayOf 0 [] ⌝ }
 {
     [0; 1024]

@@ -1,0 +1,3 @@
+pub mod EmbedLaws
+pub mod ByPlace
+pub mod ArrowLaws
