@@ -2,6 +2,7 @@
 
 use crate::generate::boards::{any_board, Decided};
 use crate::generate::long::long_reasons;
+use crate::generate::met::met_again;
 use crate::original::{Original, Panicked};
 use crate::progress::{facts, Outcome, Progress};
 use crate::random::Random;
@@ -17,8 +18,8 @@ pub fn run(seed: u64, count: usize) -> Outcome {
     let mut progress = Progress::new("finds", count);
     let mut tally = Tally::default();
     let mut most = 0;
-    let long = long_reasons().into_iter();
-    let boards = long.chain(std::iter::repeat_with(|| any_board(&mut random)));
+    let fixed = long_reasons().into_iter().chain(met_again());
+    let boards = fixed.chain(std::iter::repeat_with(|| any_board(&mut random)));
     for (done, board) in boards.take(count).enumerate() {
         progress.at(done);
         let reason = compare(&board)?;

@@ -1,10 +1,10 @@
 //! Boards of 32 by 32 with long reasons: random ones seldom have more than a few hundred literals.
 
 use super::boards::Decided;
+use super::drawn::by_cells;
 use super::patterns::Pattern;
 use super::puzzles::square;
 use crate::reading::board::Cell;
-use crate::reading::record::plain;
 
 const SIDE: usize = 32;
 
@@ -20,19 +20,8 @@ pub fn long_reasons() -> Vec<Decided> {
     ]
 }
 
-/// A board from its cells by row and column, with arrows by row and column.
 fn board(cell: impl Fn(usize, usize) -> Cell, arrows: &[&[(usize, usize)]]) -> Decided {
-    let size = square(SIDE);
-    let arrow = |cells: &&[(usize, usize)]| cells.iter().map(|&(y, x)| y * SIDE + x).collect();
-    let value = |index: usize| match cell(index / SIDE, index % SIDE) {
-        Cell::Empty => Some((index, 0)),
-        Cell::Square => Some((index, 1)),
-        Cell::Undecided => None,
-    };
-    Decided {
-        puzzle: plain(SIDE, SIDE, arrows.iter().map(arrow).collect()),
-        decisions: (0..size.cells()).filter_map(value).collect(),
-    }
+    by_cells(square(SIDE), cell, arrows)
 }
 
 /// Reason 2, with an arrow cell at each end of a line of squares.

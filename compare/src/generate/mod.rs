@@ -1,10 +1,12 @@
-//! Random input, deterministic by seed.
+//! Input: random, deterministic by seed, and drawn by hand.
 
 pub mod boards;
 pub mod calls;
+mod drawn;
 pub mod hosts;
 mod layout;
 pub mod long;
+pub mod met;
 pub mod mutations;
 pub mod patterns;
 pub mod puzzles;

@@ -4,6 +4,7 @@ use super::List;
 use crate::commands::finds::compare;
 use crate::generate::boards::{board_of_size, Decided};
 use crate::generate::long::long_reasons;
+use crate::generate::met::met_again;
 use crate::generate::puzzles::{any_size, square};
 use crate::generate::small::finished_leaves;
 use crate::quota::boards_of_each_kind;
@@ -45,7 +46,8 @@ pub fn finds(seed: u64) -> Result<List, String> {
         let next = || board_with_cells(&mut random, &cells);
         boards.extend(boards_of_each_kind(wanted, next)?);
     }
-    for board in finished_leaves(&mut random, FINISHED) {
+    let leaves = finished_leaves(&mut random, FINISHED);
+    for board in leaves.into_iter().chain(met_again()) {
         let reason = compare(&board)?;
         boards.push((board, reason));
     }

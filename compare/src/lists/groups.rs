@@ -4,6 +4,7 @@ use super::numbers::{kind_and_owner, names};
 use super::List;
 use crate::commands::groups::compare_with_original;
 use crate::generate::boards::{any_board, decided, Decided};
+use crate::generate::met::met_again;
 use crate::generate::patterns::{INSIDE_AND_OUTSIDE, PATTERNS};
 use crate::generate::puzzles::{puzzle, puzzle_of_size, square, Arrows};
 use crate::random::Random;
@@ -46,6 +47,7 @@ pub fn groups(seed: u64) -> Result<List, String> {
             boards.push(board);
         }
     }
+    boards.extend(met_again());
     list.numbers(&[1, 1]);
     for board in &boards {
         compare_with_original(board)?;
