@@ -1,4 +1,5 @@
-/* The proved Evolmino constraint, for C and C++. `rt staticlib host` writes the library, target/staticlib/libhost.a. */
+/* The proved Evolmino constraint, for C and C++. `rt staticlib host` writes the library, target/staticlib/libhost.a. The calls are for edition 1
+ * of the rules (README, The puzzle). */
 #ifndef EVOLMINO_H
 #define EVOLMINO_H
 

@@ -9,7 +9,7 @@ use crate::reading::board::{Board, Cell};
 use crate::reading::host::{host_call, literal};
 use crate::reading::reasons::{find, most_literals};
 use crate::reading::record::decode;
-use crate::reading::{Literal, Refusal};
+use crate::reading::{Edition, Literal, Refusal};
 
 #[derive(Clone, Debug, PartialEq, Eq)]
 pub enum Answer {
@@ -37,8 +37,8 @@ pub fn by_reading(board: &mut Board, call: Call) -> Answer {
     }
 }
 
-/// None where the original has no such answer: it takes no value above 1 and no buffer.
-/// Its panics are refusals 7 and 9 of decide and 10 of undo.
+/// None where the original has no such answer: it takes no value above 1 and no buffer, and finds in
+/// edition 1 only. Its panics are refusals 7 and 9 of decide and 10 of undo.
 pub fn by_original(board: &Board, original: &mut Original, call: Call) -> Option<Answer> {
     let size = board.puzzle().size;
     let or_refused = |result: Result<(), Panicked>, refusal: Refusal| {
@@ -56,6 +56,7 @@ pub fn by_original(board: &Board, original: &mut Original, call: Call) -> Option
         }
         Call::Undo => Some(or_refused(original.undo(), Refusal::NothingDecided)),
         Call::Find { buffer } if buffer < most_literals(size) => None,
+        Call::Find { .. } if board.edition() != Edition::ExactlyOne => None,
         Call::Find { .. } => Some(original.find().map_or(Answer::Panicked, Answer::Found)),
         Call::Cells => Some(Answer::Cells(original.access.cells())),
     }

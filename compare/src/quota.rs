@@ -5,12 +5,15 @@ use crate::generate::boards::Decided;
 use crate::reading::reasons::Reason;
 use crate::tally::Tally;
 
+/// A board with its reason.
+pub type Known = (Decided, Option<Reason>);
+
 /// Takes boards until there are as many of none and of each reason as wanted, in the tally's
 /// order. With each goes its reason, by the reading and by the original.
 pub fn boards_of_each_kind(
     wanted: [usize; Tally::COLUMNS],
     mut next: impl FnMut() -> Decided,
-) -> Result<Vec<(Decided, Option<Reason>)>, String> {
+) -> Result<Vec<Known>, String> {
     let mut met = [0; Tally::COLUMNS];
     let mut boards = Vec::new();
     while met != wanted {

@@ -27,7 +27,8 @@ pub type Literal = (usize, bool);
 const OUTPUT_LIMIT: usize = 2 * (3 * 32 * 32 + 1);
 
 /// Why there is no answer, by its number in README. The exported calls never give [`Refusal::Board`],
-/// [`Refusal::Value`] and [`Refusal::NothingDecided`]: their board is their own, and a decision has one bit of value.
+/// [`Refusal::Value`], [`Refusal::NothingDecided`] and [`Refusal::Edition`]: their board is their own and opened in edition 1, and a
+/// decision has one bit of value.
 ///
 /// The table grows, so a `match` needs an arm for the refusals that it doesn't name.
 #[derive(Clone, Copy, Debug, PartialEq, Eq, Hash)]
@@ -63,6 +64,8 @@ pub enum Refusal {
     Turning,
     /// 15: the output is shorter than the record that is to be written.
     RecordOutputShort,
+    /// 16: an edition that is not 1 or 2.
+    Edition,
     /// Another number: the linked library has refusals that this package doesn't know.
     Unknown(u32),
 }
@@ -86,6 +89,7 @@ impl Refusal {
             13 => Refusal::SheetShort,
             14 => Refusal::Turning,
             15 => Refusal::RecordOutputShort,
+            16 => Refusal::Edition,
             _ => Refusal::Unknown(number),
         }
     }
@@ -108,6 +112,7 @@ impl Refusal {
             Refusal::SheetShort => 13,
             Refusal::Turning => 14,
             Refusal::RecordOutputShort => 15,
+            Refusal::Edition => 16,
             Refusal::Unknown(number) => number,
         }
     }
@@ -135,6 +140,7 @@ impl fmt::Display for Refusal {
             Refusal::RecordOutputShort => {
                 "the output is shorter than the record that is to be written"
             }
+            Refusal::Edition => "the edition is not 1 or 2",
             Refusal::Unknown(_) => "this package doesn't know why",
         };
         write!(f, "refused {}: {}", self.number(), what)

@@ -3,7 +3,7 @@
 //! [`find`] asks the proved library why a board can't be finished, [`finished`] whether it is, [`blocks`] which blocks it has, [`clauses`]
 //! gives a puzzle's clauses for other solvers, and [`turn()`] turns a record for the page; [`Record`] writes a [`Problem`] in the form that they
 //! read; and [`Constraint`] has `notify`, `undo` and `find_inconsistency` with the signatures of cspuz_core's `SimpleCustomConstraint`, so that
-//! it can stand where `EvolminoConstraint` stood.
+//! it can stand where `EvolminoConstraint` stood. All of them are for edition 1 of the rules (README, The puzzle).
 //!
 //! What is proved are the library's exported calls. This package around them, which writes records, keeps decisions and reads the
 //! answer, is plain Rust: `compare constraint` holds it beside the original.

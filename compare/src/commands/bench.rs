@@ -1,7 +1,7 @@
 //! `compare bench`: the original and, where it is linked, the host call, on the same boards; then
 //! their parts.
 
-use super::parts::{self, Known};
+use super::parts;
 use super::sheets;
 use super::turnings;
 use crate::generate::boards::{usual_board, Decided};
@@ -10,7 +10,7 @@ use crate::host::{HostCall, HOST_CALL, MISSING};
 use crate::original::{problem, Access, Problem};
 use crate::processor::{processor_time, Whose};
 use crate::progress::Outcome;
-use crate::quota::boards_of_each_kind;
+use crate::quota::{boards_of_each_kind, Known};
 use crate::random::Random;
 use crate::reading::host::literal_bytes;
 use crate::reading::reasons::most_literals;

@@ -7,6 +7,7 @@ use crate::original::Original;
 use crate::progress::{facts, repeatedly, Outcome};
 use crate::reading::board::Board;
 use crate::reading::record::Puzzle;
+use crate::reading::Edition;
 use crate::shrink::shrunk;
 
 #[derive(Default)]
@@ -53,7 +54,7 @@ fn compare(goal: &Decided, calls: &[Call], counts: &mut Counts) -> Outcome {
 
 /// The first two answers that differ.
 fn difference(puzzle: &Puzzle, calls: &[Call], counts: &mut Counts) -> Option<(Answer, Answer)> {
-    let mut board = Board::fresh(puzzle.clone());
+    let mut board = Board::fresh(puzzle.clone(), Edition::ExactlyOne);
     let mut original = Original::open(puzzle).expect("no arrow cell is used twice");
     for &call in calls {
         let reading = by_reading(&mut board, call);

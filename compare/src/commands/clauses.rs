@@ -14,7 +14,7 @@ use crate::reading::clauses::{clauses, opened_sheet, satisfied, sheet, write_she
 use crate::reading::finished::finished;
 use crate::reading::groups::block_rules_hold;
 use crate::reading::record::{encode, Code, Puzzle};
-use crate::reading::Refusal;
+use crate::reading::{Edition, Refusal};
 
 /// Sheets up to this length are asked for with outputs of every length.
 const SMALL: usize = 60;
@@ -88,7 +88,7 @@ pub fn run(seed: u64, count: usize) -> Outcome {
     );
     println!("clauses: {}", counts.calls.line());
     println!(
-        "clauses: {small} of them small, with {} full boards; with an arrow {} finished",
+        "clauses: {small} of them small, with {} full boards in both editions; with an arrow {} finished",
         counts.boards, counts.finished
     );
     Ok(())
@@ -231,20 +231,29 @@ fn check(
     ))
 }
 
-/// A full board satisfies every clause and the block rules exactly when it is finished.
+/// In both editions a full board satisfies every clause and the block rules exactly when it is
+/// finished.
 fn every_full_board(puzzle: &Puzzle, counts: &mut Counts) -> Outcome {
+    for edition in Edition::BOTH {
+        every_full_board_in(edition, puzzle, counts)?;
+    }
+    Ok(())
+}
+
+fn every_full_board_in(edition: Edition, puzzle: &Puzzle, counts: &mut Counts) -> Outcome {
     let clauses = clauses(puzzle);
     let size = puzzle.size.cells();
     for number in 0..1 << size {
         let full = decisions(number, size, 2);
-        let board = Board::after(puzzle, &full);
+        let board = Board::after(puzzle, edition, &full);
         let cells = board.cells();
         let every = clauses.iter().all(|clause| satisfied(clause, &cells));
-        let rules = block_rules_hold(puzzle, &cells);
+        let rules = block_rules_hold(puzzle, edition, &cells);
         if (every && rules) != finished(&board) {
             return Err(format!(
-                "{}\nevery clause: {every}, the block rules: {rules}, finished: {}",
+                "{}, edition {}\nevery clause: {every}, the block rules: {rules}, finished: {}",
                 facts(puzzle, &full),
+                edition.number(),
                 finished(&board)
             ));
         }

@@ -9,7 +9,7 @@ use crate::random::Random;
 use crate::reading::board::Board;
 use crate::reading::reasons::{find, most_literals, Reason};
 use crate::reading::record::Puzzle;
-use crate::reading::Literal;
+use crate::reading::{Edition, Literal};
 use crate::shrink::shrunk;
 use crate::tally::Tally;
 
@@ -69,7 +69,7 @@ fn smallest(board: &Decided) -> Decided {
 
 /// From the board after the calls.
 fn by_reading(puzzle: &Puzzle, decisions: &[Literal]) -> Option<Reason> {
-    let mut board = Board::after(puzzle, decisions);
+    let mut board = Board::after(puzzle, Edition::ExactlyOne, decisions);
     find(&mut board, most_literals(puzzle.size)).expect("the buffer is long enough")
 }
 

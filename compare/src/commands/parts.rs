@@ -10,15 +10,12 @@ use crate::lists::{finds, groups};
 use crate::original::{Access, Original};
 use crate::processor::{processor_time, Whose};
 use crate::progress::Outcome;
-use crate::reading::reasons::Reason;
+use crate::quota::Known;
 use std::fs::{self, File};
 use std::hint::black_box;
 use std::path::{Path, PathBuf};
 use std::process::{self, Command};
 use std::time::Duration;
-
-/// A board with its reason.
-pub type Known = (Decided, Option<Reason>);
 
 /// Of so many tries the shortest counts.
 const TRIES: usize = 3;

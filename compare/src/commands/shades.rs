@@ -15,7 +15,7 @@ use crate::reading::groups::blocks;
 use crate::reading::host::literal_bytes;
 use crate::reading::record::encode;
 use crate::reading::shades::{opened_and_shaded, shade_bytes, shades};
-use crate::reading::Refusal;
+use crate::reading::{Edition, Refusal};
 
 /// So many lengths of an output below the shortest that is long enough, and so many from it on.
 const LENGTHS: usize = 6;
@@ -54,7 +54,7 @@ fn compare(
     counts: &mut Counts,
 ) -> Result<usize, String> {
     let Decided { puzzle, decisions } = board;
-    let cells = Board::after(puzzle, decisions).cells();
+    let cells = Board::after(puzzle, Edition::ExactlyOne, decisions).cells();
     let expected = shade_bytes(&shades(puzzle.size, &cells));
     let groups = blocks(puzzle.size, &cells);
     let lists: Vec<Vec<usize>> = groups

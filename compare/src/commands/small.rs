@@ -1,5 +1,5 @@
-//! `compare small`: on small grids each reason against every full board, and full boards against
-//! the block rules.
+//! `compare small`: on small grids, in both editions, each reason against every full board, and full
+//! boards against the block rules.
 
 use super::finds::compare;
 use crate::generate::boards::{board_of_puzzle, Decided};
@@ -12,7 +12,7 @@ use crate::reading::finished::finished;
 use crate::reading::groups::{block_rules_hold, blocks};
 use crate::reading::reasons::{find_reason, Reason};
 use crate::reading::record::{Code, Puzzle};
-use crate::reading::Literal;
+use crate::reading::{Edition, Literal};
 use crate::tally::Tally;
 use std::collections::HashSet;
 
@@ -21,27 +21,58 @@ const ALL_BOARDS: usize = 8;
 const RANDOM_BOARDS: usize = 500;
 
 pub fn run(seed: u64, count: usize) -> Outcome {
-    let mut partly = Tally::default();
-    let mut full = Tally::default();
-    let mut solved = 0;
+    let mut met = Edition::BOTH.map(|edition| (edition, Met::default()));
     repeatedly("small", seed, count, |random| {
         let puzzle = small_puzzle(random);
-        let rules = every_full_board(&puzzle, &mut full)?;
-        solved += rules.iter().filter(|&&hold| hold).count();
-        for board in boards(random, puzzle) {
-            let reason = find(&board)?;
-            if let Some(reason) = &reason {
-                sound(&board, reason, &rules)?;
-            }
-            partly.add(board.puzzle.size, reason.as_ref());
+        let boards = boards(random, puzzle.clone());
+        for (edition, met) in &mut met {
+            met.every_board(&puzzle, *edition, &boards)?;
         }
         Ok(())
     })?;
-    println!("small: {count} puzzles; reasons tried against every full board:");
-    partly.print();
-    println!("every full board of these puzzles ({solved} meet the block rules):");
-    full.print();
+    for (
+        edition,
+        Met {
+            partly,
+            full,
+            solved,
+        },
+    ) in &met
+    {
+        println!(
+            "small: {count} puzzles in edition {}; reasons tried against every full board:",
+            edition.number()
+        );
+        partly.print();
+        println!("every full board of these puzzles ({solved} meet the block rules):");
+        full.print();
+    }
     Ok(())
+}
+
+/// The boards met in an edition.
+#[derive(Default)]
+struct Met {
+    partly: Tally,
+    full: Tally,
+    /// How many full boards meet the block rules.
+    solved: usize,
+}
+
+impl Met {
+    /// Every full board of a puzzle, and the reasons on these boards against all of them.
+    fn every_board(&mut self, puzzle: &Puzzle, edition: Edition, boards: &[Decided]) -> Outcome {
+        let rules = every_full_board(puzzle, edition, &mut self.full)?;
+        self.solved += rules.iter().filter(|&&hold| hold).count();
+        for board in boards {
+            let reason = find(board, edition)?;
+            if let Some(reason) = &reason {
+                sound(board, edition, reason, &rules)?;
+            }
+            self.partly.add(puzzle.size, reason.as_ref());
+        }
+        Ok(())
+    }
 }
 
 /// All boards of a puzzle where there are few, else some.
@@ -58,19 +89,23 @@ fn boards(random: &mut Random, puzzle: Puzzle) -> Vec<Decided> {
     (0..RANDOM_BOARDS).map(board).collect()
 }
 
-/// The reading's reason; where the original is at hand it has the same.
-fn find(board: &Decided) -> Result<Option<Reason>, String> {
-    if AT_HAND {
+/// The reading's reason; in edition 1, and where the original is at hand, it has the same.
+fn find(board: &Decided, edition: Edition) -> Result<Option<Reason>, String> {
+    if AT_HAND && edition == Edition::ExactlyOne {
         return compare(board);
     }
-    let cells = Board::after(&board.puzzle, &board.decisions).cells();
-    Ok(find_reason(&board.puzzle, &cells))
+    let cells = Board::after(&board.puzzle, edition, &board.decisions).cells();
+    Ok(find_reason(&board.puzzle, edition, &cells))
 }
 
 /// For each full board, by its number, whether the block rules hold. Find says none exactly then,
 /// and it is finished exactly when black and given cells are kept too, and each arrow passes two
 /// different blocks or more.
-fn every_full_board(puzzle: &Puzzle, tally: &mut Tally) -> Result<Vec<bool>, String> {
+fn every_full_board(
+    puzzle: &Puzzle,
+    edition: Edition,
+    tally: &mut Tally,
+) -> Result<Vec<bool>, String> {
     let cells = puzzle.size.cells();
     let mut rules = Vec::new();
     for number in 0..1 << cells {
@@ -78,16 +113,17 @@ fn every_full_board(puzzle: &Puzzle, tally: &mut Tally) -> Result<Vec<bool>, Str
             puzzle: puzzle.clone(),
             decisions: decisions(number, cells, 2),
         };
-        let after = Board::after(puzzle, &board.decisions);
-        let hold = block_rules_hold(puzzle, &after.cells());
-        let reason = find(&board)?;
+        let after = Board::after(puzzle, edition, &board.decisions);
+        let hold = block_rules_hold(puzzle, edition, &after.cells());
+        let reason = find(&board, edition)?;
         tally.add(puzzle.size, reason.as_ref());
         let cells = after.cells();
         let solved = hold && kept(puzzle, &cells) && passes_two_blocks(puzzle, &cells);
         if hold != reason.is_none() || finished(&after) != solved {
             return Err(format!(
-                "{}\nthe block rules: {hold}, finished: {}, find: {reason:?}",
+                "{}, edition {}\nthe block rules: {hold}, finished: {}, find: {reason:?}",
                 facts(puzzle, &board.decisions),
+                edition.number(),
                 finished(&after),
             ));
         }
@@ -114,7 +150,7 @@ fn passes_two_blocks(puzzle: &Puzzle, cells: &[Cell]) -> bool {
 }
 
 /// Every literal stands, and no full board that agrees with all of them meets the block rules.
-fn sound(board: &Decided, reason: &Reason, rules: &[bool]) -> Outcome {
+fn sound(board: &Decided, edition: Edition, reason: &Reason, rules: &[bool]) -> Outcome {
     let stands = |literal: &Literal| board.decisions.contains(literal);
     let agrees = |number: usize| {
         let value = |index: usize| (number >> index & 1) as u8;
@@ -125,8 +161,9 @@ fn sound(board: &Decided, reason: &Reason, rules: &[bool]) -> Outcome {
         return Ok(());
     }
     Err(format!(
-        "{}\n{reason:?} is refuted by the full board {:?}",
+        "{}, edition {}\n{reason:?} is refuted by the full board {:?}",
         facts(&board.puzzle, &board.decisions),
+        edition.number(),
         counterexample.map(|number| decisions(number, board.puzzle.size.cells(), 2)),
     ))
 }

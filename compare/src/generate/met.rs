@@ -68,6 +68,7 @@ mod tests {
     use crate::reading::board::{Board, Cell};
     use crate::reading::kinds::{Kind, Kinds};
     use crate::reading::reasons::{find_reason, Reason, Which};
+    use crate::reading::Edition;
 
     #[test]
     fn met() {
@@ -88,7 +89,8 @@ mod tests {
     /// The reason, which ends with the fence of the block with this first cell. That fence meets each other arrow block as
     /// often as is said, once for each side of an undecided cell that touches the reach, and has its cells once.
     fn met_in(board: &Decided, block: usize, others: &[(usize, usize)]) -> Reason {
-        let cells = Board::after(&board.puzzle, &board.decisions).cells();
+        let edition = Edition::ExactlyOne;
+        let cells = Board::after(&board.puzzle, edition, &board.decisions).cells();
         let kinds = Kinds::of(&board.puzzle, &cells);
         let size = board.puzzle.size;
         let reach = kinds.reach(block);
@@ -104,7 +106,7 @@ mod tests {
                 assert_eq!(fence.iter().filter(|&&it| it == (cell, 1)).count(), 1);
             }
         }
-        let reason = find_reason(&board.puzzle, &cells).expect("a reason applies");
+        let reason = find_reason(&board.puzzle, edition, &cells).expect("a reason applies");
         assert!(reason.literals.ends_with(&fence));
         reason
     }

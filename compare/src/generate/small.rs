@@ -6,7 +6,7 @@ use crate::random::Random;
 use crate::reading::board::Board;
 use crate::reading::finished::finished;
 use crate::reading::record::Puzzle;
-use crate::reading::Literal;
+use crate::reading::{Edition, Literal};
 
 const MOST_CELLS: usize = 12;
 
@@ -29,10 +29,30 @@ pub fn decisions(number: usize, cells: usize, base: usize) -> Vec<Literal> {
         .collect()
 }
 
-/// So many finished leaves, each of a small puzzle with an arrow: random boards seldom are finished.
-pub fn finished_leaves(random: &mut Random, wanted: usize) -> Vec<Decided> {
+/// So many leaves that are finished in edition 1: random boards seldom are.
+pub fn finished_leaves(random: &mut Random, count: usize) -> Vec<Decided> {
+    full_leaves(random, count, |leaf| is_finished(leaf, Edition::ExactlyOne))
+}
+
+/// So many leaves that are finished in edition 2 alone: some block has grown by two or more.
+pub fn freely_grown_leaves(random: &mut Random, count: usize) -> Vec<Decided> {
+    full_leaves(random, count, |leaf| {
+        is_finished(leaf, Edition::OneOrMore) && !is_finished(leaf, Edition::ExactlyOne)
+    })
+}
+
+pub fn is_finished(leaf: &Decided, edition: Edition) -> bool {
+    finished(&Board::after(&leaf.puzzle, edition, &leaf.decisions))
+}
+
+/// So many wanted full boards, each of a small puzzle with an arrow.
+fn full_leaves(
+    random: &mut Random,
+    count: usize,
+    wanted: impl Fn(&Decided) -> bool,
+) -> Vec<Decided> {
     let mut leaves = Vec::new();
-    while leaves.len() < wanted {
+    while leaves.len() < count {
         let puzzle = small_puzzle(random);
         if puzzle.arrows.is_empty() {
             continue;
@@ -42,8 +62,7 @@ pub fn finished_leaves(random: &mut Random, wanted: usize) -> Vec<Decided> {
             puzzle: puzzle.clone(),
             decisions: decisions(number, cells, 2),
         };
-        let is_finished = |leaf: &Decided| finished(&Board::after(&puzzle, &leaf.decisions));
-        if let Some(mut leaf) = (0..1 << cells).map(board).find(is_finished) {
+        if let Some(mut leaf) = (0..1 << cells).map(board).find(&wanted) {
             random.shuffle(&mut leaf.decisions);
             leaves.push(leaf);
         }

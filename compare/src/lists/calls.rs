@@ -1,7 +1,7 @@
 //! `calls.list`: lists of calls on one board.
 
 use super::numbers::cell_number;
-use super::strip::strip;
+use super::strip::{records, strip};
 use super::List;
 use crate::answers::{by_original, by_reading, Answer};
 use crate::generate::boards::{any_board, board_of_size, full_board, Decided};
@@ -13,12 +13,13 @@ use crate::random::Random;
 use crate::reading::board::Board;
 use crate::reading::grid::Size;
 use crate::reading::reasons::most_literals;
-use crate::reading::record::encode;
-use crate::reading::Literal;
+use crate::reading::record::{encode, plain};
+use crate::reading::{Edition, Literal};
 
-const FORMAT: [&str; 9] = [
-    "Entries to the end of the file: u16 record length, the record, u16 count of hints, u16 number",
-    "of calls, the calls; after each call u16, the expected count of hints on the board.",
+const FORMAT: [&str; 10] = [
+    "Entries to the end of the file: u16 record length, the record, u8 edition, u8 expected refusal",
+    "of open or 0, and where it is 0 u16 count of hints, u16 number of calls, the calls; after each",
+    "call u16, the expected count of hints on the board.",
     "A call is u8 kind and:",
     "  0 decide: u16 index, u8 value, u8 expected refusal or 0",
     "  1 undo: u8 expected refusal or 0",
@@ -28,6 +29,9 @@ const FORMAT: [&str; 9] = [
     "Each entry starts on a fresh board of its record, handed in with that count of hints.",
 ];
 
+/// The calls on boards of at most so many cells stand there in edition 2 too.
+const IN_BOTH: usize = 20;
+
 /// The counts of hints that random boards are handed in with, in turn.
 const HANDED_IN: [u16; 8] = [0, 0, 0, 1, 255, 256, 65_530, 65_535];
 
@@ -35,25 +39,51 @@ pub fn call_lists(seed: u64) -> Result<List, String> {
     let what = "Lists of decide, undo and find on one board.";
     let mut list = List::of_the_original("calls.list", 400_000, seed, what);
     list.line("Its panics are refusals 9 and 10, and 7; it has no counterpart to 8 and 11,");
-    list.line("and none to the count of hints, which is the reading's.");
+    list.line(
+        "and none to the count of hints, to open and to find in edition 2: there the answers are",
+    );
+    list.line("the literal reading's.");
     list.lines(&FORMAT);
     let fresh = Decided {
         puzzle: strip(),
         decisions: Vec::new(),
     };
-    add_entry(&mut list, &fresh, 0, &leaf_calls())?;
+    let [one, two] = Edition::BOTH;
+    add_entry(&mut list, &fresh, one, 0, &leaf_calls())?;
     for hints in [0, 65_533, 65_534, 65_535] {
-        add_entry(&mut list, &fresh, hints, &hint_calls())?;
+        add_entry(&mut list, &fresh, one, hints, &hint_calls())?;
+    }
+    for edition in Edition::BOTH {
+        let goal = too_large_later();
+        add_entry(&mut list, &goal, edition, 0, &there_and_back(&goal))?;
+    }
+    for record in records() {
+        for edition in [0, 1, 2, 3, 255] {
+            add_refused(&mut list, &record, edition);
+        }
     }
     let mut random = Random::new(seed);
     for (goal, hints) in goals(&mut random).iter().zip(HANDED_IN.iter().cycle()) {
         let wanted = length(&mut random, goal);
         let calls = calls(&mut random, goal, wanted);
-        add_entry(&mut list, goal, *hints, &calls)?;
+        add_entry(&mut list, goal, one, *hints, &calls)?;
+        if goal.puzzle.size.cells() <= IN_BOTH {
+            add_entry(&mut list, goal, two, *hints, &calls)?;
+        }
     }
     let largest = full_board(&mut random, square(32));
-    add_entry(&mut list, &largest, 0, &there_and_back(&largest))?;
+    for edition in Edition::BOTH {
+        add_entry(&mut list, &largest, edition, 0, &there_and_back(&largest))?;
+    }
     Ok(list)
+}
+
+/// Document 01's leaf of 4 (b), a reason in edition 1 only.
+fn too_large_later() -> Decided {
+    Decided {
+        puzzle: plain(2, 5, vec![(0..5).collect()]),
+        decisions: vec![(0, 1), (4, 1), (8, 1), (9, 1), (1, 0), (5, 0), (2, 0)],
+    }
 }
 
 /// The document's leaves on S: refusals 7 to 11, and its reasons.
@@ -121,11 +151,29 @@ fn length(random: &mut Random, goal: &Decided) -> usize {
     }
 }
 
-fn add_entry(list: &mut List, goal: &Decided, hints: u16, calls: &[Call]) -> Result<(), String> {
-    let mut board = Board::with_hints(goal.puzzle.clone(), hints);
+/// A record that isn't opened in this edition; nothing where it is.
+fn add_refused(list: &mut List, record: &[u8], edition: u8) {
+    if let Err(refusal) = Board::open(record, edition) {
+        list.entries += 1;
+        list.long_bytes(record);
+        list.u8(edition);
+        list.u8(refusal.number());
+    }
+}
+
+fn add_entry(
+    list: &mut List,
+    goal: &Decided,
+    edition: Edition,
+    hints: u16,
+    calls: &[Call],
+) -> Result<(), String> {
+    let mut board = Board::with_hints(goal.puzzle.clone(), edition, hints);
     let mut original = Original::open(&goal.puzzle).expect("no arrow cell is used twice");
     list.entries += 1;
     list.long_bytes(&encode(&goal.puzzle));
+    list.u8(edition.number());
+    list.u8(0);
     list.u16(hints.into());
     list.u16(calls.len());
     for &call in calls {

@@ -12,6 +12,7 @@ use crate::reading::board::{Board, Cell};
 use crate::reading::grid::Size;
 use crate::reading::groups::{blocks, potential_groups};
 use crate::reading::kinds::Kinds;
+use crate::reading::Edition;
 
 const FORMAT: [&str; 18] = [
     "Kinds, reach and fence are compared with the original where no block has two arrow cells: it",
@@ -98,7 +99,7 @@ fn large_patterns(random: &mut Random) -> Vec<Decided> {
 fn add_entry(list: &mut List, decided: &Decided) {
     list.board(decided);
     let size = decided.puzzle.size;
-    let cells = Board::after(&decided.puzzle, &decided.decisions).cells();
+    let cells = Board::after(&decided.puzzle, Edition::ExactlyOne, &decided.decisions).cells();
     let kinds = Kinds::of(&decided.puzzle, &cells);
     let kinds_and_owners = kinds.kind_of.iter().map(|&kind| kind_and_owner(kind));
     let (numbers, owners): (Vec<u8>, Vec<usize>) = kinds_and_owners.unzip();

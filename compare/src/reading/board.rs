@@ -1,8 +1,8 @@
 //! "Board": the plain machine of document 01, a puzzle with its list of standing decisions; and
-//! beside it the count of hints of document 02, §2.
+//! beside it the count of hints of document 02, §2, and the edition of §7.
 
 use super::record::{decode, Puzzle};
-use super::{Literal, Refusal};
+use super::{Edition, Literal, Refusal};
 
 #[derive(Clone, Copy, Debug, PartialEq, Eq)]
 pub enum Cell {
@@ -14,33 +14,36 @@ pub enum Cell {
 #[derive(Clone, Debug)]
 pub struct Board {
     puzzle: Puzzle,
+    edition: Edition,
     standing: Vec<Literal>,
     /// The accepted find calls since open.
     hints: u16,
 }
 
 impl Board {
-    /// A fresh board: all undecided.
-    pub fn open(record: &[u8]) -> Result<Board, Refusal> {
-        Ok(Board::fresh(decode(record)?))
+    /// A fresh board: all undecided. The record's refusals come before that of the edition.
+    pub fn open(record: &[u8], edition: u8) -> Result<Board, Refusal> {
+        let puzzle = decode(record)?;
+        Ok(Board::fresh(puzzle, Edition::numbered(edition)?))
     }
 
-    pub fn fresh(puzzle: Puzzle) -> Board {
-        Board::with_hints(puzzle, 0)
+    pub fn fresh(puzzle: Puzzle, edition: Edition) -> Board {
+        Board::with_hints(puzzle, edition, 0)
     }
 
     /// A board with nothing decided that was handed in with a count of hints.
-    pub fn with_hints(puzzle: Puzzle, hints: u16) -> Board {
+    pub fn with_hints(puzzle: Puzzle, edition: Edition, hints: u16) -> Board {
         Board {
             puzzle,
+            edition,
             standing: Vec::new(),
             hints,
         }
     }
 
     /// A fresh board after decisions that aren't refused.
-    pub fn after(puzzle: &Puzzle, decisions: &[Literal]) -> Board {
-        let mut board = Board::fresh(puzzle.clone());
+    pub fn after(puzzle: &Puzzle, edition: Edition, decisions: &[Literal]) -> Board {
+        let mut board = Board::fresh(puzzle.clone(), edition);
         for &(index, value) in decisions {
             board
                 .decide(index, value)
@@ -51,6 +54,10 @@ impl Board {
 
     pub fn puzzle(&self) -> &Puzzle {
         &self.puzzle
+    }
+
+    pub fn edition(&self) -> Edition {
+        self.edition
     }
 
     pub fn decide(&mut self, index: usize, value: u8) -> Result<(), Refusal> {

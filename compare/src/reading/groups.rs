@@ -3,6 +3,7 @@
 use super::board::Cell;
 use super::grid::Size;
 use super::record::Puzzle;
+use super::Edition;
 
 /// Largest side-connected sets of the cells that pass a test, each named by its first cell.
 #[derive(Clone, Debug)]
@@ -109,8 +110,8 @@ pub fn some_shift_lies_in(size: Size, cells: &[usize], set: impl Fn(usize) -> bo
     })
 }
 
-/// The block rules, for a fully decided board.
-pub fn block_rules_hold(puzzle: &Puzzle, cells: &[Cell]) -> bool {
+/// The block rules of an edition, for a fully decided board.
+pub fn block_rules_hold(puzzle: &Puzzle, edition: Edition, cells: &[Cell]) -> bool {
     let size = puzzle.size;
     let blocks = blocks(size, cells);
     let on_arrow = puzzle.arrow_cells();
@@ -123,9 +124,12 @@ pub fn block_rules_hold(puzzle: &Puzzle, cells: &[Cell]) -> bool {
         let later = blocks.name_of[pair.cur_cell()];
         let earlier = blocks.cells(earlier);
         let later_size = blocks.name_of.iter().filter(|&&name| name == later).count();
-        // a shifted copy inside the later block that leaves exactly one square over
-        later_size == earlier.len() + 1
-            && some_shift_lies_in(size, &earlier, |cell| blocks.name_of[cell] == later)
+        // a shifted copy inside the later block that leaves so many squares over
+        let enough = match edition {
+            Edition::ExactlyOne => later_size == earlier.len() + 1,
+            Edition::OneOrMore => later_size > earlier.len(),
+        };
+        enough && some_shift_lies_in(size, &earlier, |cell| blocks.name_of[cell] == later)
     };
     blocks.names.iter().all(one_arrow_cell) && pairs(puzzle, cells).iter().all(grown)
 }

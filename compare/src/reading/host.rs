@@ -1,4 +1,5 @@
-//! The exported calls: a record, decisions and, for find, an output as bytes, a number back.
+//! The exported calls: a record, decisions and, for find, an output as bytes, a number back. They stay
+//! with edition 1 (document 02 §7).
 
 use super::board::Board;
 use super::finished::finished;
@@ -33,7 +34,7 @@ pub fn opened_and_found(
     decisions: &[u8],
     output_length: usize,
 ) -> Result<Option<Reason>, Refusal> {
-    let mut board = Board::open(record)?;
+    let mut board = Board::open(record, 1)?;
     if output_length < 2 * most_literals(board.puzzle().size) {
         return Err(Refusal::OutputShort);
     }
@@ -52,7 +53,7 @@ pub fn finished_call(record: &[u8], decisions: &[u8]) -> i32 {
 /// Opens, decides in order and tells whether the leaf is finished.
 /// Refusals: 1 to 5, then per decision 12, 7, 9, the odd byte last.
 pub fn opened_and_judged(record: &[u8], decisions: &[u8]) -> Result<bool, Refusal> {
-    let mut board = Board::open(record)?;
+    let mut board = Board::open(record, 1)?;
     decide_all(&mut board, decisions)?;
     Ok(finished(&board))
 }

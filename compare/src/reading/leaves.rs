@@ -4,22 +4,35 @@
 use super::board::{Board, Cell};
 use super::finished::finished;
 use super::groups::{block_rules_hold, blocks, potential_groups, Groups};
-use super::host::{finished_call, host_call};
+use super::host::{finished_call, host_call, literal_bytes};
 use super::program::reason;
 use super::reasons::{find, find_reason};
 use super::record::{decode, encode, plain, Code};
-use super::{Literal, Refusal};
+use super::{Edition, Literal, Refusal};
 
 const S: [u8; 7] = [0x00, 0x80, 0x08, 0x00, 0x00, 0x05, 0xE0];
 const T: [u8; 4] = [0x00, 0x40, 0x00, 0x00];
 
+fn board_in(edition: Edition, record: &[u8], decisions: &[Literal]) -> Board {
+    Board::after(&decode(record).unwrap(), edition, decisions)
+}
+
 fn board(record: &[u8], decisions: &[Literal]) -> Board {
-    Board::after(&decode(record).unwrap(), decisions)
+    board_in(Edition::ExactlyOne, record, decisions)
+}
+
+fn found_in(edition: Edition, record: &[u8], decisions: &[Literal]) -> Option<Vec<Literal>> {
+    let reason = find(&mut board_in(edition, record, decisions), 100).unwrap();
+    reason.map(|reason| reason.literals)
 }
 
 fn found(record: &[u8], decisions: &[Literal]) -> Option<Vec<Literal>> {
-    let reason = find(&mut board(record, decisions), 100).unwrap();
-    reason.map(|reason| reason.literals)
+    found_in(Edition::ExactlyOne, record, decisions)
+}
+
+/// The block rules of the board's edition, on a full board.
+fn rules_hold(full: &Board) -> bool {
+    block_rules_hold(full.puzzle(), full.edition(), &full.cells())
 }
 
 #[test]
@@ -87,7 +100,7 @@ fn hints() {
     assert_eq!([9, 10, 0, 10].map(&mut count_after), [0, 1, 1, 2]);
     assert_eq!(leaf.undo(), Ok(()));
     assert_eq!(leaf.hints(), 2);
-    let mut long_used = Board::with_hints(decode(&S).unwrap(), 65_534);
+    let mut long_used = Board::with_hints(decode(&S).unwrap(), Edition::ExactlyOne, 65_534);
     for _ in 0..3 {
         assert_eq!(find(&mut long_used, 10), Ok(None));
         assert_eq!(long_used.hints(), 65_535);
@@ -141,12 +154,15 @@ fn finished_boards() {
     let decisions = filling(&[1, 0, 1, 0, 0, 1]);
     let solved = board(&encode(&puzzle), &decisions);
     assert!(finished(&solved));
-    assert_eq!(find_reason(&puzzle, &solved.cells()), None);
+    assert_eq!(
+        find_reason(&puzzle, Edition::ExactlyOne, &solved.cells()),
+        None
+    );
     assert!(!finished(&board(&encode(&puzzle), &decisions[..5])));
     puzzle.codes[0] = Code::Black;
     let black_square = board(&encode(&puzzle), &decisions);
     assert!(!finished(&black_square));
-    assert!(block_rules_hold(&puzzle, &black_square.cells()));
+    assert!(rules_hold(&black_square));
 }
 
 /// Document 02 §1.
@@ -155,7 +171,7 @@ fn one_lonely_block() {
     for values in [[0, 0, 0], [1, 0, 0]] {
         let lonely = board(&S, &filling(&values));
         assert!(!finished(&lonely));
-        assert!(block_rules_hold(lonely.puzzle(), &lonely.cells()));
+        assert!(rules_hold(&lonely));
     }
     assert!(finished(&board(&T, &filling(&[0, 0]))));
     assert!(!finished(&board(&T, &filling(&[0, 1]))));
@@ -177,6 +193,113 @@ fn one_lonely_block() {
     given.codes[1] = Code::Given;
     assert!(!finished(&board(&encode(&given), &filling(&[0, 0]))));
     assert!(!finished(&board(&encode(&given), &filling(&[0, 1]))));
+}
+
+/// Document 02 §7: what edition 1 and edition 2 find, in this order. A full board has no reason
+/// exactly when its edition's rules hold; with two squares on its arrow it is finished then.
+fn found_in_both(record: &[u8], decisions: &[Literal]) -> [Option<Vec<Literal>>; 2] {
+    Edition::BOTH.map(|edition| {
+        let found = found_in(edition, record, decisions);
+        let leaf = board_in(edition, record, decisions);
+        if !leaf.cells().contains(&Cell::Undecided) {
+            assert_eq!(rules_hold(&leaf), found.is_none());
+            assert_eq!(finished(&leaf), found.is_none());
+        }
+        found
+    })
+}
+
+#[test]
+fn grown_by_two() {
+    let row = encode(&plain(1, 6, vec![vec![0, 1, 2, 3]]));
+    let too_large = vec![(3, 1), (4, 1), (5, 1), (0, 1), (1, 0)];
+    assert_eq!(
+        found_in_both(&row, &filling(&[1, 0, 0, 1, 1, 1])),
+        [Some(too_large), None]
+    );
+    // By one, which both editions take.
+    let by_one = filling(&[1, 0, 0, 1, 1, 0]);
+    assert_eq!(found_in_both(&row, &by_one), [None, None]);
+}
+
+/// 3 × 6, blocks of 1 and 3 and a third one: the first pair meets 4 (b) in edition 1 alone.
+#[test]
+fn three_blocks() {
+    let record = encode(&plain(3, 6, vec![(0..5).collect()]));
+    let first_pair = vec![(2, 1), (8, 1), (14, 1), (0, 1), (1, 0), (6, 0)];
+    let mut values = [1, 0, 1, 0, 1, 0, 0, 0, 1, 0, 1, 0, 0, 0, 1, 0, 1, 1];
+    assert_eq!(
+        found_in_both(&record, &filling(&values)),
+        [Some(first_pair.clone()), None]
+    );
+    // The third block has 3 squares too.
+    values[17] = 0;
+    let second_pair = [(2, 1), (8, 1), (14, 1), (4, 1)].into_iter();
+    let fence = [3, 5, 9, 11, 15, 17].map(|cell| (cell, 0));
+    assert_eq!(
+        found_in_both(&record, &filling(&values)),
+        [Some(first_pair), Some(second_pair.chain(fence).collect())]
+    );
+}
+
+#[test]
+fn no_four_b_in_edition_2() {
+    let record = encode(&plain(2, 5, vec![(0..5).collect()]));
+    let decisions = [(0, 1), (4, 1), (8, 1), (9, 1), (1, 0), (5, 0), (2, 0)];
+    let reason = vec![(4, 1), (8, 1), (9, 1), (0, 1), (1, 0), (5, 0), (2, 0)];
+    assert_eq!(found_in_both(&record, &decisions), [Some(reason), None]);
+}
+
+#[test]
+fn refused_in_both_editions() {
+    let refused = |record: &[u8], decisions: &[Literal], reason: &[Literal]| {
+        let reason = Some(reason.to_vec());
+        let expected = [reason.clone(), reason];
+        assert_eq!(found_in_both(record, decisions), expected);
+    };
+    refused(&T, &[(1, 1)], &[(1, 1)]);
+    refused(&S, &[(0, 1), (1, 1)], &[(0, 1), (1, 1)]);
+    let row = encode(&plain(1, 6, vec![vec![0, 1, 2, 3]]));
+    let same_size = filling(&[1, 0, 0, 1, 0, 0]);
+    refused(&row, &same_size, &[(0, 1), (3, 1), (2, 0), (4, 0)]);
+    let turned_round = encode(&plain(1, 6, vec![vec![3, 2, 1, 0]]));
+    let smaller = filling(&[1, 0, 0, 1, 1, 1]);
+    let reason = [(3, 1), (4, 1), (5, 1), (0, 1), (1, 0)];
+    refused(&turned_round, &smaller, &reason);
+    // Two squares side by side, and four in a column.
+    let grid = encode(&plain(4, 4, vec![vec![1, 2, 3]]));
+    let no_copy = filling(&[1, 1, 0, 1, 0, 0, 0, 1, 0, 0, 0, 1, 0, 0, 0, 1]);
+    let reason = [(0, 1), (1, 1), (3, 1), (2, 0), (6, 0), (10, 0), (14, 0)];
+    refused(&grid, &no_copy, &reason);
+}
+
+/// The record's refusals come first; the board keeps its edition.
+#[test]
+fn opened_in_an_edition() {
+    for edition in [0, 3, 16, 255] {
+        assert_eq!(Board::open(&S, edition).err(), Some(Refusal::Edition));
+        let cut = Board::open(&S[..6], edition);
+        assert_eq!(cut.err(), Some(Refusal::RecordEnds));
+        let filler = Board::open(&[&S[..], &[0]].concat(), edition);
+        assert_eq!(filler.err(), Some(Refusal::Filler));
+    }
+    for edition in Edition::BOTH {
+        let mut leaf = Board::open(&S, edition.number()).unwrap();
+        assert_eq!(leaf.decide(0, 1), Ok(()));
+        assert_eq!(find(&mut leaf, 10), Ok(None));
+        assert_eq!(leaf.undo(), Ok(()));
+        assert_eq!(leaf.edition(), edition);
+    }
+}
+
+#[test]
+fn exported_calls_stay_with_edition_1() {
+    let row = encode(&plain(1, 6, vec![vec![0, 1, 2, 3]]));
+    let decisions = literal_bytes(&filling(&[1, 0, 0, 1, 1, 1]));
+    assert_eq!(host_call(&row, &decisions, &mut [0; 38]), 5);
+    assert_eq!(finished_call(&row, &decisions), 0);
+    let input = [&[0x00, row.len() as u8], &row[..], &decisions].concat();
+    assert_eq!(reason(&input), "reason 5\n3 1\n4 1\n5 1\n0 1\n1 0\n");
 }
 
 #[test]

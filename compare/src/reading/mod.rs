@@ -41,9 +41,35 @@ pub enum Refusal {
     SheetShort = 13,
     Turning = 14,
     RecordOutputShort = 15,
+    Edition = 16,
 }
 
 impl Refusal {
+    pub fn number(self) -> u8 {
+        self as u8
+    }
+}
+
+/// What the later of two blocks adds to the earlier one (document 02 §7): exactly one square, or one
+/// or more.
+#[derive(Clone, Copy, Debug, PartialEq, Eq)]
+pub enum Edition {
+    ExactlyOne = 1,
+    OneOrMore = 2,
+}
+
+impl Edition {
+    pub const BOTH: [Edition; 2] = [Edition::ExactlyOne, Edition::OneOrMore];
+
+    /// 1 or 2; another number is refused.
+    pub fn numbered(number: u8) -> Result<Edition, Refusal> {
+        match number {
+            1 => Ok(Edition::ExactlyOne),
+            2 => Ok(Edition::OneOrMore),
+            _ => Err(Refusal::Edition),
+        }
+    }
+
     pub fn number(self) -> u8 {
         self as u8
     }

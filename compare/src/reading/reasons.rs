@@ -5,7 +5,7 @@ use super::grid::Size;
 use super::groups::{blocks, pairs, potential_groups, some_shift_lies_in, Groups, Pair};
 use super::kinds::Kinds;
 use super::record::Puzzle;
-use super::{Literal, Refusal};
+use super::{Edition, Literal, Refusal};
 
 #[derive(Clone, Copy, Debug, PartialEq, Eq)]
 pub enum Which {
@@ -33,13 +33,13 @@ pub fn find(board: &mut Board, buffer: usize) -> Result<Option<Reason>, Refusal>
         return Err(Refusal::OutputShort);
     }
     board.count_hint();
-    Ok(find_reason(board.puzzle(), &board.cells()))
+    Ok(find_reason(board.puzzle(), board.edition(), &board.cells()))
 }
 
-pub fn find_reason(puzzle: &Puzzle, cells: &[Cell]) -> Option<Reason> {
+pub fn find_reason(puzzle: &Puzzle, edition: Edition, cells: &[Cell]) -> Option<Reason> {
     reason_1(puzzle, cells)
         .or_else(|| reason_2(puzzle, cells))
-        .or_else(|| reason_3_or_4(puzzle, cells))
+        .or_else(|| reason_3_or_4(puzzle, edition, cells))
 }
 
 /// A potential group with a square and no arrow cell.
@@ -106,7 +106,7 @@ fn path(size: Size, blocks: &Groups, a: usize, b: usize) -> Vec<usize> {
 }
 
 /// 4 only when no pair on any arrow meets 3.
-fn reason_3_or_4(puzzle: &Puzzle, cells: &[Cell]) -> Option<Reason> {
+fn reason_3_or_4(puzzle: &Puzzle, edition: Edition, cells: &[Cell]) -> Option<Reason> {
     let view = View {
         size: puzzle.size,
         cells,
@@ -114,7 +114,7 @@ fn reason_3_or_4(puzzle: &Puzzle, cells: &[Cell]) -> Option<Reason> {
     };
     let pairs = pairs(puzzle, cells);
     let reason_3 = pairs.iter().find_map(|pair| view.reason_3(pair));
-    reason_3.or_else(|| pairs.iter().find_map(|pair| view.reason_4(pair)))
+    reason_3.or_else(|| pairs.iter().find_map(|pair| view.reason_4(edition, pair)))
 }
 
 /// A board as reasons 3 and 4 look at it. Blocks are spoken of by an arrow cell in them.
@@ -146,11 +146,14 @@ impl View<'_> {
         (!fits).then(|| self.cur_cannot_hold_last(Which::Three, pair))
     }
 
-    /// (a), then (b), of one pair.
-    fn reason_4(&self, pair: &Pair) -> Option<Reason> {
+    /// (a), then (b), of one pair. Where a block may add one square or more, (b) doesn't exist.
+    fn reason_4(&self, edition: Edition, pair: &Pair) -> Option<Reason> {
         let cur_reach = count(&self.reach(pair.cur_cell()));
         if cur_reach < self.block(pair.last_cell()).len() + 1 {
             return Some(self.cur_cannot_hold_last(Which::FourA, pair));
+        }
+        if edition == Edition::OneOrMore {
+            return None;
         }
         let last_reach = count(&self.reach(pair.last_cell()));
         if last_reach + 1 + self.most_between(pair) < self.block(pair.cur_cell()).len() {

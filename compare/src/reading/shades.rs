@@ -36,7 +36,7 @@ pub fn opened_and_shaded(
     decisions: &[u8],
     output_length: usize,
 ) -> Result<Vec<u8>, Refusal> {
-    let mut board = Board::open(record)?;
+    let mut board = Board::open(record, 1)?;
     let size = board.puzzle().size;
     if output_length < 4 * size.cells() {
         return Err(Refusal::OutputShort);
@@ -49,6 +49,7 @@ pub fn opened_and_shaded(
 mod tests {
     use super::*;
     use crate::reading::record::plain;
+    use crate::reading::Edition;
 
     #[test]
     fn two_blocks() {
@@ -65,7 +66,7 @@ mod tests {
             (7, 0),
             (8, 1),
         ];
-        let board = Board::after(&plain(3, 3, vec![]), &squares);
+        let board = Board::after(&plain(3, 3, vec![]), Edition::ExactlyOne, &squares);
         let shades = shades(board.puzzle().size, &board.cells());
         let (large, small) = ((0, 5), (6, 1));
         let none = (0, 0);

@@ -16,10 +16,11 @@ use Rattle.grid.proofs.ListLaws.{and-true, true-and, dec-so, so-false, mem-memb
 use Rattle.grid.proofs.AppendLaws.{eqb-sym}
 use Rattle.grid.proofs.ArrayLaws.{array-length, array-take, array-in}
 use Rattle.grid.proofs.GridLaws.{size-most}
-use Rattle.record.specs.Record.{Puzzle}
-use Rattle.record.specs.Valid.{Fresh, Valid}
+use Rattle.record.specs.Valid.{Fresh}
+use Rattle.record.specs.Leaf.{Leaf, inEdition, isEdition}
 use Rattle.record.specs.Problem.{problemOf, puzzleOf, gridOf}
 use Rattle.record.proofs.FreshLaws.{fresh-length}
+use Rattle.record.proofs.LeafLaws.{ValidLeaf}
 use Rattle.record.proofs.RecordLaws.{valid-size}
 use Rattle.form.specs.Form.{long, behind, fresh, problemFormed, shown, stated, ordered}
 use Rattle.form.proofs.ArrayTests.{behind-kept, kept-behind, fresh-is, is-fresh}
@@ -128,6 +129,7 @@ pub record Whole (b : Board) : Type 0 where
   pub cells-long : length (b .cells) ≡ 1024
   pub order-long : length (b .order) ≡ 1024
   pub count-low : b .hints ≤ 65535
+  pub edition : isEdition (b .edition) ≡ true
   pub few : b .decided ≤ 1024
   pub once : fresh (size (gridOf (b .problem))) [] (listed b) ≡ true
   pub zeros : behind 0 (b .decided) (b .order) ≡ true
@@ -138,9 +140,10 @@ pub whole-is : (b : Board) → wellFormed b ≡ true → Whole b
 unfolding wellFormed long countFormed ordered stated
 whole-is b h =
     let n : ℕ = size (gridOf (b .problem)) in
-    let a = and-true (problemFormed (b .problem) && (long (b .cells) && long (b .order) && countFormed (b .hints))) (ordered n (b .decided) (b .order) && stated n (listed b) (b .cells)) h in
-    let c = and-true (problemFormed (b .problem)) (long (b .cells) && long (b .order) && countFormed (b .hints)) (a .0) in
-    let l = and-true (long (b .cells) && long (b .order)) (countFormed (b .hints)) (c .1) in
+    let a = and-true (problemFormed (b .problem) && (long (b .cells) && long (b .order) && countFormed (b .hints) && isEdition (b .edition))) (ordered n (b .decided) (b .order) && stated n (listed b) (b .cells)) h in
+    let c = and-true (problemFormed (b .problem)) (long (b .cells) && long (b .order) && countFormed (b .hints) && isEdition (b .edition)) (a .0) in
+    let v = and-true (long (b .cells) && long (b .order) && countFormed (b .hints)) (isEdition (b .edition)) (c .1) in
+    let l = and-true (long (b .cells) && long (b .order)) (countFormed (b .hints)) (v .0) in
     let d = and-true (long (b .cells)) (long (b .order)) (l .0) in
     let e = and-true (ordered n (b .decided) (b .order)) (stated n (listed b) (b .cells)) (a .1) in
     let f = and-true (leb (b .decided) 1024 && fresh n [] (listed b)) (behind 0 (b .decided) (b .order)) (e .0) in
@@ -151,6 +154,7 @@ whole-is b h =
       cells-long = eqb-true (length (b .cells)) 1024 (d .0);
       order-long = eqb-true (length (b .order)) 1024 (d .1);
       count-low = leb-true (b .hints) 65535 (l .1);
+      edition = v .1;
       few = leb-true (b .decided) 1024 (k .0);
       once = k .1;
       zeros = f .1;
@@ -163,7 +167,7 @@ unfolding wellFormed long countFormed ordered stated
 is-whole b w =
     true-and
     (true-and (is-formed (b .problem) (w .problem))
-    (true-and (true-and (eq-eqb (length (b .cells)) 1024 (w .cells-long)) (eq-eqb (length (b .order)) 1024 (w .order-long))) (le-leb (b .hints) 65535 (w .count-low))))
+    (true-and (true-and (true-and (eq-eqb (length (b .cells)) 1024 (w .cells-long)) (eq-eqb (length (b .order)) 1024 (w .order-long))) (le-leb (b .hints) 65535 (w .count-low))) (w .edition)))
     (true-and (true-and (true-and (le-leb (b .decided) 1024 (w .few)) (w .once)) (w .zeros)) (true-and (w .states) (w .twos)))
 
 -- the decisions that a board lists, with the values of their cells
@@ -225,8 +229,8 @@ module _ (b : Board) (w : Whole b) where
       sym (length-map (decisionsOf b) index) ∙ ap length (valued-index (λ i. getD (b .cells) i 0) (listed b))
       ∙ length-take-le (b .decided) (b .order) (omega (arith, w .few, w .order-long))
 
-  -- it is the board of its puzzle, its decisions and its count
-  pub whole-again : boardOf (puzzleOf (b .problem)) (decisionsOf b) (b .hints) ≡ b
+  -- it is the board of its puzzle, its edition, its decisions and its count
+  pub whole-again : boardOf (inEdition (b .edition) (puzzleOf (b .problem))) (decisionsOf b) (b .hints) ≡ b
   unfolding boardOf puzzleOf g
   whole-again =
       let c : arrayOf 2 (cellsAfter (gridOf (b .problem)) (decisionsOf b)) ≡ b .cells = ap (arrayOf 2) cells-are ∙ behind-kept 2 (size g) (b .cells) (w .cells-long) most (w .twos) in
@@ -259,15 +263,15 @@ module _ (b : Board) (w : Whole b) where
 
 -- ---- and the other way round
 
-module _ (p : Puzzle) (v : Valid p) {ds : List Literal} (s : Standing (p .grid) ds) where
+module _ (l : Leaf) (v : ValidLeaf l) {ds : List Literal} (s : Standing (l .puzzle .grid) ds) where
   -- the board shows the value at each cell
-  pub cell-shown : (i : ℕ) → i < size (p .grid) → getD (arrayOf 2 (cellsAfter (p .grid) ds)) i 0 ≡ valueAt ds i
-  cell-shown i h = array-in 2 (cellsAfter (p .grid) ds) 0 i (omega (arith, cells-length (p .grid) ds)) ∙ cell-value (p .grid) ds i h
+  pub cell-shown : (i : ℕ) → i < size (l .puzzle .grid) → getD (arrayOf 2 (cellsAfter (l .puzzle .grid) ds)) i 0 ≡ valueAt ds i
+  cell-shown i h = array-in 2 (cellsAfter (l .puzzle .grid) ds) 0 i (omega (arith, cells-length (l .puzzle .grid) ds)) ∙ cell-value (l .puzzle .grid) ds i h
 
   order-taken : take (length ds) (arrayOf 0 (map index ds)) ≡ map index ds
   order-taken = rw (← length-map ds index) (array-take 0 (map index ds))
 
-  shows : (i : ℕ) → i < size (p .grid) → shown (map index ds) (arrayOf 2 (cellsAfter (p .grid) ds)) i ≡ true
+  shows : (i : ℕ) → i < size (l .puzzle .grid) → shown (map index ds) (arrayOf 2 (cellsAfter (l .puzzle .grid) ds)) i ≡ true
   unfolding shown
   shows i h = rw (cell-shown i h, ← decided-listed ds i) (go (decided ds i) refl)
     where
@@ -275,20 +279,21 @@ module _ (p : Puzzle) (v : Valid p) {ds : List Literal} (s : Standing (p .grid) 
       go true e = le-leb (valueAt ds i) 1 (value-listed ds i (λ d m. standing-low s d m .1) e)
       go false e = eq-eqb (valueAt ds i) 2 (value-free ds i e)
 
-  -- the board of a valid puzzle with standing decisions passes the test, with any count
-  pub standing-whole : {n : ℕ} → n ≤ 65535 → Whole (boardOf p ds n)
+  -- the board of an accepted leaf with standing decisions passes the test, with any count
+  pub standing-whole : {n : ℕ} → n ≤ 65535 → Whole (boardOf l ds n)
   unfolding boardOf problemOf gridOf
   standing-whole low =
-      let n : length ds ≤ 1024 = omega (arith, standing-length s, valid-size v) in
+      let n : length ds ≤ 1024 = omega (arith, standing-length s, valid-size (v .puzzle)) in
       let f = standing-fresh s in
       record {
-        problem = valid-formed p v;
-        cells-long = array-length 2 (cellsAfter (p .grid) ds) (omega (arith, cells-length (p .grid) ds, valid-size v));
+        problem = valid-formed (l .puzzle) (v .puzzle);
+        cells-long = array-length 2 (cellsAfter (l .puzzle .grid) ds) (omega (arith, cells-length (l .puzzle .grid) ds, valid-size (v .puzzle)));
         order-long = array-length 0 (map index ds) (omega (arith, length-map ds index));
         count-low = low;
+        edition = v .edition;
         few = n;
-        once = rw order-taken (is-fresh (size (p .grid)) (f .0) (f .1));
+        once = rw order-taken (is-fresh (size (l .puzzle .grid)) (f .0) (f .1));
         zeros = kept-behind 0 (length ds) (map index ds) (length-map ds index);
-        states = rw order-taken (mem-all (shown (map index ds) (arrayOf 2 (cellsAfter (p .grid) ds))) (upto (size (p .grid))) (λ i m. shows i (upto-mem (size (p .grid)) m)));
-        twos = kept-behind 2 (size (p .grid)) (cellsAfter (p .grid) ds) (cells-length (p .grid) ds);
+        states = rw order-taken (mem-all (shown (map index ds) (arrayOf 2 (cellsAfter (l .puzzle .grid) ds))) (upto (size (l .puzzle .grid))) (λ i m. shows i (upto-mem (size (l .puzzle .grid)) m)));
+        twos = kept-behind 2 (size (l .puzzle .grid)) (cellsAfter (l .puzzle .grid) ds) (cells-length (l .puzzle .grid) ds);
       }

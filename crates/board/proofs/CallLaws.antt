@@ -17,12 +17,13 @@ use Rattle.grid.specs.Grid.{Grid, size}
 use Rattle.grid.proofs.ListLaws.{dec-so, so-false}
 use Rattle.grid.proofs.ArrayLaws.{array-set, array-more, array-less, array-in}
 use Rattle.grid.proofs.AppendLaws.{init-more}
-use Rattle.record.specs.Record.{Puzzle, Outcome, ok, refused, readRecord}
-use Rattle.record.specs.Valid.{Valid}
+use Rattle.record.specs.Record.{Puzzle, Outcome, ok, refused}
+use Rattle.record.specs.Leaf.{Leaf, inEdition, leafOf}
 use Rattle.record.specs.Write.{writeRecord}
 use Rattle.record.specs.Problem.{problemOf, puzzleOf, gridOf, numberOf, blank}
 use Rattle.record.specs.declared.Answer.the-variants.{Done}
-use Rattle.record.proofs.RecordLaws.{record-valid, valid-size}
+use Rattle.record.proofs.RecordLaws.{valid-size}
+use Rattle.record.proofs.LeafLaws.{ValidLeaf, leaf-ok, ok-leaf, leaf-valid}
 use Rattle.record.proofs.WriteLaws.{round-trip, written-bytes}
 use Rattle.form.specs.Form.{problemFormed, goodSize}
 use Rattle.form.proofs.ProblemForm.{formed-valid}
@@ -72,154 +73,155 @@ cells-more g ds i v l h =
             rw (getD-set-other (cellsAfter g ds) i j v 0 n, ne-eqb i j (λ z. n (sym z)))
             (cell-value g ds j (omega (arith, length-set (cellsAfter g ds) i v, cells-length g ds)))
 
-module _ (p : Puzzle) (v : Valid p) where
+module _ (l : Leaf) (v : ValidLeaf l) where
   -- one more decision on the board
-  placed-more : (n : ℕ) {ds : List Literal} → Standing (p .grid) ds → (i x : ℕ) → i < size (p .grid) → x ≤ 1 → decided ds i ≡ false
-      → placed (boardOf p ds n) i x ≡ boardOf p (ds ++ ((i, x) ∷ [])) n
+  placed-more : (n : ℕ) {ds : List Literal} → Standing (l .puzzle .grid) ds → (i x : ℕ) → i < size (l .puzzle .grid) → x ≤ 1 → decided ds i ≡ false
+      → placed (boardOf l ds n) i x ≡ boardOf l (ds ++ ((i, x) ∷ [])) n
   unfolding placed boardOf
-  placed-more n {ds} s i x l k h =
-      let room : length ds < 1024 = omega (arith, standing-length (more s l k h), length-append ds ((i, x) ∷ []), valid-size v) in
-      let c : set (arrayOf 2 (cellsAfter (p .grid) ds)) i x ≡ arrayOf 2 (cellsAfter (p .grid) (ds ++ ((i, x) ∷ []))) =
-      array-set 2 (cellsAfter (p .grid) ds) i x (omega (arith, cells-length (p .grid) ds)) ∙ ap (arrayOf 2) (cells-more (p .grid) ds i x l h) in
+  placed-more n {ds} s i x w k h =
+      let room : length ds < 1024 = omega (arith, standing-length (more s w k h), length-append ds ((i, x) ∷ []), valid-size (v .puzzle)) in
+      let c : set (arrayOf 2 (cellsAfter (l .puzzle .grid) ds)) i x ≡ arrayOf 2 (cellsAfter (l .puzzle .grid) (ds ++ ((i, x) ∷ []))) =
+      array-set 2 (cellsAfter (l .puzzle .grid) ds) i x (omega (arith, cells-length (l .puzzle .grid) ds)) ∙ ap (arrayOf 2) (cells-more (l .puzzle .grid) ds i x w h) in
       let o : set (arrayOf 0 (map index ds)) (length ds) i ≡ arrayOf 0 (map index (ds ++ ((i, x) ∷ []))) =
       rw (← length-map ds index) (array-more 0 (map index ds) i (omega (arith, length-map ds index))) ∙ ap (arrayOf 0) (sym (map-append index ds ((i, x) ∷ []))) in
       let m : length ds + 1 ≡ length (ds ++ ((i, x) ∷ [])) = sym (length-append ds ((i, x) ∷ [])) in
       rw (c, o, m) refl
 
   -- the latest decision taken off the board
-  removed-less : (n : ℕ) {ds : List Literal} → Standing (p .grid) ds → (i x : ℕ) → i < size (p .grid) → x ≤ 1 → decided ds i ≡ false
-      → removed (boardOf p (ds ++ ((i, x) ∷ [])) n) ≡ boardOf p ds n
+  removed-less : (n : ℕ) {ds : List Literal} → Standing (l .puzzle .grid) ds → (i x : ℕ) → i < size (l .puzzle .grid) → x ≤ 1 → decided ds i ≡ false
+      → removed (boardOf l (ds ++ ((i, x) ∷ [])) n) ≡ boardOf l ds n
   unfolding removed boardOf
-  removed-less n {ds} s i x l k h =
-      let room : length ds < 1024 = omega (arith, standing-length (more s l k h), length-append ds ((i, x) ∷ []), valid-size v) in
+  removed-less n {ds} s i x w k h =
+      let room : length ds < 1024 = omega (arith, standing-length (more s w k h), length-append ds ((i, x) ∷ []), valid-size (v .puzzle)) in
       let one : length (ds ++ ((i, x) ∷ [])) - 1 ≡ length ds = omega (arith, length-append ds ((i, x) ∷ [])) in
       let m : map index (ds ++ ((i, x) ∷ [])) ≡ map index ds ++ (i ∷ []) = map-append index ds ((i, x) ∷ []) in
       let at : getD (arrayOf 0 (map index ds ++ (i ∷ []))) (length ds) 0 ≡ i =
       array-in 0 (map index ds ++ (i ∷ [])) 0 (length ds) (omega (arith, length-append (map index ds) (i ∷ []), length-map ds index)) ∙ getD-at (map index ds) i [] 0 (length ds) (length-map ds index) in
       let o : set (arrayOf 0 (map index ds ++ (i ∷ []))) (length ds) 0 ≡ arrayOf 0 (map index ds) = rw (← length-map ds index) (array-less 0 (map index ds) i (omega (arith, length-map ds index))) in
-      let two : getD (cellsAfter (p .grid) ds) i 0 ≡ 2 = cell-value (p .grid) ds i l ∙ value-free ds i h in
-      let back : set (cellsAfter (p .grid) (ds ++ ((i, x) ∷ []))) i 2 ≡ cellsAfter (p .grid) ds =
-      rw (← cells-more (p .grid) ds i x l h) (set-set (cellsAfter (p .grid) ds) i x 2 ∙ rw (← two) (set-getD (cellsAfter (p .grid) ds) i 0)) in
-      let c : set (arrayOf 2 (cellsAfter (p .grid) (ds ++ ((i, x) ∷ [])))) i 2 ≡ arrayOf 2 (cellsAfter (p .grid) ds) =
-      array-set 2 (cellsAfter (p .grid) (ds ++ ((i, x) ∷ []))) i 2 (omega (arith, cells-length (p .grid) (ds ++ ((i, x) ∷ [])))) ∙ ap (arrayOf 2) back in
+      let two : getD (cellsAfter (l .puzzle .grid) ds) i 0 ≡ 2 = cell-value (l .puzzle .grid) ds i w ∙ value-free ds i h in
+      let back : set (cellsAfter (l .puzzle .grid) (ds ++ ((i, x) ∷ []))) i 2 ≡ cellsAfter (l .puzzle .grid) ds =
+      rw (← cells-more (l .puzzle .grid) ds i x w h) (set-set (cellsAfter (l .puzzle .grid) ds) i x 2 ∙ rw (← two) (set-getD (cellsAfter (l .puzzle .grid) ds) i 0)) in
+      let c : set (arrayOf 2 (cellsAfter (l .puzzle .grid) (ds ++ ((i, x) ∷ [])))) i 2 ≡ arrayOf 2 (cellsAfter (l .puzzle .grid) ds) =
+      array-set 2 (cellsAfter (l .puzzle .grid) (ds ++ ((i, x) ∷ []))) i 2 (omega (arith, cells-length (l .puzzle .grid) (ds ++ ((i, x) ∷ [])))) ∙ ap (arrayOf 2) back in
       rw (one, m, at, c, o) refl
 
 -- on a board with any count
-module _ (p : Puzzle) (v : Valid p) {n : ℕ} (low : n ≤ 65535) where
+module _ (l : Leaf) (v : ValidLeaf l) {n : ℕ} (low : n ≤ 65535) where
   -- a cell of the grid is undecided on the board when no decision has its index
-  shown-free : {ds : List Literal} → Standing (p .grid) ds → (i : ℕ) → i < size (p .grid) → eqb (getD (boardOf p ds n .cells) i 0) 2 ≡ not (decided ds i)
+  shown-free : {ds : List Literal} → Standing (l .puzzle .grid) ds → (i : ℕ) → i < size (l .puzzle .grid) → eqb (getD (boardOf l ds n .cells) i 0) 2 ≡ not (decided ds i)
   unfolding boardOf
-  shown-free {ds} s i l = rw (cell-shown p v s i l) (go (decided ds i) refl)
+  shown-free {ds} s i w = rw (cell-shown l v s i w) (go (decided ds i) refl)
     where
       go : (t : Bool) → decided ds i ≡ t → eqb (valueAt ds i) 2 ≡ not t
       go true e = ne-eqb (valueAt ds i) 2 (λ z. omega (arith, z, value-listed ds i (λ d m. standing-low s d m .1) e))
       go false e = eq-eqb (valueAt ds i) 2 (value-free ds i e)
 
   -- the board of standing decisions passes the test
-  pub standing-well : {ds : List Literal} → Standing (p .grid) ds → wellFormed (boardOf p ds n) ≡ true
-  standing-well {ds} s = is-whole (boardOf p ds n) (standing-whole p v s low)
+  pub standing-well : {ds : List Literal} → Standing (l .puzzle .grid) ds → wellFormed (boardOf l ds n) ≡ true
+  standing-well {ds} s = is-whole (boardOf l ds n) (standing-whole l v s low)
 
   -- the refusals of decide and undo are the machine's
-  pub decide-number : {ds : List Literal} → Standing (p .grid) ds → (i x : ℕ) → decideRefusal (boardOf p ds n) i x ≡ refusal (p .grid) (decide i x) ds
+  pub decide-number : {ds : List Literal} → Standing (l .puzzle .grid) ds → (i x : ℕ) → decideRefusal (boardOf l ds n) i x ≡ refusal (l .puzzle .grid) (decide i x) ds
   unfolding decideRefusal refusal area problemOf gridOf
-  decide-number {ds} s i x = rw (standing-well s) (go (dec-so (ltb i (size (p .grid)))))
+  decide-number {ds} s i x = rw (standing-well s) (go (dec-so (ltb i (size (l .puzzle .grid)))))
     where
       last-test : (t : Bool) → _≡_ {A = ℕ} (cond (not t) 0 9) (cond t 9 0)
       last-test true = refl
       last-test false = refl
 
-      go : Dec (So (ltb i (size (p .grid))))
-          → _≡_ {A = ℕ} (cond (ltb i (area (boardOf p ds n))) (cond (leb x 1) (cond (eqb (getD (boardOf p ds n .cells) i 0) 2) 0 9) 8) 7) (cond (ltb i (size (p .grid))) (cond (leb x 1) (cond (decided ds i) 9 0) 8) 7)
-      go (yes e) = rw (shown-free s i (ltb-true i (size (p .grid)) e), last-test (decided ds i)) (unfold boardOf in refl)
-      go (no n) = unfold boardOf in rw (so-false (ltb i (size (p .grid))) n) refl
+      go : Dec (So (ltb i (size (l .puzzle .grid))))
+          → _≡_ {A = ℕ} (cond (ltb i (area (boardOf l ds n))) (cond (leb x 1) (cond (eqb (getD (boardOf l ds n .cells) i 0) 2) 0 9) 8) 7) (cond (ltb i (size (l .puzzle .grid))) (cond (leb x 1) (cond (decided ds i) 9 0) 8) 7)
+      go (yes e) = rw (shown-free s i (ltb-true i (size (l .puzzle .grid)) e), last-test (decided ds i)) (unfold boardOf in refl)
+      go (no n) = unfold boardOf in rw (so-false (ltb i (size (l .puzzle .grid))) n) refl
 
-  pub undo-number : {ds : List Literal} → Standing (p .grid) ds → undoRefusal (boardOf p ds n) ≡ refusal (p .grid) undo ds
+  pub undo-number : {ds : List Literal} → Standing (l .puzzle .grid) ds → undoRefusal (boardOf l ds n) ≡ refusal (l .puzzle .grid) undo ds
   unfolding undoRefusal refusal boardOf
   undo-number none = rw (standing-well none) refl
-  undo-number (more {ds} {i} {v = x} s l k h) = rw (standing-well (more s l k h)) (go ds)
+  undo-number (more {ds} {i} {v = x} s w k h) = rw (standing-well (more s w k h)) (go ds)
     where
-      go : (es : List Literal) → cond (eqb (length (es ++ ((i, x) ∷ []))) 0) 10 0 ≡ refusal (p .grid) undo (es ++ ((i, x) ∷ []))
+      go : (es : List Literal) → cond (eqb (length (es ++ ((i, x) ∷ []))) 0) 10 0 ≡ refusal (l .puzzle .grid) undo (es ++ ((i, x) ∷ []))
       go [] = refl
       go (e ∷ es) = rw (ne-eqb (suc (length (es ++ ((i, x) ∷ [])))) 0 (λ z. omega (arith, z))) refl
 
   -- the boards that decide and undo leave are those of the decisions that the machine keeps
-  pub decide-left : {ds : List Literal} → Standing (p .grid) ds → (i x : ℕ) → decideOf (boardOf p ds n) i x .board ≡ boardOf p (after (p .grid) (decide i x) ds) n
+  pub decide-left : {ds : List Literal} → Standing (l .puzzle .grid) ds → (i x : ℕ) → decideOf (boardOf l ds n) i x .board ≡ boardOf l (after (l .puzzle .grid) (decide i x) ds) n
   unfolding decideOf refusal after
-  decide-left {ds} s i x = rw (decide-number s i x) (go (ltb i (size (p .grid))) (leb x 1) (decided ds i) refl refl refl)
+  decide-left {ds} s i x = rw (decide-number s i x) (go (ltb i (size (l .puzzle .grid))) (leb x 1) (decided ds i) refl refl refl)
     where
-      go : (a b c : Bool) → ltb i (size (p .grid)) ≡ a → leb x 1 ≡ b → decided ds i ≡ c
-          → answered (cond a (cond b (cond c 9 0) 8) 7) (boardOf p ds n) (placed (boardOf p ds n) i x) .board ≡ boardOf p (cond (a && b && not c) (ds ++ ((i, x) ∷ [])) ds) n
+      go : (a b c : Bool) → ltb i (size (l .puzzle .grid)) ≡ a → leb x 1 ≡ b → decided ds i ≡ c
+          → answered (cond a (cond b (cond c 9 0) 8) 7) (boardOf l ds n) (placed (boardOf l ds n) i x) .board ≡ boardOf l (cond (a && b && not c) (ds ++ ((i, x) ∷ [])) ds) n
       go false b c ea eb ec = unfold answered in refl
       go true false c ea eb ec = unfold answered in refl
       go true true true ea eb ec = unfold answered in refl
-      go true true false ea eb ec = unfold answered in placed-more p v n s i x (ltb-true i (size (p .grid)) ea) (leb-true x 1 eb) ec
+      go true true false ea eb ec = unfold answered in placed-more l v n s i x (ltb-true i (size (l .puzzle .grid)) ea) (leb-true x 1 eb) ec
 
-  pub undo-left : {ds : List Literal} → Standing (p .grid) ds → undoOf (boardOf p ds n) .board ≡ boardOf p (init ds) n
+  pub undo-left : {ds : List Literal} → Standing (l .puzzle .grid) ds → undoOf (boardOf l ds n) .board ≡ boardOf l (init ds) n
   unfolding undoOf
   undo-left none = rw (undo-number none) (unfold answered refusal init in refl)
-  undo-left (more {ds} {i} {v = x} s l k h) = rw (undo-number (more s l k h), init-more ds (i, x)) (go ds (removed-less p v n s i x l k h))
+  undo-left (more {ds} {i} {v = x} s w k h) = rw (undo-number (more s w k h), init-more ds (i, x)) (go ds (removed-less l v n s i x w k h))
     where
-      go : (es : List Literal) → removed (boardOf p (es ++ ((i, x) ∷ [])) n) ≡ boardOf p es n
-          → answered (refusal (p .grid) undo (es ++ ((i, x) ∷ []))) (boardOf p (es ++ ((i, x) ∷ [])) n) (removed (boardOf p (es ++ ((i, x) ∷ [])) n)) .board ≡ boardOf p es n
+      go : (es : List Literal) → removed (boardOf l (es ++ ((i, x) ∷ [])) n) ≡ boardOf l es n
+          → answered (refusal (l .puzzle .grid) undo (es ++ ((i, x) ∷ []))) (boardOf l (es ++ ((i, x) ∷ [])) n) (removed (boardOf l (es ++ ((i, x) ∷ [])) n)) .board ≡ boardOf l es n
       go [] e = unfold answered refusal in e
       go (y ∷ es) e = unfold answered refusal in e
 
   -- find's refusal is the machine's, and its count rises when the machine accepts
-  pub find-number : {ds : List Literal} → Standing (p .grid) ds → (k : ℕ) → findRefusal (boardOf p ds n) k ≡ refusal (p .grid) (find k) ds
+  pub find-number : {ds : List Literal} → Standing (l .puzzle .grid) ds → (k : ℕ) → findRefusal (boardOf l ds n) k ≡ refusal (l .puzzle .grid) (find k) ds
   unfolding findRefusal refusal boardOf problemOf gridOf
   find-number s k = rw (standing-well s) refl
 
-  pub find-left : {ds : List Literal} → Standing (p .grid) ds → (k : ℕ) → afterFind (boardOf p ds n) k ≡ boardOf p ds (counted (p .grid) (find k) n)
+  pub find-left : {ds : List Literal} → Standing (l .puzzle .grid) ds → (k : ℕ) → afterFind (boardOf l ds n) k ≡ boardOf l ds (counted (l .puzzle .grid) (find k) n)
   unfolding afterFind refusal asks
-  find-left {ds} s k = rw (find-number s k) (go (decLe (enough (p .grid)) k))
+  find-left {ds} s k = rw (find-number s k) (go (decLe (enough (l .puzzle .grid)) k))
     where
-      go : Dec (enough (p .grid) ≤ k) → hintedBy (cond (ltb k (enough (p .grid))) 11 0) (boardOf p ds n) ≡ boardOf p ds (cond (leb (enough (p .grid)) k) (raised n) n)
-      go (yes h) = unfold hintedBy hinted withHints boardOf in rw (le-ltb k (enough (p .grid)) h, le-leb (enough (p .grid)) k h) refl
-      go (no h) = unfold hintedBy in rw (lt-ltb k (enough (p .grid)) (omega arith), lt-leb (enough (p .grid)) k (omega arith)) refl
+      go : Dec (enough (l .puzzle .grid) ≤ k) → hintedBy (cond (ltb k (enough (l .puzzle .grid))) 11 0) (boardOf l ds n) ≡ boardOf l ds (cond (leb (enough (l .puzzle .grid)) k) (raised n) n)
+      go (yes h) = unfold hintedBy hinted withHints boardOf in rw (le-ltb k (enough (l .puzzle .grid)) h, le-leb (enough (l .puzzle .grid)) k h) refl
+      go (no h) = unfold hintedBy in rw (lt-ltb k (enough (l .puzzle .grid)) (omega arith), lt-leb (enough (l .puzzle .grid)) k (omega arith)) refl
 
-module _ (p : Puzzle) (v : Valid p) where
+module _ (l : Leaf) (v : ValidLeaf l) where
   -- so are those that a call leaves
-  call-left : (c : Call) {ds : List Literal} {n : ℕ} → n ≤ 65535 → Standing (p .grid) ds → left (boardOf p ds n) c ≡ boardOf p (after (p .grid) c ds) (counted (p .grid) c n)
+  call-left : (c : Call) {ds : List Literal} {n : ℕ} → n ≤ 65535 → Standing (l .puzzle .grid) ds → left (boardOf l ds n) c ≡ boardOf l (after (l .puzzle .grid) c ds) (counted (l .puzzle .grid) c n)
   unfolding left asks
-  call-left (decide i x) low s = decide-left p v low s i x
-  call-left undo low s = undo-left p v low s ∙ unfold after in refl
-  call-left (find k) low s = find-left p v low s k ∙ unfold after in refl
+  call-left (decide i x) low s = decide-left l v low s i x
+  call-left undo low s = undo-left l v low s ∙ unfold after in refl
+  call-left (find k) low s = find-left l v low s k ∙ unfold after in refl
 
-  pub calls-left : (cs : List Call) {ds : List Literal} {n : ℕ} → n ≤ 65535 → Standing (p .grid) ds
-      → leftAll (boardOf p ds n) cs ≡ boardOf p (afterAll (p .grid) cs ds) (min (n + howOften (p .grid) cs) 65535)
+  pub calls-left : (cs : List Call) {ds : List Literal} {n : ℕ} → n ≤ 65535 → Standing (l .puzzle .grid) ds
+      → leftAll (boardOf l ds n) cs ≡ boardOf l (afterAll (l .puzzle .grid) cs ds) (min (n + howOften (l .puzzle .grid) cs) 65535)
   unfolding leftAll afterAll
-  calls-left [] {ds} low s = ap (boardOf p ds) (sym (count-none (p .grid) low))
+  calls-left [] {ds} low s = ap (boardOf l ds) (sym (count-none (l .puzzle .grid) low))
   calls-left (c ∷ cs) {ds} {n} low s =
-      rw (call-left c low s) (calls-left cs (counted-low (p .grid) c low) (after-standing (p .grid) c s))
-      ∙ ap (boardOf p (afterAll (p .grid) cs (after (p .grid) c ds))) (count-cons (p .grid) c cs n)
+      rw (call-left c low s) (calls-left cs (counted-low (l .puzzle .grid) c low) (after-standing (l .puzzle .grid) c s))
+      ∙ ap (boardOf l (afterAll (l .puzzle .grid) cs (after (l .puzzle .grid) c ds))) (count-cons (l .puzzle .grid) c cs n)
 
 -- ---- the theorems
 
-outcome : (a : Outcome Puzzle) → opening a .answer ≡ Done → (p : Puzzle) × (a ≡ ok p)
+outcome : (a : Outcome Leaf) → opening a .answer ≡ Done → (l : Leaf) × (a ≡ ok l)
 unfolding opening
 outcome (refused k) e = let z : _≡_ {A = ℕ} 0 1 = cc in absurd (omega arith)
-outcome (ok p) e = (p, refl)
+outcome (ok l) e = (l, refl)
 
--- an accepted record opens a fresh board
-open-done : (s : List ℕ) (p : Puzzle) → readRecord s ≡ ok p → openOf s .answer ≡ Done
+-- an accepted leaf opens a fresh board
+open-done : (s : List ℕ) (e : ℕ) (l : Leaf) → leafOf s e ≡ ok l → openOf s e .answer ≡ Done
 unfolding openOf opening
-open-done s p e = rw e refl
+open-done s e l k = rw k refl
 
-open-fresh : (s : List ℕ) (p : Puzzle) → readRecord s ≡ ok p → openOf s .board ≡ boardOf p [] 0
+open-fresh : (s : List ℕ) (e : ℕ) (l : Leaf) → leafOf s e ≡ ok l → openOf s e .board ≡ boardOf l [] 0
 unfolding openOf opening
-open-fresh s p e = rw e refl
+open-fresh s e l k = rw k refl
 
--- a list of calls on the board of an accepted record leaves the board of the decisions that the machine keeps and of the accepted finds
-pub opened-left : (s : List ℕ) (p : Puzzle) → readRecord s ≡ ok p → (cs : List Call) → leftAll (openOf s .board) cs ≡ boardOf p (standing p cs) (hintsAfter p cs)
-opened-left s p e cs =
-    let z : 0 + howOften (p .grid) cs ≡ howOften (p .grid) cs = omega arith in
-    rw (open-fresh s p e, ← z) (calls-left p (record-valid s e) cs (omega arith) none)
+-- a list of calls on the board of an accepted leaf leaves the board of the decisions that the machine keeps and of the accepted finds
+pub opened-left : (s : List ℕ) (e : ℕ) (l : Leaf) → leafOf s e ≡ ok l → (cs : List Call)
+    → leftAll (openOf s e .board) cs ≡ boardOf l (standing (l .puzzle) cs) (hintsAfter (l .puzzle) cs)
+opened-left s e l k cs =
+    let z : 0 + howOften (l .puzzle .grid) cs ≡ howOften (l .puzzle .grid) cs = omega arith in
+    rw (open-fresh s e l k, ← z) (calls-left l (leaf-valid s e k) cs (omega arith) none)
 
 -- its count is one that a board can have
 pub after-low : (p : Puzzle) (cs : List Call) → hintsAfter p cs ≤ 65535
 after-low p cs = min-le-right (howOften (p .grid) cs) 65535
 
--- refusal 6 is exact: a board passes the test exactly when some accepted record and some list of calls leave it
+-- refusal 6 is exact: a board passes the test exactly when some accepted record, some edition and some list of calls leave it
 pub well-formed-exact : (b : Board) → (wellFormed b ≡ true) ↔ Leaves b
 well-formed-exact b = (forth, back)
   where
@@ -227,8 +229,8 @@ well-formed-exact b = (forth, back)
     forth h =
         let w = whole-is b h in
         let p : Puzzle = puzzleOf (b .problem) in
-        let v : Valid p = formed-valid (b .problem) (w .problem) in
-        let o : readRecord (writeRecord p) ≡ ok p = round-trip p v in
+        let l : Leaf = inEdition (b .edition) p in
+        let o : leafOf (writeRecord p) (b .edition) ≡ ok l = ok-leaf (writeRecord p) (b .edition) p (round-trip p (formed-valid (b .problem) (w .problem))) (w .edition) in
         let s : Standing (p .grid) (decisionsOf b) = unfold puzzleOf in whole-standing b w in
         let r = standing-calls (p .grid) s in
         let cs : List Call = r .0 ++ asking (p .grid) (b .hints) in
@@ -238,18 +240,19 @@ well-formed-exact b = (forth, back)
         record {
           bytes = writeRecord p;
           low = written-bytes p;
+          edition = b .edition;
           calls = cs;
-          accepted = open-done (writeRecord p) p o;
-          leaves = opened-left (writeRecord p) p o cs ∙ ap₂ (boardOf p) stands count ∙ whole-again b w;
+          accepted = open-done (writeRecord p) (b .edition) l o;
+          leaves = opened-left (writeRecord p) (b .edition) l o cs ∙ ap₂ (boardOf l) stands count ∙ whole-again b w;
         }
 
     back : Leaves b → wellFormed b ≡ true
-    back l =
-        let r = outcome (readRecord (l .bytes)) (unfold openOf in l .accepted) in
-        let p = r .0 in
-        let v : Valid p = record-valid (l .bytes) (r .1) in
-        let e : boardOf p (standing p (l .calls)) (hintsAfter p (l .calls)) ≡ b = sym (opened-left (l .bytes) p (r .1) (l .calls)) ∙ l .leaves in
-        rw (← e) (standing-well p v (after-low p (l .calls)) (calls-standing (p .grid) (l .calls)))
+    back k =
+        let r = outcome (leafOf (k .bytes) (k .edition)) (unfold openOf in k .accepted) in
+        let l = r .0 in
+        let p : Puzzle = l .puzzle in
+        let e : boardOf l (standing p (k .calls)) (hintsAfter p (k .calls)) ≡ b = sym (opened-left (k .bytes) (k .edition) l (r .1) (k .calls)) ∙ k .leaves in
+        rw (← e) (standing-well l (leaf-valid (k .bytes) (k .edition) (r .1)) (after-low p (k .calls)) (calls-standing (p .grid) (k .calls)))
 
 -- the number of an answer
 pub number-answered : (k : ℕ) (b next : Board) → numberOf (answered k b next .answer) ≡ k
@@ -257,35 +260,38 @@ unfolding answered numberOf
 number-answered zero b next = refl
 number-answered (suc k) b next = refl
 
-same-shown : (p : Puzzle) → Valid p → (m n : ℕ) {cs ds : List Literal} → Standing (p .grid) cs → Standing (p .grid) ds
-    → SameCells (p .grid) (boardOf p cs m .cells) (boardOf p ds n .cells) ↔ SameDecisions cs ds
+same-shown : (l : Leaf) → ValidLeaf l → (m n : ℕ) {cs ds : List Literal} → Standing (l .puzzle .grid) cs → Standing (l .puzzle .grid) ds
+    → SameCells (l .puzzle .grid) (boardOf l cs m .cells) (boardOf l ds n .cells) ↔ SameDecisions cs ds
 unfolding boardOf
-same-shown p v m n {cs} {ds} s t =
+same-shown l v m n {cs} {ds} s t =
+    let g : Grid = l .puzzle .grid in
     let q = same-board s t in (
-      λ same. q .0 (λ i l. cell-value (p .grid) cs i l ∙ sym (cell-shown p v s i l) ∙ same i l ∙ cell-shown p v t i l ∙ sym (cell-value (p .grid) ds i l)),
-      λ same i l. cell-shown p v s i l ∙ sym (cell-value (p .grid) cs i l) ∙ q .1 same i l ∙ cell-value (p .grid) ds i l ∙ sym (cell-shown p v t i l),
+      λ same. q .0 (λ i w. cell-value g cs i w ∙ sym (cell-shown l v s i w) ∙ same i w ∙ cell-shown l v t i w ∙ sym (cell-value g ds i w)),
+      λ same i w. cell-shown l v s i w ∙ sym (cell-value g cs i w) ∙ q .1 same i w ∙ cell-value g ds i w ∙ sym (cell-shown l v t i w),
     )
 
 -- what holds after any two lists of calls, refused calls included
-pub after-calls : (s : List ℕ) (p : Puzzle) → readRecord s ≡ ok p → (cs ds : List Call) → AfterCalls s p cs ds
-after-calls s p e cs ds =
-    let v : Valid p = record-valid s e in
-    let a = opened-left s p e cs in
-    let b = opened-left s p e ds in
+pub after-calls : (s : List ℕ) (e : ℕ) (l : Leaf) → leafOf s e ≡ ok l → (cs ds : List Call) → AfterCalls s e l cs ds
+after-calls s e l k cs ds =
+    let p : Puzzle = l .puzzle in
+    let v : ValidLeaf l = leaf-valid s e k in
+    let a = opened-left s e l k cs in
+    let b = opened-left s e l k ds in
     let f = calls-standing (p .grid) cs in
     let h = calls-standing (p .grid) ds in
     let low = after-low p cs in
-    let z : Board = boardOf p (standing p cs) (hintsAfter p cs) in
+    let z : Board = boardOf l (standing p cs) (hintsAfter p cs) in
     record {
       board = a;
       count = ap (λ (b : Board). b .hints) a ∙ unfold boardOf in refl;
-      decides = λ i x. rw a (unfold decideOf in number-answered (decideRefusal z i x) z (placed z i x) ∙ decide-number p v low f i x);
-      undoes = rw a (unfold undoOf in number-answered (undoRefusal z) z (removed z) ∙ undo-number p v low f);
-      finds = λ k. rw a (find-number p v low f k);
-      cells = rw (a, b) (same-shown p v (hintsAfter p cs) (hintsAfter p ds) f h);
+      edition = ap (λ (b : Board). b .edition) a ∙ unfold boardOf in ap (λ (x : Leaf). x .edition) (sym (leaf-ok s e k .3));
+      decides = λ i x. rw a (unfold decideOf in number-answered (decideRefusal z i x) z (placed z i x) ∙ decide-number l v low f i x);
+      undoes = rw a (unfold undoOf in number-answered (undoRefusal z) z (removed z) ∙ undo-number l v low f);
+      finds = λ k. rw a (find-number l v low f k);
+      cells = rw (a, b) (same-shown l v (hintsAfter p cs) (hintsAfter p ds) f h);
     }
 
--- the blank board beside a refused record is none: every later call on it is refused with 6
+-- the blank board beside a refusal is none: every later call on it is refused with 6
 pub blank-refused : wellFormed blankBoard ≡ false
 unfolding wellFormed problemFormed goodSize blankBoard blank gridOf
 blank-refused = refl

@@ -10,19 +10,18 @@ use lib.ListN.{length, getD, drop, drop-of-length-le}
 use lib.Seq.{drop-cons}
 use borrow.Author.Tests.{eq-eqb, ne-eqb}
 use Rattle.grid.specs.Grid.{size}
-use Rattle.record.specs.Record.{Puzzle}
-use Rattle.record.specs.Valid.{Valid}
+use Rattle.record.specs.Leaf.{Leaf, inEdition}
 use Rattle.record.specs.Problem.{puzzleOf, gridOf}
-use Rattle.record.specs.declared.Problem.{Problem}
 use Rattle.record.specs.declared.Answer.{Answer}
 use Rattle.record.specs.declared.Answer.the-variants.{Done, Refused}
+use Rattle.record.proofs.LeafLaws.{ValidLeaf}
 use Rattle.form.proofs.ProblemForm.{formed-valid}
 use Rattle.board.specs.declared.Board.{Board}
 use Rattle.board.specs.declared.Decided.{Decided}
 use Rattle.board.specs.Board.{decide}
 use Rattle.board.specs.Form.{wellFormed}
-use Rattle.board.specs.Decide.{area, placed, decideOf, refusedWith, onward, decideAllOf, placedFrom, allPlaced}
-use Rattle.board.specs.Inside.{Placing, bits, off, twice, put, held}
+use Rattle.board.specs.Decide.{area, withDecisions, placed, decideOf, refusedWith, onward, decideAllOf, placedFrom, allPlaced}
+use Rattle.board.specs.Inside.{Placing, bits, off, twice, put}
 use Rattle.board.proofs.Standing.{Standing, after-standing}
 use Rattle.board.proofs.BoardForm.{whole-is, decisionsOf, whole-standing, whole-again}
 use Rattle.board.proofs.CallLaws.{standing-well, decide-left}
@@ -32,35 +31,35 @@ use Rattle.board.proofs.Answers.{decide-7, decide-9, decide-done}
 pub decide-well : (b : Board) → wellFormed b ≡ true → (i v : ℕ) → wellFormed (decideOf b i v .board) ≡ true
 decide-well b h i v =
     let w = whole-is b h in
-    let p : Puzzle = puzzleOf (b .problem) in
-    let ok : Valid p = formed-valid (b .problem) (w .problem) in
-    let s : Standing (p .grid) (decisionsOf b) = unfold puzzleOf in whole-standing b w in
+    let l : Leaf = inEdition (b .edition) (puzzleOf (b .problem)) in
+    let ok : ValidLeaf l = record { puzzle = formed-valid (b .problem) (w .problem); edition = w .edition } in
+    let s : Standing (l .puzzle .grid) (decisionsOf b) = unfold puzzleOf in whole-standing b w in
     subst (λ (z : Board). wellFormed (decideOf z i v .board) ≡ true) (whole-again b w)
-    (rw (decide-left p ok (w .count-low) s i v) (standing-well p ok (w .count-low) (after-standing (p .grid) (decide i v) s)))
+    (rw (decide-left l ok (w .count-low) s i v) (standing-well l ok (w .count-low) (after-standing (l .puzzle .grid) (decide i v) s)))
 
-module _ (q : Problem) (k : ℕ) (cells order : List ℕ) (n count x y : ℕ) (rest : List ℕ)
-    (e : size (gridOf q) ≡ n) (w : wellFormed (held q k cells order count) ≡ true) (low : x * 256 + y < 65536) where
+module _ (b₀ : Board) (cells order : List ℕ) (n count x y : ℕ) (rest : List ℕ)
+    (e : size (gridOf (b₀ .problem)) ≡ n) (w : wellFormed (withDecisions b₀ cells order count) ≡ true) (low : x * 256 + y < 65536) where
   value : (x * 256 + y) / 32768 ≤ 1
   value = omega arith
 
   -- a decision that is refused
   pub place-refused : {r : ℕ} {cells′ order′ : List ℕ} → Placing n count (x * 256 + y) cells order (Refused r) cells′ order′
-      → placedFrom (held q k cells order count) (x ∷ y ∷ rest) ≡ refusedWith r (held q k cells′ order′ count)
+      → placedFrom (withDecisions b₀ cells order count) (x ∷ y ∷ rest) ≡ refusedWith r (withDecisions b₀ cells′ order′ count)
   unfolding placedFrom onward area
   place-refused (bits h) = rw (ne-eqb ((x * 256 + y) % 32768 / 1024) 0 h) refl
   place-refused (off h l) =
-      rw (eq-eqb ((x * 256 + y) % 32768 / 1024) 0 h, ← decide-7 (held q k cells order count) ((x * 256 + y) % 1024) ((x * 256 + y) / 32768) w (rw e l)) refl
+      rw (eq-eqb ((x * 256 + y) % 32768 / 1024) 0 h, ← decide-7 (withDecisions b₀ cells order count) ((x * 256 + y) % 1024) ((x * 256 + y) / 32768) w (rw e l)) refl
   place-refused (twice h l d) =
-      rw (eq-eqb ((x * 256 + y) % 32768 / 1024) 0 h, ← decide-9 (held q k cells order count) ((x * 256 + y) % 1024) ((x * 256 + y) / 32768) w (rw e l) value d) refl
+      rw (eq-eqb ((x * 256 + y) % 32768 / 1024) 0 h, ← decide-9 (withDecisions b₀ cells order count) ((x * 256 + y) % 1024) ((x * 256 + y) / 32768) w (rw e l) value d) refl
 
   -- a decision that is put
   pub place-put : {cells′ order′ : List ℕ} → Placing n count (x * 256 + y) cells order Done cells′ order′
-      → (placedFrom (held q k cells order count) (x ∷ y ∷ rest) ≡ placedFrom (held q k cells′ order′ (count + 1)) rest) × (wellFormed (held q k cells′ order′ (count + 1)) ≡ true)
+      → (placedFrom (withDecisions b₀ cells order count) (x ∷ y ∷ rest) ≡ placedFrom (withDecisions b₀ cells′ order′ (count + 1)) rest) × (wellFormed (withDecisions b₀ cells′ order′ (count + 1)) ≡ true)
   unfolding placedFrom onward area placed
   place-put (put h l d) =
       let i : ℕ = (x * 256 + y) % 1024 in
       let v : ℕ = (x * 256 + y) / 32768 in
-      let b : Board = held q k cells order count in
+      let b : Board = withDecisions b₀ cells order count in
       let r = decide-done b i v w (rw e l) value d in
       (rw (eq-eqb ((x * 256 + y) % 32768 / 1024) 0 h, ← r) refl, subst (λ z. wellFormed (z .board) ≡ true) (sym r) (decide-well b w i v))
 

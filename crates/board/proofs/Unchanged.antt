@@ -1,11 +1,12 @@
--- What stands afterwards: a refused call leaves the board as it was handed in, and beside a refused record there is no board.
+-- What stands afterwards: a refused call leaves the board as it was handed in, and beside a refused opening there is no board.
 -- Assumes nothing.
 use Prim.Native.Nat.{ℕ, zero, suc}
 use native.Mathlib.Omega.{arith}
 use mathlib.Core.Path.{_≡_, refl}
 use mathlib.Core.Bool.{Bool, true, false, cond}
 use mathlib.Core.List.{List}
-use Rattle.record.specs.Record.{Outcome, ok, refused, Puzzle, readRecord}
+use Rattle.record.specs.Record.{Outcome, ok, refused}
+use Rattle.record.specs.Leaf.{Leaf, leafOf}
 use Rattle.record.specs.Problem.{numberOf}
 use Rattle.record.specs.declared.Answer.{Answer}
 use Rattle.record.specs.declared.Answer.the-variants.{Done, Refused}
@@ -57,13 +58,13 @@ unfolding decideAllOf
 all-unchanged b bytes = either-kept (wellFormed b) (placed-kept (placedFrom b bytes .answer) b (placedFrom b bytes) refl) (refused-kept 6 b)
 
 -- `open`: every later call on what stands beside a refusal is refused with 6
-pub no-board : (s : List ℕ) (k : ℕ) → openOf s .answer ≡ Refused k → wellFormed (openOf s .board) ≡ false
+pub no-board : (s : List ℕ) (e k : ℕ) → openOf s e .answer ≡ Refused k → wellFormed (openOf s e .board) ≡ false
 unfolding openOf opening
-no-board s k = go (readRecord s)
+no-board s e k = go (leafOf s e)
   where
-    go : (o : Outcome Puzzle) → opening o .answer ≡ Refused k → wellFormed (opening o .board) ≡ false
-    go (refused m) e = blank-refused
-    go (ok p) e = let z : _≡_ {A = ℕ} 0 1 = cc in absurd (omega arith)
+    go : (o : Outcome Leaf) → opening o .answer ≡ Refused k → wellFormed (opening o .board) ≡ false
+    go (refused m) h = blank-refused
+    go (ok l) h = let z : _≡_ {A = ℕ} 0 1 = cc in absurd (omega arith)
 
 -- the number of an answer is that of document 01's refusal, 0 where the call is done
 pub decide-answer : (b : Board) (i v : ℕ) → numberOf (decideOf b i v .answer) ≡ decideRefusal b i v

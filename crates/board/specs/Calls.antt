@@ -5,6 +5,7 @@ use mathlib.Core.Logic.{_↔_}
 use mathlib.Core.Path.{_≡_}
 use mathlib.Core.List.{List, [], _∷_}
 use Rattle.record.specs.Record.{Puzzle, Bytes}
+use Rattle.record.specs.Leaf.{Leaf}
 use Rattle.record.specs.Problem.{numberOf}
 use Rattle.record.specs.declared.Answer.the-variants.{Done}
 use Rattle.board.specs.declared.Board.{Board}
@@ -25,13 +26,14 @@ unfoldable pub leftAll : Board → List Call → Board
 leftAll b [] = b
 leftAll b (c ∷ cs) = leftAll (left b c) cs
 
--- some accepted record, a list of bytes, and some list of calls leave this board
+-- some accepted record, a list of bytes, some edition and some list of calls leave this board
 pub record Leaves (b : Board) : Type 0 where
   pub bytes : List ℕ
   pub low : Bytes bytes
+  pub edition : ℕ
   pub calls : List Call
-  pub accepted : openOf bytes .answer ≡ Done
-  pub leaves : leftAll (openOf bytes .board) calls ≡ b
+  pub accepted : openOf bytes edition .answer ≡ Done
+  pub leaves : leftAll (openOf bytes edition .board) calls ≡ b
 
 -- the decisions that the plain machine keeps after the calls cs
 abbrev pub standing : Puzzle → List Call → List Literal
@@ -41,15 +43,17 @@ standing p cs = afterAll (p .grid) cs []
 abbrev pub hintsAfter : Puzzle → List Call → ℕ
 hintsAfter p cs = min (howOften (p .grid) cs) 65535
 
--- what holds after the lists of calls cs and ds on boards opened from one accepted record s with puzzle p
-pub record AfterCalls (s : List ℕ) (p : Puzzle) (cs ds : List Call) : Type 0 where
+-- what holds after the lists of calls cs and ds on boards opened from one record s in one edition e, accepted as the leaf l
+pub record AfterCalls (s : List ℕ) (e : ℕ) (l : Leaf) (cs ds : List Call) : Type 0 where
   -- the board is that of the decisions that stand and of the accepted finds
-  pub board : leftAll (openOf s .board) cs ≡ boardOf p (standing p cs) (hintsAfter p cs)
+  pub board : leftAll (openOf s e .board) cs ≡ boardOf l (standing (l .puzzle) cs) (hintsAfter (l .puzzle) cs)
   -- so its count is the number of accepted finds since open, or 65,535 where they are more
-  pub count : leftAll (openOf s .board) cs .hints ≡ hintsAfter p cs
+  pub count : leftAll (openOf s e .board) cs .hints ≡ hintsAfter (l .puzzle) cs
+  -- the edition is kept
+  pub edition : leftAll (openOf s e .board) cs .edition ≡ e
   -- the next call's refusal is the machine's
-  pub decides : (i v : ℕ) → numberOf (decideOf (leftAll (openOf s .board) cs) i v .answer) ≡ refusal (p .grid) (decide i v) (standing p cs)
-  pub undoes : numberOf (undoOf (leftAll (openOf s .board) cs) .answer) ≡ refusal (p .grid) undo (standing p cs)
-  pub finds : (k : ℕ) → findRefusal (leftAll (openOf s .board) cs) k ≡ refusal (p .grid) (find k) (standing p cs)
+  pub decides : (i v : ℕ) → numberOf (decideOf (leftAll (openOf s e .board) cs) i v .answer) ≡ refusal (l .puzzle .grid) (decide i v) (standing (l .puzzle) cs)
+  pub undoes : numberOf (undoOf (leftAll (openOf s e .board) cs) .answer) ≡ refusal (l .puzzle .grid) undo (standing (l .puzzle) cs)
+  pub finds : (k : ℕ) → findRefusal (leftAll (openOf s e .board) cs) k ≡ refusal (l .puzzle .grid) (find k) (standing (l .puzzle) cs)
   -- the boards have equal cells exactly when the same decisions stand, whatever their counts
-  pub cells : SameCells (p .grid) (leftAll (openOf s .board) cs .cells) (leftAll (openOf s .board) ds .cells) ↔ SameDecisions (standing p cs) (standing p ds)
+  pub cells : SameCells (l .puzzle .grid) (leftAll (openOf s e .board) cs .cells) (leftAll (openOf s e .board) ds .cells) ↔ SameDecisions (standing (l .puzzle) cs) (standing (l .puzzle) ds)

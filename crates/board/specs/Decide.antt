@@ -25,19 +25,17 @@ decideRefusal b i v = cond (wellFormed b) (cond (ltb i (area b)) (cond (leb v 1)
 unfoldable pub undoRefusal : Board → ℕ
 undoRefusal b = cond (wellFormed b) (cond (eqb (b .decided) 0) 10 0) 6
 
+-- the board with these decisions in place of its own: the puzzle, the edition and the hints taken stay
+abbrev pub withDecisions : Board → List ℕ → List ℕ → ℕ → Board
+withDecisions b cells order n = record { problem = b .problem; edition = b .edition; cells = cells; order = order; decided = n; hints = b .hints }
+
 -- the board with one more decision
 unfoldable pub placed : Board → ℕ → ℕ → Board
-placed b i v = record { problem = b .problem; cells = set (b .cells) i v; order = set (b .order) (b .decided) i; decided = b .decided + 1; hints = b .hints }
+placed b i v = withDecisions b (set (b .cells) i v) (set (b .order) (b .decided) i) (b .decided + 1)
 
--- the board without its latest decision; nothing of it is left, and the hints taken stay counted
+-- the board without its latest decision; nothing of it is left
 unfoldable pub removed : Board → Board
-removed b = record {
-  problem = b .problem;
-  cells = set (b .cells) (getD (b .order) (b .decided - 1) 0) 2;
-  order = set (b .order) (b .decided - 1) 0;
-  decided = b .decided - 1;
-  hints = b .hints;
-}
+removed b = withDecisions b (set (b .cells) (getD (b .order) (b .decided - 1) 0) 2) (set (b .order) (b .decided - 1) 0) (b .decided - 1)
 
 -- the refusal k, which leaves the board, or where it is 0 the next board
 unfoldable pub answered : ℕ → Board → Board → Decided

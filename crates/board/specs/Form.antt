@@ -6,6 +6,7 @@ use lib.Dec.{leb}
 use lib.ListN.{take}
 use Rattle.grid.specs.Grid.{size}
 use Rattle.record.specs.Problem.{gridOf}
+use Rattle.record.specs.Leaf.{isEdition}
 use Rattle.form.specs.Form.{long, problemFormed, stated, ordered}
 use Rattle.board.specs.declared.Board.{Board}
 
@@ -16,6 +17,6 @@ countFormed n = leb n 65535
 -- a board that some list of calls on some record's board leaves
 unfoldable pub wellFormed : Board → Bool
 wellFormed b =
-    (problemFormed (b .problem) && (long (b .cells) && long (b .order) && countFormed (b .hints)))
+    (problemFormed (b .problem) && (long (b .cells) && long (b .order) && countFormed (b .hints) && isEdition (b .edition)))
     && (ordered (size (gridOf (b .problem))) (b .decided) (b .order)
     && stated (size (gridOf (b .problem))) (take (b .decided) (b .order)) (b .cells))

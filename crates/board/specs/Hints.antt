@@ -14,7 +14,7 @@ raised n = min (n + 1) 65535
 
 -- the board with the count n in place of its own
 unfoldable pub withHints : Board → ℕ → Board
-withHints b n = record { problem = b .problem; cells = b .cells; order = b .order; decided = b .decided; hints = n }
+withHints b n = record { problem = b .problem; edition = b .edition; cells = b .cells; order = b .order; decided = b .decided; hints = n }
 
 -- the board with one more hint counted
 unfoldable pub hinted : Board → Board

@@ -4,7 +4,7 @@ use Prim.Native.Nat.{ℕ, _/_, _%_, _≤_, _<_}
 use mathlib.Core.Bool.{true}
 use mathlib.Core.Path.{_≡_}
 use mathlib.Core.List.{List}
-use lib.ListN.{getD, set}
+use lib.ListN.{getD, set, replicate}
 use Rattle.grid.specs.Grid.{size}
 use Rattle.record.specs.Problem.{gridOf}
 use Rattle.record.specs.declared.Problem.{Problem}
@@ -12,6 +12,7 @@ use Rattle.record.specs.declared.Answer.{Answer}
 use Rattle.record.specs.declared.Answer.the-variants.{Done, Refused}
 use Rattle.board.specs.declared.Board.{Board}
 use Rattle.board.specs.Form.{wellFormed}
+use Rattle.board.specs.Decide.{withDecisions}
 
 -- what adding the decision in a word does: it is refused and nothing changes, or it is put
 pub data Placing (n count word : ℕ) (cells order : List ℕ) : Answer → List ℕ → List ℕ → Type 0 where
@@ -20,13 +21,12 @@ pub data Placing (n count word : ℕ) (cells order : List ℕ) : Answer → List
   twice : word % 32768 / 1024 ≡ 0 → word % 1024 < n → (getD cells (word % 1024) 0 ≡ 2 → ⊥) → Placing n count word cells order (Refused 9) cells order
   put : word % 32768 / 1024 ≡ 0 → word % 1024 < n → getD cells (word % 1024) 0 ≡ 2 → Placing n count word cells order Done (set cells (word % 1024) (word / 32768)) (set order count (word % 1024))
 
--- the board of a problem and a count of hints with these arrays
-abbrev pub held : Problem → ℕ → List ℕ → List ℕ → ℕ → Board
-held q hints cells order decided = record { problem = q; cells = cells; order = order; decided = decided; hints = hints }
+-- the board of a problem in an edition with nothing decided and no hint taken
+abbrev pub freshOf : Problem → ℕ → Board
+freshOf q e = record { problem = q; edition = e; cells = replicate 1024 2; order = replicate 1024 0; decided = 0; hints = 0 }
 
 -- the arrays are those of a well-formed board of n cells
 pub record Held (n decided : ℕ) (cells order : List ℕ) : Type 0 where
-  pub problem : Problem
-  pub hints : ℕ
-  pub area : size (gridOf problem) ≡ n
-  pub well : wellFormed (held problem hints cells order decided) ≡ true
+  pub board : Board
+  pub area : size (gridOf (board .problem)) ≡ n
+  pub well : wellFormed (withDecisions board cells order decided) ≡ true

@@ -1,4 +1,4 @@
-// A board: a problem with its decided cells and a count of hints. It is opened from a record; decide adds a decision, undo removes the latest.
+// A board: a problem in an edition, with its decided cells and a count of hints. It is opened from a record; decide adds a decision, undo removes the latest.
 use record::Answer;
 use record::Problem;
 ghost use mathlib.Core.Path.{_≡_};
@@ -7,17 +7,20 @@ ghost use Prim.Native.Nat.{ℕ, _≤_, _<_};
 ghost use lib.ListN.{getD, replicate};
 ghost use Rattle.grid.specs.Grid.{size};
 ghost use Rattle.record.specs.Problem.{gridOf};
-ghost use Rattle.board.specs.Kept.{openOf};
+ghost use Rattle.record.specs.Record.{refused};
+ghost use Rattle.record.specs.Leaf.{isEdition};
+ghost use Rattle.board.specs.Kept.{opening, openOf};
 ghost use Rattle.board.specs.Form.{wellFormed};
-ghost use Rattle.board.specs.Decide.{decideOf, undoOf, decideAllOf, placedFrom};
+ghost use Rattle.board.specs.Decide.{withDecisions, decideOf, undoOf, decideAllOf, placedFrom};
 ghost use Rattle.board.specs.Hints.{raised};
-ghost use Rattle.board.specs.Inside.{Placing, held, Held};
+ghost use Rattle.board.specs.Inside.{Placing, freshOf, Held};
 
-// A problem with its decisions. `cells` has the state of each cell (0 empty, 1 square, 2 undecided), with 2 behind the grid;
+// A problem with its decisions. `edition` is 1, or 2 for free growth; `cells` has the state of each cell (0 empty, 1 square, 2 undecided), with 2 behind the grid;
 // `order` has the decided cells in the order decided, `decided` of them, with 0 behind; `hints` counts the accepted
 // finds since open, up to 65,535.
 pub struct Board {
     pub problem: Problem,
+    pub edition: u8,
     pub cells: [u8; 1024],
     pub order: [u16; 1024],
     pub decided: usize,
@@ -81,9 +84,9 @@ pub fn place_all(
     bytes: &[u8],
 ) -> Placed
     requires { ⌜ Held n decided (now cells) (now order) ⌝ }
-    ensures { λ r. ⌜ ((q : Problem) (k : ℕ) → size (gridOf q) ≡ n → wellFormed (held q k (now (cells .entry)) (now (order .entry)) decided) ≡ true
-        → placedFrom (held q k (now (cells .entry)) (now (order .entry)) decided) (now (bytes .entry))
-        ≡ record { answer = r .answer; board = held q k (now (cells .exit)) (now (order .exit)) (r .decided) }) ⌝ }
+    ensures { λ r. ⌜ ((b : Board) → size (gridOf (b .problem)) ≡ n → wellFormed (withDecisions b (now (cells .entry)) (now (order .entry)) decided) ≡ true
+        → placedFrom (withDecisions b (now (cells .entry)) (now (order .entry)) decided) (now (bytes .entry))
+        ≡ record { answer = r .answer; board = withDecisions b (now (cells .exit)) (now (order .exit)) (r .decided) }) ⌝ }
 {
     let mut count = decided;
     let mut at = 0;
@@ -128,6 +131,41 @@ fn no_order() -> [u16; Board::CELLS]
     [0u16; Board::CELLS]
 }
 
+// A board of the problem with nothing decided and no hint taken.
+fn fresh(problem: Problem, edition: u8) -> Board
+    ensures { λ r. ⌜ r ≡ freshOf problem edition ⌝ }
+{
+    Board {
+        problem,
+        edition,
+        cells: undecided(),
+        order: no_order(),
+        decided: 0,
+        hints: 0,
+    }
+}
+
+// The answer to what is not opened.
+fn not_opened(k: u8) -> Opened
+    ensures { λ r. ⌜ r ≡ opening (refused k) ⌝ }
+{
+    let blank = record::refusal(k);
+    Opened {
+        answer: Answer::Refused(k),
+        board: fresh(blank.problem, 1),
+    }
+}
+
+// Whether there is such an edition: 1 or 2.
+pub fn is_edition(edition: u8) -> bool
+    ensures { λ r. ⌜ r ≡ isEdition edition ⌝ }
+{
+    if edition == 1 {
+        return true;
+    }
+    edition == 2
+}
+
 // The count of hints after one more; at 65,535 it stops rising.
 pub fn raised(count: u16) -> u16
     ensures { λ r. ⌜ r ≡ raised count ⌝ }
@@ -144,22 +182,21 @@ impl Board {
     // The most literals that a reason has.
     pub const LITERALS: usize = 3 * Board::CELLS + 1;
 
-    // The fresh board of a record, or the refusal of the record's first fault.
-    pub fn open(bytes: &[u8]) -> Opened
-        ensures { λ r. ⌜ r ≡ openOf (now (bytes .entry)) ⌝ }
+    // The fresh board of a record in an edition. Refused: the record's first fault, 1 to 5, then 16 an edition that is not 1 or 2.
+    pub fn open(bytes: &[u8], edition: u8) -> Opened
+        ensures { λ r. ⌜ r ≡ openOf (now (bytes .entry)) edition ⌝ }
     {
         let reading = record::read(bytes);
         let answer = reading.answer;
-        let problem = reading.problem;
+        if let Answer::Refused(k) = answer {
+            return not_opened(k);
+        }
+        if !is_edition(edition) {
+            return not_opened(16);
+        }
         Opened {
             answer,
-            board: Self {
-                problem,
-                cells: undecided(),
-                order: no_order(),
-                decided: 0,
-                hints: 0,
-            },
+            board: fresh(reading.problem, edition),
         }
     }
 
@@ -178,6 +215,9 @@ impl Board {
             &self.problem.arrows,
             &self.problem.ends,
         ) {
+            return false;
+        }
+        if !is_edition(self.edition) {
             return false;
         }
         decisions::good_decisions(height * width, self.decided, &self.cells, &self.order)
@@ -283,6 +323,7 @@ impl Board {
                 answer,
                 board: Board {
                     problem,
+                    edition: self.edition,
                     cells,
                     order,
                     decided: placed.decided,

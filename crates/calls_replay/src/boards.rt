@@ -49,6 +49,9 @@ fn problems_differ(p: Problem, q: Problem) -> bool
 pub fn boards_differ(x: Board, y: Board) -> bool
     ensures { λ r. ⌜ DiffersUnless r (x ≡ y) ⌝ }
 {
+    if x.edition != y.edition {
+        return true;
+    }
     if x.hints != y.hints {
         return true;
     }

@@ -10,9 +10,9 @@ use libc::STDOUT_FILENO;
 use record::Problem;
 
 // How many damages there are.
-const DAMAGES: usize = 32;
+const DAMAGES: usize = 35;
 
-// How many of them are to the problem; the others are to what is decided.
+// How many of them are to the problem; the others are to the edition and to what is decided.
 const TO_PROBLEM: usize = 20;
 
 // Whether an answer is not refusal 6 with the board b unchanged.
@@ -59,6 +59,7 @@ fn with_problem(b: Board, problem: Problem) -> Board {
     let order = b.order;
     Board {
         problem,
+        edition: b.edition,
         cells,
         order,
         decided: b.decided,
@@ -98,7 +99,7 @@ fn damaged_problem(q: Problem, k: usize) -> Problem {
     p
 }
 
-// The k-th damage to what is decided on a board: states, order, count, and what stands behind them.
+// The k-th damage to what is decided on a board: states, order, count, and what stands behind them; then to its edition.
 fn damaged_decisions(board: Board, k: usize) -> Board {
     let mut b = board;
     match k {
@@ -113,7 +114,10 @@ fn damaged_decisions(board: Board, k: usize) -> Board {
         8 => b.order[1023] = 1,
         9 => b.decided = 0,
         10 => b.decided = 2,
-        _ => b.decided = 1025,
+        11 => b.decided = 1025,
+        12 => b.edition = 0,
+        13 => b.edition = 3,
+        _ => b.edition = 255,
     }
     b
 }
@@ -142,7 +146,7 @@ fn count_accepted(b: Board) -> usize {
 
 // Prints how many damaged boards there are and how many of them are accepted.
 pub fn print() {
-    let o = Board::open(b"\x00\x80\x08\x00\x00\x05\xE0");
+    let o = Board::open(b"\x00\x80\x08\x00\x00\x05\xE0", 1);
     let fresh = o.board;
     let d = fresh.decide(0, 1);
     let b = d.board;

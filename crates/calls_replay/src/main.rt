@@ -1,9 +1,10 @@
 // Replays lists of calls from standard input: each call is made by value and on a lent board, and what it answers, leaves and writes is
 // compared with what the list says. Then come boards that no list of calls could leave, which every call must refuse.
 //
-// A list has a head of lines that begin with `#`, an empty line, and entries to its end: u16 length, that many bytes of record, u16 count of
-// hints that the fresh board is handed in with, u16 number of calls, and the calls, with a u16 behind each, the count of hints that the board
-// then has. A call is u8 kind, and for 0 (decide) u16 index, u8 value, u8 refusal; for 1 (undo) u8 refusal; for 2 (find) u16 length of the
+// A list has a head of lines that begin with `#`, an empty line, and entries to its end: u16 length, that many bytes of record, u8 edition, u8
+// refusal of open, and where that is 0 u16 count of hints that the fresh board is handed in with, u16 number of calls, and the calls, with a
+// u16 behind each, the count of hints that the board then has.
+// A call is u8 kind, and for 0 (decide) u16 index, u8 value, u8 refusal; for 1 (undo) u8 refusal; for 2 (find) u16 length of the
 // buffer, u8 refusal, and where that is 0 u16 number of literals (0 for no reason) and the u16 literals; for 3 (cells) a state for
 // each cell. A u16 has its high byte first; a refusal is 0 for none.
 mod boards;
@@ -196,18 +197,24 @@ fn run_calls(list: &[u8], start: usize, calls: usize, fresh: Board) -> Run {
     made
 }
 
-// Opens the record of the entry at `at`, and makes its calls on the board with the count of hints that it is handed in with.
+// Opens the record of the entry at `at`, and where it is accepted makes its calls on the board with the count of hints that it is handed in
+// with.
 fn run_entry(list: &[u8], at: usize) -> Run
     requires { ⌜ at < length (now list) ⌝ }
 {
-    let hints = at + 2 + replay::number_at(list, at);
-    if list.len() < hints + 4 {
+    let edition = at + 2 + replay::number_at(list, at);
+    if list.len() < edition + 2 {
         return Run::broken();
     }
-    let o = Board::open(&list[at + 2..hints]);
+    let o = Board::open(&list[at + 2..edition], list[edition]);
     let answer = o.answer;
     let mut board = o.board;
-    if replay::number(answer) != 0 {
+    let refusal = grid::byte(list[edition + 1]);
+    if refusal != 0 {
+        return Run::of(replay::number(answer) != refusal, edition + 2);
+    }
+    let hints = edition + 2;
+    if list.len() < hints + 4 || replay::number(answer) != 0 {
         return Run::broken();
     }
     board.hints = replay::number_at(list, hints) as u16;

@@ -54,8 +54,8 @@ module _ {g h : Grid} {f : ℕ → ℕ} (E : Embedding g h f) {P P′ Q Q′ : �
       let w : Moved h t (f x) (f (u .0)) = rw (u .2) (v .2) in
       (u .0, u .1, m x (u .0) (IP .below x p) (IQ .below (u .0) (u .1)) .1 w)
 
-  -- growth
-  pub grown-to : Grown g P Q → Grown h P′ Q′
+  -- growth, in any edition
+  pub grown-to : {e : ℕ} → Grown e g P Q → Grown e h P′ Q′
   grown-to w =
       let t = E .shift (w .shift) in
       let lost = IQ .below (w .extra) (w .within) in
@@ -67,14 +67,14 @@ module _ {g h : Grid} {f : ℕ → ℕ} (E : Embedding g h f) {P P′ Q Q′ : �
         added = λ y p m.
             let u = IP .from y p in
             w .added (u .0) (u .1) (t .1 (u .0) (w .extra) (IP .below (u .0) (u .1)) lost .1 (rw (u .2) m));
-        rest = λ y q ne.
+        rest = λ one y q ne.
             let u = IQ .from y q in
-            let v = w .rest (u .0) (u .1) (λ z. ne (sym (u .2) ∙ ap f z)) in
+            let v = w .rest one (u .0) (u .1) (λ z. ne (sym (u .2) ∙ ap f z)) in
             let k : Moved h (t .0) (f (v .0)) (f (u .0)) = t .1 (v .0) (u .0) (IP .below (v .0) (v .1)) (IQ .below (u .0) (u .1)) .0 (v .2) in
             (f (v .0), IP .to (v .0) (v .1), subst (Moved h (t .0) (f (v .0))) (u .2) k);
       }
 
-  pub grown-from : Grown h P′ Q′ → Grown g P Q
+  pub grown-from : {e : ℕ} → Grown e h P′ Q′ → Grown e g P Q
   grown-from w =
       let s = E .back (w .shift) in
       let x = IQ .from (w .extra) (w .within) in
@@ -87,8 +87,8 @@ module _ {g h : Grid} {f : ℕ → ℕ} (E : Embedding g h f) {P P′ Q Q′ : �
         added = λ c p m.
             let k : Moved h (w .shift) (f c) (f (x .0)) = s .1 c (x .0) (IP .below c p) lx .0 m in
             w .added (f c) (IP .to c p) (rw (x .2) at k);
-        rest = λ y q ne.
-            let v = w .rest (f y) (IQ .to y q) (λ z. ne (E .inj y (x .0) (IQ .below y q) lx (z ∙ sym (x .2)))) in
+        rest = λ one y q ne.
+            let v = w .rest one (f y) (IQ .to y q) (λ z. ne (E .inj y (x .0) (IQ .below y q) lx (z ∙ sym (x .2)))) in
             let u = IP .from (v .0) (v .1) in
             let k : Moved h (w .shift) (f (u .0)) (f y) = rw (u .2) (v .2) in
             (u .0, u .1, s .1 (u .0) y (IP .below (u .0) (u .1)) (IQ .below y q) .1 k);

@@ -37,17 +37,17 @@ module _ {v : Verdict} (n : ℕ) where
 pub verdict-told : {v w : Verdict} {n m : ℕ} {r : Bool} → v ≡ w → n ≡ m → DiffersUnless r (VerdictSo v n) → DiffersUnless r (VerdictSo w m)
 verdict-told e f d = rw (← e, ← f) d
 
-module _ (s decisions list : List ℕ) (at count : ℕ) (o : Opened) (e : o ≡ openOf s) (d : Decided) (f : d ≡ decideAllOf (o .board) decisions) where
+module _ (s : List ℕ) (edition : ℕ) (decisions list : List ℕ) (at count : ℕ) (o : Opened) (e : o ≡ openOf s edition) (d : Decided) (f : d ≡ decideAllOf (o .board) decisions) where
   -- what the decisions leave
-  made : d ≡ decideAllOf (openOf s .board) decisions
+  made : d ≡ decideAllOf (openOf s edition .board) decisions
   made = f ∙ ap (λ (p : Opened). decideAllOf (p .board) decisions) e
 
   -- decisions that are refused
-  pub not-decided : (k : ℕ) → k ≡ numberOf (d .answer) → (k ≡ 0 → ⊥) → EntrySo s decisions list at count → ⊥
+  pub not-decided : (k : ℕ) → k ≡ numberOf (d .answer) → (k ≡ 0 → ⊥) → EntrySo s edition decisions list at count → ⊥
   not-decided k n z x = z (n ∙ (ap (λ (p : Decided). numberOf (p .answer)) made ∙ x .decides))
 
   -- nothing is refused: then the board decides
-  pub board-decides : numberOf (o .answer) ≡ 0 → numberOf (d .answer) ≡ 0 → (r : Bool) → DiffersUnless r (BoardSo (d .board) list at count) → DiffersUnless r (EntrySo s decisions list at count)
+  pub board-decides : numberOf (o .answer) ≡ 0 → numberOf (d .answer) ≡ 0 → (r : Bool) → DiffersUnless r (BoardSo (d .board) list at count) → DiffersUnless r (EntrySo s edition decisions list at count)
   board-decides h k r b = (
     λ z. record {
       opens = ap (λ (p : Opened). numberOf (p .answer)) (sym e) ∙ h;
@@ -58,5 +58,5 @@ module _ (s decisions list : List ℕ) (at count : ℕ) (o : Opened) (e : o ≡ 
   )
 
 -- a record that is refused
-pub not-opened : (s decisions list : List ℕ) (at count : ℕ) (o : Opened) → o ≡ openOf s → (k : ℕ) → k ≡ numberOf (o .answer) → (k ≡ 0 → ⊥) → EntrySo s decisions list at count → ⊥
-not-opened s decisions list at count o e k n z x = z (n ∙ (ap (λ (p : Opened). numberOf (p .answer)) e ∙ x .opens))
+pub not-opened : (s : List ℕ) (edition : ℕ) (decisions list : List ℕ) (at count : ℕ) (o : Opened) → o ≡ openOf s edition → (k : ℕ) → k ≡ numberOf (o .answer) → (k ≡ 0 → ⊥) → EntrySo s edition decisions list at count → ⊥
+not-opened s edition decisions list at count o e k n z x = z (n ∙ (ap (λ (p : Opened). numberOf (p .answer)) e ∙ x .opens))

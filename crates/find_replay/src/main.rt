@@ -4,8 +4,8 @@
 //
 // A list has a head of lines that begin with `#`, an empty line, u16 rounds, how often find is called on each board before its answer is
 // compared, at least once: two runs that differ in it tell the time of a call. Then come entries to its end: u16 length, that many bytes of
-// record, u16 number of decisions, that many u16 decisions, u16 number of literals (0 for no reason), that many u16 literals, and a byte, 1
-// for a finished board and 0 for another. A u16 has its high byte first.
+// record, u8 edition, u16 number of decisions, that many u16 decisions, u16 number of literals (0 for no reason), that many u16 literals,
+// and a byte, 1 for a finished board and 0 for another. A u16 has its high byte first.
 use board::Board;
 use finds::Way;
 use finished::Verdict;
@@ -39,19 +39,20 @@ fn board_differs(list: &[u8], rounds: usize, at: usize, count: usize, board: Boa
         )
 }
 
-// Whether the board of a record with these decisions is refused, or differs from the list from `at` on.
+// Whether the board of a record in an edition with these decisions is refused, or differs from the list from `at` on.
 fn entry_differs(
     list: &[u8],
     rounds: usize,
     record: &[u8],
+    edition: u8,
     decisions: &[u8],
     at: usize,
     count: usize,
 ) -> bool
     requires { ⌜ at + 2 * count < length (now list) ⌝ }
-    ensures { λ r. ⌜ DiffersUnless r (EntrySo (now («record» .entry)) (now (decisions .entry)) (now (list .entry)) at count) ⌝ }
+    ensures { λ r. ⌜ DiffersUnless r (EntrySo (now («record» .entry)) edition (now (decisions .entry)) (now (list .entry)) at count) ⌝ }
 {
-    let o = Board::open(record);
+    let o = Board::open(record, edition);
     let answer = o.answer;
     let fresh = o.board;
     if replay::number(answer) != 0 {
@@ -67,10 +68,11 @@ fn entry_differs(
 fn run_entry(list: &[u8], rounds: usize, at: usize) -> Run
     requires { ⌜ at < length (now list) ⌝ }
 {
-    let decisions = at + 2 + replay::number_at(list, at);
-    if list.len() < decisions {
+    let edition = at + 2 + replay::number_at(list, at);
+    if list.len() <= edition {
         return Run::broken();
     }
+    let decisions = edition + 1;
     let literals = decisions + 2 + 2 * replay::number_at(list, decisions);
     if list.len() < literals {
         return Run::broken();
@@ -84,7 +86,8 @@ fn run_entry(list: &[u8], rounds: usize, at: usize) -> Run
         entry_differs(
             list,
             rounds,
-            &list[at + 2..decisions],
+            &list[at + 2..edition],
+            list[edition],
             &list[decisions + 2..literals],
             literals + 2,
             count,

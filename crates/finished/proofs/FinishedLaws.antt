@@ -14,7 +14,7 @@ use Rattle.grid.specs.Lists.{upto, all, filter, Distinct}
 use Rattle.grid.specs.Grid.{size}
 use Rattle.grid.specs.Cells.{square}
 use Rattle.grid.proofs.ListLaws.{and-true, true-and, all-mem, mem-all, upto-mem, mem-upto, filter-mem, mem-filter, distinct-filter}
-use Rattle.record.specs.Record.{Puzzle}
+use Rattle.record.specs.Leaf.{Leaf}
 use Rattle.record.specs.Valid.{Valid}
 use Rattle.record.proofs.FreshLaws.{arrow-distinct}
 use Rattle.groups.specs.Rules.{rulesTest}
@@ -88,36 +88,36 @@ module _ (cells a : List ℕ) where
 -- ---- the board
 
 -- of the cells of an accepted record's board, one state for each cell of the grid
-module _ (p : Puzzle) (v : Valid p) (cells : List ℕ) (long : length cells ≡ size (p .grid)) where
+module _ (l : Leaf) (v : Valid (l .puzzle)) (cells : List ℕ) (long : length cells ≡ size (l .puzzle .grid)) where
   at : ℕ → Bool
-  at i = keeps (getD (p .given) i 0) (getD cells i 0)
+  at i = keeps (getD (l .puzzle .given) i 0) (getD cells i 0)
 
-  test-finished : finishedTest p cells ≡ true → Finished p cells
+  test-finished : finishedTest l cells ≡ true → Finished l cells
   unfolding finishedTest allButRules keepsAll at
   test-finished t =
-      let s = and-true (all at (upto (size (p .grid))) && all (twoSquares cells) (p .arrows)) (rulesTest p cells) t in
-      let r = and-true (all at (upto (size (p .grid)))) (all (twoSquares cells) (p .arrows)) (s .0) in
-      let k : (i : ℕ) → i < size (p .grid) → Kept (getD (p .given) i 0) (getD cells i 0) =
-      λ i h. kept (getD (p .given) i 0) (getD cells i 0) (all-mem at (upto (size (p .grid))) (r .0) i (mem-upto (size (p .grid)) h)) in
+      let s = and-true (all at (upto (size (l .puzzle .grid))) && all (twoSquares cells) (l .puzzle .arrows)) (rulesTest l cells) t in
+      let r = and-true (all at (upto (size (l .puzzle .grid)))) (all (twoSquares cells) (l .puzzle .arrows)) (s .0) in
+      let k : (i : ℕ) → i < size (l .puzzle .grid) → Kept (getD (l .puzzle .given) i 0) (getD cells i 0) =
+      λ i h. kept (getD (l .puzzle .given) i 0) (getD cells i 0) (all-mem at (upto (size (l .puzzle .grid))) (r .0) i (mem-upto (size (l .puzzle .grid)) h)) in
       record {
         decided = record { long = long; each = λ i h. k i h .decided };
         kept = record { black = λ i h. k i h .black; given = λ i h. k i h .given };
-        rules = test-rules p cells long (s .1);
-        two = λ a m. test-two cells a (arrow-distinct (v .arrows) a m) (all-mem (twoSquares cells) (p .arrows) (r .1) a m);
+        rules = test-rules (l .puzzle) cells long (l .edition) (s .1);
+        two = λ a m. test-two cells a (arrow-distinct (v .arrows) a m) (all-mem (twoSquares cells) (l .puzzle .arrows) (r .1) a m);
       }
 
-  finished-test : Finished p cells → finishedTest p cells ≡ true
+  finished-test : Finished l cells → finishedTest l cells ≡ true
   unfolding finishedTest allButRules keepsAll at
   finished-test f =
       true-and
-      (true-and (mem-all at (upto (size (p .grid))) each) (mem-all (twoSquares cells) (p .arrows) (λ a m. two-test cells a (f .two a m))))
-      (rules-test p cells long (f .rules))
+      (true-and (mem-all at (upto (size (l .puzzle .grid))) each) (mem-all (twoSquares cells) (l .puzzle .arrows) (λ a m. two-test cells a (f .two a m))))
+      (rules-test (l .puzzle) cells long (l .edition) (f .rules))
     where
-      each : (i : ℕ) → List·Memᴰ i (upto (size (p .grid))) → So (keeps (getD (p .given) i 0) (getD cells i 0))
+      each : (i : ℕ) → List·Memᴰ i (upto (size (l .puzzle .grid))) → So (keeps (getD (l .puzzle .given) i 0) (getD cells i 0))
       each i m =
-          let h = upto-mem (size (p .grid)) m in
-          keep (getD (p .given) i 0) (getD cells i 0) (record { decided = f .decided .each i h; black = f .kept .black i h; given = f .kept .given i h })
+          let h = upto-mem (size (l .puzzle .grid)) m in
+          keep (getD (l .puzzle .given) i 0) (getD cells i 0) (record { decided = f .decided .each i h; black = f .kept .black i h; given = f .kept .given i h })
 
   -- the test passes exactly where the board is finished
-  pub finished-means : (finishedTest p cells ≡ true) ↔ Finished p cells
+  pub finished-means : (finishedTest l cells ≡ true) ↔ Finished l cells
   finished-means = (test-finished, finished-test)

@@ -14,17 +14,18 @@ use borrow.Author.Tests.{eqb-true, eq-eqb}
 use Rattle.grid.specs.Link.{here}
 use Rattle.grid.specs.Grid.{size}
 use Rattle.grid.specs.Cells.{square}
-use Rattle.record.specs.Record.{Puzzle, ok, readRecord}
+use Rattle.record.specs.Record.{ok}
+use Rattle.record.specs.Leaf.{Leaf, leafOf}
 use Rattle.record.specs.Valid.{ValidArrows}
 use Rattle.record.proofs.LineLaws.{valid-arrows}
-use Rattle.record.proofs.RecordLaws.{record-valid}
+use Rattle.record.proofs.LeafLaws.{leaf-valid}
 use Rattle.board.specs.Board.{Full}
 use Rattle.groups.specs.Rules.{BlockRules}
 use Rattle.finished.specs.Finished.{KeepsGiven, TwoSquares, TwoBlocks, Finished}
 
-module _ (p : Puzzle) (lines : ValidArrows (p .grid) (p .arrows)) (cells : List ℕ) (rules : BlockRules p cells) (a : List ℕ) (m : List·Memᴰ a (p .arrows)) where
+module _ (l : Leaf) (lines : ValidArrows (l .puzzle .grid) (l .puzzle .arrows)) (cells : List ℕ) (rules : BlockRules l cells) (a : List ℕ) (m : List·Memᴰ a (l .puzzle .arrows)) where
   -- a block has exactly one arrow cell, so two squares of an arrow are not in one
-  squares-blocks : TwoSquares cells a → TwoBlocks p cells a
+  squares-blocks : TwoSquares cells a → TwoBlocks (l .puzzle) cells a
   squares-blocks t =
       let o = rules .one (t .first) (lines .on a m (t .first) (t .on .0)) (t .squares .0) in
       record {
@@ -36,22 +37,22 @@ module _ (p : Puzzle) (lines : ValidArrows (p .grid) (p .arrows)) (cells : List 
       }
 
   -- a square is in its own block, so those of two blocks are two
-  blocks-squares : TwoBlocks p cells a → TwoSquares cells a
+  blocks-squares : TwoBlocks (l .puzzle) cells a → TwoSquares cells a
   blocks-squares t = record { first = t .first; second = t .second; on = t .on; squares = t .squares; apart = λ e. t .apart (rw (← e) (here (t .squares .0))) }
 
--- a full board of an accepted record is finished exactly when black and given cells are kept, the block rules hold and each arrow passes two
+-- a full board of an accepted record is finished in its edition exactly when black and given cells are kept, the block rules hold and each arrow passes two
 -- different blocks or more
-pub finished-blocks : (s : List ℕ) (p : Puzzle) → readRecord s ≡ ok p → (cells : List ℕ) → Full (p .grid) cells
-    → Finished p cells ↔ (KeepsGiven p cells × BlockRules p cells × ((a : List ℕ) → List·Memᴰ a (p .arrows) → TwoBlocks p cells a))
-finished-blocks s p e cells full =
-    let lines = valid-arrows p (record-valid s e) in (
-      λ f. (f .kept, f .rules, λ a m. squares-blocks p lines cells (f .rules) a m (f .two a m)),
-      λ w. record { decided = full; kept = w .0; rules = w .1; two = λ a m. blocks-squares p lines cells (w .1) a m (w .2 a m) },
+pub finished-blocks : (s : List ℕ) (e : ℕ) (l : Leaf) → leafOf s e ≡ ok l → (cells : List ℕ) → Full (l .puzzle .grid) cells
+    → Finished l cells ↔ (KeepsGiven (l .puzzle) cells × BlockRules l cells × ((a : List ℕ) → List·Memᴰ a (l .puzzle .arrows) → TwoBlocks (l .puzzle) cells a))
+finished-blocks s e l k cells full =
+    let lines = valid-arrows (l .puzzle) (leaf-valid s e k .puzzle) in (
+      λ f. (f .kept, f .rules, λ a m. squares-blocks l lines cells (f .rules) a m (f .two a m)),
+      λ w. record { decided = full; kept = w .0; rules = w .1; two = λ a m. blocks-squares l lines cells (w .1) a m (w .2 a m) },
     )
 
 -- a puzzle with an arrow of one cell is never finished
-pub one-cell-never : (p : Puzzle) (i : ℕ) → List·Memᴰ (i ∷ []) (p .arrows) → (cells : List ℕ) → ¬ Finished p cells
-one-cell-never p i m cells f =
+pub one-cell-never : (l : Leaf) (i : ℕ) → List·Memᴰ (i ∷ []) (l .puzzle .arrows) → (cells : List ℕ) → ¬ Finished l cells
+one-cell-never l i m cells f =
     let t = f .two (i ∷ []) m in
     t .apart (List·Memᴰ·eq-of-singleton (t .on .0) ∙ sym (List·Memᴰ·eq-of-singleton (t .on .1)))
 
@@ -63,12 +64,12 @@ not-one x h n = go (ℕ-discrete x 1)
     go (no m) = omega arith
 
 -- a full board of a puzzle with no arrow is finished exactly when all its cells are empty and no square is given
-pub no-arrow : (p : Puzzle) → p .arrows ≡ [] → (cells : List ℕ) → Full (p .grid) cells
-    → Finished p cells ↔ (((i : ℕ) → i < size (p .grid) → getD cells i 0 ≡ 0) × ((i : ℕ) → i < size (p .grid) → ¬ (getD (p .given) i 0 ≡ 2)))
+pub no-arrow : (l : Leaf) → l .puzzle .arrows ≡ [] → (cells : List ℕ) → Full (l .puzzle .grid) cells
+    → Finished l cells ↔ (((i : ℕ) → i < size (l .puzzle .grid) → getD cells i 0 ≡ 0) × ((i : ℕ) → i < size (l .puzzle .grid) → ¬ (getD (l .puzzle .given) i 0 ≡ 2)))
 unfolding square
-no-arrow p e cells full = (
-  λ f. let none : (i : ℕ) → i < size (p .grid) → ¬ (square cells i ≡ true) = λ i h q. let o = f .rules .one i h q in nowhere (o .arrow) in
-      let empty : (i : ℕ) → i < size (p .grid) → getD cells i 0 ≡ 0 = λ i h. not-one (getD cells i 0) (full .each i h) (none i h) in
+no-arrow l e cells full = (
+  λ f. let none : (i : ℕ) → i < size (l .puzzle .grid) → ¬ (square cells i ≡ true) = λ i h q. let o = f .rules .one i h q in nowhere (o .arrow) in
+      let empty : (i : ℕ) → i < size (l .puzzle .grid) → getD cells i 0 ≡ 0 = λ i h. not-one (getD cells i 0) (full .each i h) (none i h) in
       (empty, λ i h g. omega (arith, empty i h, f .kept .given i h g)),
   λ w. record {
     decided = full;
@@ -81,5 +82,5 @@ no-arrow p e cells full = (
   },
 )
   where
-    nowhere : {i : ℕ} → (a : List ℕ) × List·Memᴰ a (p .arrows) × List·Memᴰ i a → ⊥
+    nowhere : {i : ℕ} → (a : List ℕ) × List·Memᴰ a (l .puzzle .arrows) × List·Memᴰ i a → ⊥
     nowhere o = List·Memᴰ·not-nil (rw e at (o .1))

@@ -19,6 +19,7 @@ use Rattle.grid.proofs.ListLaws.{and-true, all-mem, mem-upto, upto-mem, so-fals
 use Rattle.grid.proofs.AppendLaws.{all-agree, filter-agree}
 use Rattle.grid.proofs.CellLaws.{square-taken}
 use Rattle.grid.proofs.GridLaws.{size-most}
+use Rattle.record.specs.Leaf.{Leaf, inEdition}
 use Rattle.record.specs.Problem.{puzzleOf, gridOf}
 use Rattle.record.specs.declared.Problem.{Problem}
 use Rattle.record.proofs.LineLaws.{valid-arrows}
@@ -36,7 +37,7 @@ use Rattle.literals.specs.Buffer.{findingBy}
 use Rattle.literals.specs.Inside.{FoundAs}
 use Rattle.literals.specs.declared.Finding.the-variants.{Nothing, Reason}
 use Rattle.reasons.specs.Reasons.{findReason}
-use Rattle.reasons.specs.Find.{cellsOn}
+use Rattle.reasons.specs.Find.{leafOn, cellsOn}
 use Rattle.reasons.proofs.BoardArrays.{problem-arrays, codes-aside}
 use Rattle.reasons.proofs.Sound.{complete}
 use Rattle.finished.specs.Finished.{Finished, keeps, keepsAll, twoSquares, allButRules, finishedTest}
@@ -50,7 +51,11 @@ module _ (q : Problem) (f : Formed q) where
   unfolding size gridOf
   few = size-most (gridOf q) (f .sizes .high .0) (f .sizes .high .1)
 
-  module _ (states : List ℕ) (room : length states ≡ 1024) where
+  module _ (edition : ℕ) (states : List ℕ) (room : length states ≡ 1024) where
+    -- what the rules read
+    abbrev leaf : Leaf
+    leaf = inEdition edition (puzzleOf q)
+
     -- the states of the cells of the grid
     abbrev cells : List ℕ
     cells = take (q .height * q .width) states
@@ -88,7 +93,7 @@ module _ (q : Problem) (f : Formed q) where
     but-rules = rw (kept-same, two-same (linesOf (q .arrows) (q .ends) (q .count)) (problem-arrays q f .drawn .inside)) refl
 
     -- something else than the block rules fails
-    pub fails-before : onArrays ≡ false → false ≡ finishedTest (puzzleOf q) cells
+    pub fails-before : onArrays ≡ false → false ≡ finishedTest leaf cells
     unfolding finishedTest
     fails-before k = rw (sym but-rules ∙ k) refl
 
@@ -115,42 +120,42 @@ module _ (q : Problem) (f : Formed q) where
       }
 
       -- there is no reason exactly when the block rules hold
-      rules : (findReason (puzzleOf q) cells ≡ none) ↔ BlockRules (puzzleOf q) cells
+      rules : (findReason leaf cells ≡ none) ↔ BlockRules leaf cells
       unfolding undecided setting
-      rules = complete setting (λ c u. omega (arith, eqb-true (getD cells c 0) 2 u, each c))
+      rules = complete edition setting (λ c u. omega (arith, eqb-true (getD cells c 0) 2 u, each c))
 
       -- the verdict is that of the block rules
-      by-rules : (t : Bool) → rulesTest (puzzleOf q) cells ≡ t → t ≡ finishedTest (puzzleOf q) cells
+      by-rules : (t : Bool) → rulesTest leaf cells ≡ t → t ≡ finishedTest leaf cells
       unfolding finishedTest
       by-rules t r = rw (sym but-rules ∙ k, r) refl
 
-      by-reason : (r : Found) → findReason (puzzleOf q) cells ≡ r → (findingBy 0 r ≡ Nothing → true ≡ finishedTest (puzzleOf q) cells) × ((m : ℕ) → findingBy 0 r ≡ Reason m → false ≡ finishedTest (puzzleOf q) cells)
+      by-reason : (r : Found) → findReason leaf cells ≡ r → (findingBy 0 r ≡ Nothing → true ≡ finishedTest leaf cells) × ((m : ℕ) → findingBy 0 r ≡ Reason m → false ≡ finishedTest leaf cells)
       unfolding findingBy
       by-reason none e = (
-        λ _. by-rules true (rules-test (puzzleOf q) cells long (rules .0 e)),
+        λ _. by-rules true (rules-test (puzzleOf q) cells long edition (rules .0 e)),
         λ m x. let z : _≡_ {A = ℕ} 0 1 = cc in absurd (omega arith),
       )
       by-reason (some r) e = (
         λ x. let z : _≡_ {A = ℕ} 0 1 = cc in absurd (omega arith),
-        λ m _. by-rules false (so-false (rulesTest (puzzleOf q) cells) (λ t. clash (rules .1 (test-rules (puzzleOf q) cells long t)))),
+        λ m _. by-rules false (so-false (rulesTest leaf cells) (λ t. clash (rules .1 (test-rules (puzzleOf q) cells long edition t)))),
       )
         where
-          clash : findReason (puzzleOf q) cells ≡ none → ⊥
+          clash : findReason leaf cells ≡ none → ⊥
           clash n = let z : _≡_ {A = ℕ} 0 1 = cc in omega arith
 
       -- the reason is looked for by the grid and the arrows alone
-      same : findReason (puzzleWith (sized (q .height) (q .width)) (linesOf (q .arrows) (q .ends) (q .count))) cells ≡ findReason (puzzleOf q) cells
+      same : findReason (inEdition edition (puzzleWith (sized (q .height) (q .width)) (linesOf (q .arrows) (q .ends) (q .count)))) cells ≡ findReason leaf cells
       unfolding puzzleOf gridOf
-      same = codes-aside (puzzleOf q) cells
+      same = codes-aside edition (puzzleOf q) cells
 
       -- what the search for it on the arrays tells
-      pub no-reason : {before after : List ℕ} → FoundAs (findReason (puzzleWith (sized (q .height) (q .width)) (linesOf (q .arrows) (q .ends) (q .count))) cells) before after Nothing
-          → true ≡ finishedTest (puzzleOf q) cells
-      no-reason x = by-reason (findReason (puzzleOf q) cells) refl .0 (rw same at (sym (x .answer)))
+      pub no-reason : {before after : List ℕ} → FoundAs (findReason (inEdition edition (puzzleWith (sized (q .height) (q .width)) (linesOf (q .arrows) (q .ends) (q .count)))) cells) before after Nothing
+          → true ≡ finishedTest leaf cells
+      no-reason x = by-reason (findReason leaf cells) refl .0 (rw same at (sym (x .answer)))
 
-      pub some-reason : {before after : List ℕ} {m : ℕ} → FoundAs (findReason (puzzleWith (sized (q .height) (q .width)) (linesOf (q .arrows) (q .ends) (q .count))) cells) before after (Reason m)
-          → false ≡ finishedTest (puzzleOf q) cells
-      some-reason {m} x = by-reason (findReason (puzzleOf q) cells) refl .1 m (rw same at (sym (x .answer)))
+      pub some-reason : {before after : List ℕ} {m : ℕ} → FoundAs (findReason (inEdition edition (puzzleWith (sized (q .height) (q .width)) (linesOf (q .arrows) (q .ends) (q .count)))) cells) before after (Reason m)
+          → false ≡ finishedTest leaf cells
+      some-reason {m} x = by-reason (findReason leaf cells) refl .1 m (rw same at (sym (x .answer)))
 
 -- ---- of a board
 
@@ -160,16 +165,16 @@ unfolding finishedOf
 finished-ill b h = rw h refl
 
 -- what its arrays say
-pub finished-by : (b : Board) → wellFormed b ≡ true → (t : Bool) → t ≡ finishedTest (puzzleOf (b .problem)) (take (b .problem .height * b .problem .width) (b .cells)) → verdict t ≡ finishedOf b
+pub finished-by : (b : Board) → wellFormed b ≡ true → (t : Bool) → t ≡ finishedTest (leafOn b) (take (b .problem .height * b .problem .width) (b .cells)) → verdict t ≡ finishedOf b
 unfolding finishedOf cellsOn gridOf size
 finished-by b h t e = rw (h, ← e) refl
 
 -- `finished` says yes of a well-formed board exactly when it is finished
-pub finished-exact : (b : Board) → wellFormed b ≡ true → (finishedOf b ≡ verdicts.Yes) ↔ Finished (puzzleOf (b .problem)) (cellsOn b)
+pub finished-exact : (b : Board) → wellFormed b ≡ true → (finishedOf b ≡ verdicts.Yes) ↔ Finished (leafOn b) (cellsOn b)
 unfolding finishedOf
 finished-exact b h =
-    let m = finished-means (puzzleOf (b .problem)) (formed-valid (b .problem) (whole-is b h .problem)) (cellsOn b) (unfold cellsOn gridOf size in long (b .problem) (whole-is b h .problem) (b .cells) (whole-is b h .cells-long)) in
-    (λ e. m .0 (yes-passes (finishedTest (puzzleOf (b .problem)) (cellsOn b)) (rw h at e)), λ f. rw (h, m .1 f) (unfold verdict in refl))
+    let m = finished-means (leafOn b) (formed-valid (b .problem) (whole-is b h .problem)) (cellsOn b) (unfold cellsOn gridOf size in long (b .problem) (whole-is b h .problem) (b .edition) (b .cells) (whole-is b h .cells-long)) in
+    (λ e. m .0 (yes-passes (finishedTest (leafOn b) (cellsOn b)) (rw h at e)), λ f. rw (h, m .1 f) (unfold verdict in refl))
   where
     yes-passes : (t : Bool) → verdict t ≡ verdicts.Yes → t ≡ true
     yes-passes true e = refl

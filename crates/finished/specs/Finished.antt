@@ -10,6 +10,7 @@ use Rattle.grid.specs.Lists.{upto, all, filter}
 use Rattle.grid.specs.Grid.{size}
 use Rattle.grid.specs.Cells.{square}
 use Rattle.record.specs.Record.{Puzzle}
+use Rattle.record.specs.Leaf.{Leaf}
 use Rattle.board.specs.Board.{Full}
 use Rattle.groups.specs.Rules.{SameBlock, BlockRules, rulesTest}
 
@@ -35,11 +36,11 @@ abbrev pub TwoBlocks : Puzzle → List ℕ → List ℕ → Type 0
 TwoBlocks p cells = TwoOn (λ i j. ¬ SameBlock (p .grid) cells i j) cells
 
 -- the cells of a finished board
-pub record Finished (p : Puzzle) (cells : List ℕ) : Type 0 where
-  pub decided : Full (p .grid) cells
-  pub kept : KeepsGiven p cells
-  pub rules : BlockRules p cells
-  pub two : (a : List ℕ) → List·Memᴰ a (p .arrows) → TwoSquares cells a
+pub record Finished (l : Leaf) (cells : List ℕ) : Type 0 where
+  pub decided : Full (l .puzzle .grid) cells
+  pub kept : KeepsGiven (l .puzzle) cells
+  pub rules : BlockRules l cells
+  pub two : (a : List ℕ) → List·Memᴰ a (l .puzzle .arrows) → TwoSquares cells a
 
 -- the same as a test
 
@@ -60,5 +61,5 @@ unfoldable pub allButRules : Puzzle → List ℕ → Bool
 allButRules p cells = keepsAll (size (p .grid)) (p .given) cells && all (twoSquares cells) (p .arrows)
 
 -- all that is asked of it
-unfoldable pub finishedTest : Puzzle → List ℕ → Bool
-finishedTest p cells = allButRules p cells && rulesTest p cells
+unfoldable pub finishedTest : Leaf → List ℕ → Bool
+finishedTest l cells = allButRules (l .puzzle) cells && rulesTest l cells

@@ -1,10 +1,9 @@
 -- What `finished` answers.
 -- Assumes nothing.
 use mathlib.Core.Bool.{Bool, true, false, cond}
-use Rattle.record.specs.Problem.{puzzleOf}
 use Rattle.board.specs.Form.{wellFormed}
 use Rattle.board.specs.declared.Board.{Board}
-use Rattle.reasons.specs.Find.{cellsOn}
+use Rattle.reasons.specs.Find.{leafOn, cellsOn}
 use Rattle.finished.specs.declared.Verdict.{Verdict}
 use Rattle.finished.specs.declared.Verdict.the-variants.{Yes, No, Refused}
 use Rattle.finished.specs.Finished.{finishedTest}
@@ -16,4 +15,4 @@ verdict false = No
 
 -- yes exactly when the board is finished; 6 for a board that no list of calls could leave
 unfoldable pub finishedOf : Board → Verdict
-finishedOf b = cond (wellFormed b) (verdict (finishedTest (puzzleOf (b .problem)) (cellsOn b))) (Refused 6)
+finishedOf b = cond (wellFormed b) (verdict (finishedTest (leafOn b) (cellsOn b))) (Refused 6)

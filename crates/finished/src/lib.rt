@@ -8,6 +8,7 @@ ghost use lib.ListN.{length, take};
 ghost use lib.Seq.{slice};
 ghost use Rattle.grid.specs.Lists.{all, filter};
 ghost use Rattle.grid.specs.Cells.{square};
+ghost use Rattle.record.specs.Leaf.{inEdition};
 ghost use Rattle.record.specs.Problem.{puzzleOf};
 ghost use Rattle.form.specs.Form.{problemFormed};
 ghost use Rattle.groups.specs.Arrays.{CellArray, linesOf, Drawn};
@@ -105,9 +106,10 @@ pub fn all_but_rules<'a>(
     kept & two
 }
 
-// Whether a board is finished, on the arrays of a record that is known to be accepted and the states of its cells. On a board whose
+// Whether a board is finished in an edition, on the arrays of a record that is known to be accepted and the states of its cells. On a board whose
 // cells are all decided the block rules hold exactly when there is no reason against it.
 pub fn is_finished<'a>(
+    edition: u8,
     codes: &'a [u8; 1024],
     cells: &'a [u8; 1024],
     arrows: &'a [u16; 1024],
@@ -116,14 +118,23 @@ pub fn is_finished<'a>(
     h: usize,
     w: usize,
 ) -> bool
-    requires { ⌜ (length (now cells) ≡ 1024) × (problemFormed (problemOn h w (now codes) (now arrows) (now ends) number) ≡ true) ⌝ }
-    ensures { λ r. ⌜ r ≡ finishedTest (puzzleOf (problemOn h w (now (codes .entry)) (now (arrows .entry)) (now (ends .entry)) number)) (take (h * w) (now (cells .entry))) ⌝ }
+    requires { ⌜ (edition ≡ 0 → ⊥) × (length (now cells) ≡ 1024) × (problemFormed (problemOn h w (now codes) (now arrows) (now ends) number) ≡ true) ⌝ }
+    ensures { λ r. ⌜ r ≡ finishedTest (inEdition edition (puzzleOf (problemOn h w (now (codes .entry)) (now (arrows .entry)) (now (ends .entry)) number))) (take (h * w) (now (cells .entry))) ⌝ }
 {
     if !all_but_rules(codes, cells, arrows, ends, number, h * w) {
         return false;
     }
     let mut buffer = reasons::no_literals();
-    let found = inconsistency::find_inconsistency(cells, arrows, ends, number, h, w, &mut buffer);
+    let found = inconsistency::find_inconsistency(
+        edition,
+        cells,
+        arrows,
+        ends,
+        number,
+        h,
+        w,
+        &mut buffer,
+    );
     match found {
         Finding::Nothing => true,
         Finding::Reason(_) => false,
@@ -140,6 +151,7 @@ pub fn finished(board: Board) -> Verdict
         return Verdict::Refused(6);
     }
     let yes = is_finished(
+        board.edition,
         &board.problem.cells,
         &board.cells,
         &board.problem.arrows,

@@ -1,13 +1,13 @@
 -- The test of the block rules passes exactly where they hold.
 -- Assumes nothing.
-use mathlib.Core.Bool.{So, true, _&&_}
-use Prim.Native.Nat.{ℕ, _+_, _<_}
+use mathlib.Core.Bool.{So, Bool, true, false, cond, _&&_}
+use Prim.Native.Nat.{ℕ, suc, _+_, _≤_, _<_}
 use native.Mathlib.Omega.{arith}
 use mathlib.Core.Path.{_≡_, refl}
 use mathlib.Core.List.{List, _∷_, _++_, List·Memᴰ}
-use lib.Dec.{eqb}
+use lib.Dec.{eqb, ltb}
 use lib.ListN.{length, getD}
-use borrow.Author.Tests.{eqb-true, eq-eqb}
+use borrow.Author.Tests.{eqb-true, eq-eqb, eqb-false, ltb-true, lt-ltb}
 use Rattle.grid.specs.Count.{count}
 use Rattle.grid.proofs.Count.{length-filter}
 use Rattle.grid.proofs.Finite.{dec-linked}
@@ -20,11 +20,29 @@ use Rattle.record.specs.Record.{Puzzle}
 use Rattle.grid.specs.Cells.{square}
 use Rattle.grid.proofs.CellLaws.{square-below}
 use Rattle.groups.proofs.GroupLaws.{group-distinct, label-own, group-linked, linked-group, names-own, own-names}
-use Rattle.groups.proofs.Shift.{contains-map, contains-fits, fits-contains, grown-size, size-grown}
+use Rattle.groups.proofs.Shift.{contains-map, contains-fits, fits-contains, grown-more, grown-most, size-grown}
 use Rattle.groups.specs.Groups.{labels, group, names}
 use Rattle.groups.specs.Arrows.{onArrow, Pair, pairs}
-use Rattle.groups.specs.Rules.{fits, SameBlock, OneArrowCell, Grown, Next, BlockRules, oneTest, grownTest, rulesTest, Below, taking}
+use Rattle.record.specs.Leaf.{inEdition}
+use Rattle.groups.specs.Rules.{fits, SameBlock, OneArrowCell, Grown, Next, BlockRules, oneTest, moreTest, grownTest, rulesTest, Below, taking}
 use Rattle.groups.proofs.ArrowLaws.{arrow-so, so-arrow, pairs-parted, parted-pairs}
+
+-- what the test of two sizes means
+more-so : (e : ℕ) (n k : ℕ) → moreTest e n k ≡ true → (n < k) × (e ≡ 1 → k ≤ suc n)
+unfolding moreTest
+more-so e n k h = go (eqb e 1) refl h
+  where
+    go : (t : Bool) → eqb e 1 ≡ t → cond t (eqb k (n + 1)) (ltb n k) ≡ true → (n < k) × (e ≡ 1 → k ≤ suc n)
+    go true _ h = (omega (arith, eqb-true k (n + 1) h), λ _. omega (arith, eqb-true k (n + 1) h))
+    go false z h = (ltb-true n k h, λ q. absurd (eqb-false e 1 z q))
+
+so-more : (e : ℕ) (n k : ℕ) → n < k → (e ≡ 1 → k ≤ suc n) → moreTest e n k ≡ true
+unfolding moreTest
+so-more e n k h f = go (eqb e 1) refl
+  where
+    go : (t : Bool) → eqb e 1 ≡ t → cond t (eqb k (n + 1)) (ltb n k) ≡ true
+    go true z = eq-eqb k (n + 1) (omega (arith, h, f (eqb-true e 1 z)))
+    go false _ = lt-ltb n k h
 
 module _ (p : Puzzle) (cells : List ℕ) (n : length cells ≡ size (p .grid)) where
   abbrev g : Grid
@@ -103,44 +121,49 @@ module _ (p : Puzzle) (cells : List ℕ) (n : length cells ≡ size (p .grid)) w
       (parted-pairs cells (c .before ++ (i ∷ (c .between ++ (j ∷ c .behind)))) (record { last = i; between = c .between; cur = j })
       (record { before = c .before; behind = c .behind; whole = refl; first = c .first; second = c .second; none = c .none }))
 
-  larger : (i j : ℕ) → So (square cells i) → So (square cells j) → Grown g (SameBlock g cells i) (SameBlock g cells j) → length (blockOf j) ≡ length (blockOf i) + 1
-  larger i j si sj r = omega (arith, block-size i si, block-size j sj, grown-size g (dec-block i) (dec-block j) (below i) (below j) r)
+  module _ (e : ℕ) where
+    larger : (i j : ℕ) → So (square cells i) → So (square cells j) → Grown e g (SameBlock g cells i) (SameBlock g cells j) → moreTest e (length (blockOf i)) (length (blockOf j)) ≡ true
+    larger i j si sj r = so-more e (length (blockOf i)) (length (blockOf j))
+        (omega (arith, block-size i si, block-size j sj, grown-more g (dec-block i) (dec-block j) (below i) (below j) r))
+        (λ h. omega (arith, block-size i si, block-size j sj, grown-most g (dec-block i) (dec-block j) (below i) (below j) h r))
 
-  -- where the rules hold the test passes
-  pub rules-test : BlockRules p cells → rulesTest p cells ≡ true
-  unfolding rulesTest lab grownTest blockOf
-  rules-test c = true-and (mem-all (oneTest p cells lab) (names g (square cells) lab) one) (mem-all (grownTest p cells lab) (flatMap (pairs cells) arrows) grow)
-    where
-      one : (f : ℕ) → List·Memᴰ f (names g (square cells) lab) → oneTest p cells lab f ≡ true
-      one f m =
-          let r = names-own g (square cells) f m in
-          rw (r .2) at (one-test f (r .1) (c .one f (r .0) (r .1)))
+    -- where the rules hold the test passes
+    pub rules-test : BlockRules (inEdition e p) cells → rulesTest (inEdition e p) cells ≡ true
+    unfolding rulesTest lab grownTest blockOf
+    rules-test c = true-and (mem-all (oneTest p cells lab) (names g (square cells) lab) one) (mem-all (grownTest p cells e lab) (flatMap (pairs cells) arrows) grow)
+      where
+        one : (f : ℕ) → List·Memᴰ f (names g (square cells) lab) → oneTest p cells lab f ≡ true
+        one f m =
+            let r = names-own g (square cells) f m in
+            rw (r .2) at (one-test f (r .1) (c .one f (r .0) (r .1)))
 
-      grow : (e : Pair) → List·Memᴰ e (flatMap (pairs cells) arrows) → grownTest p cells lab e ≡ true
-      grow e m =
-          let q = next-pair e m in
-          let r = c .grown (e .last) (e .cur) q in
-          true-and (eq-eqb (length (blockOf (e .cur))) (length (blockOf (e .last)) + 1) (larger (e .last) (e .cur) (q .first) (q .second) r))
-          (contains-fits g (blockOf (e .last)) (blockOf (e .cur)) (getD lab (e .last) 0)
-          (block-in (e .last) (getD lab (e .last) 0) (q .first) (label-own g (square cells) (e .last) (on-board (e .last) (q .first)) (q .first))) (r .shift)
-          (contains-map g (r .shift) (SameBlock g cells (e .last)) (SameBlock g cells (e .cur)) (λ x. List·Memᴰ x (blockOf (e .last))) (λ x. List·Memᴰ x (blockOf (e .cur)))
-          (λ x. in-block (e .last) x (q .first)) (λ x. block-in (e .cur) x (q .second)) (r .copy)))
+        grow : (k : Pair) → List·Memᴰ k (flatMap (pairs cells) arrows) → grownTest p cells e lab k ≡ true
+        grow k m =
+            let q = next-pair k m in
+            let r = c .grown (k .last) (k .cur) q in
+            true-and (larger (k .last) (k .cur) (q .first) (q .second) r)
+            (contains-fits g (blockOf (k .last)) (blockOf (k .cur)) (getD lab (k .last) 0)
+            (block-in (k .last) (getD lab (k .last) 0) (q .first) (label-own g (square cells) (k .last) (on-board (k .last) (q .first)) (q .first))) (r .shift)
+            (contains-map g (r .shift) (SameBlock g cells (k .last)) (SameBlock g cells (k .cur)) (λ x. List·Memᴰ x (blockOf (k .last))) (λ x. List·Memᴰ x (blockOf (k .cur)))
+            (λ x. in-block (k .last) x (q .first)) (λ x. block-in (k .cur) x (q .second)) (r .copy)))
 
-  -- where the test passes the rules hold
-  pub test-rules : rulesTest p cells ≡ true → BlockRules p cells
-  unfolding rulesTest lab grownTest blockOf
-  test-rules t =
-      let s = and-true (all (oneTest p cells lab) (names g (square cells) lab)) (all (grownTest p cells lab) (flatMap (pairs cells) arrows)) t in
-      record {
-        one = λ i h q. test-one i q (all-mem (oneTest p cells lab) (names g (square cells) lab) (s .0) (getD lab i 0) (own-names g (square cells) i h q));
-        grown = λ i j c. grow i j c (all-mem (grownTest p cells lab) (flatMap (pairs cells) arrows) (s .1) (record { last = i; between = c .between; cur = j }) (pair-next i j c));
-      }
-    where
-      grow : (i j : ℕ) (c : Next p cells i j) → grownTest p cells lab (record { last = i; between = c .between; cur = j }) ≡ true → Grown g (SameBlock g cells i) (SameBlock g cells j)
-      grow i j c t =
-          let k = and-true (eqb (length (blockOf j)) (length (blockOf i) + 1)) (any (fits g (blockOf i) (blockOf j) (getD lab i 0)) (blockOf j)) t in
-          let u = any-mem (fits g (blockOf i) (blockOf j) (getD lab i 0)) (blockOf j) (k .1) in
-          size-grown g (dec-block i) (dec-block j) (below i) (below j) (taking g (getD lab i 0) (u .0))
-          (contains-map g (taking g (getD lab i 0) (u .0)) (λ x. List·Memᴰ x (blockOf i)) (λ x. List·Memᴰ x (blockOf j)) (SameBlock g cells i) (SameBlock g cells j)
-          (λ x. block-in i x (c .first)) (λ x. in-block j x (c .second)) (fits-contains g (blockOf i) (blockOf j) (getD lab i 0) (u .0) (u .2)))
-          (omega (arith, eqb-true (length (blockOf j)) (length (blockOf i) + 1) (k .0), block-size i (c .first), block-size j (c .second)))
+    -- where the test passes the rules hold
+    pub test-rules : rulesTest (inEdition e p) cells ≡ true → BlockRules (inEdition e p) cells
+    unfolding rulesTest lab grownTest blockOf
+    test-rules t =
+        let s = and-true (all (oneTest p cells lab) (names g (square cells) lab)) (all (grownTest p cells e lab) (flatMap (pairs cells) arrows)) t in
+        record {
+          one = λ i h q. test-one i q (all-mem (oneTest p cells lab) (names g (square cells) lab) (s .0) (getD lab i 0) (own-names g (square cells) i h q));
+          grown = λ i j c. grow i j c (all-mem (grownTest p cells e lab) (flatMap (pairs cells) arrows) (s .1) (record { last = i; between = c .between; cur = j }) (pair-next i j c));
+        }
+      where
+        grow : (i j : ℕ) (c : Next p cells i j) → grownTest p cells e lab (record { last = i; between = c .between; cur = j }) ≡ true → Grown e g (SameBlock g cells i) (SameBlock g cells j)
+        grow i j c t =
+            let k = and-true (moreTest e (length (blockOf i)) (length (blockOf j))) (any (fits g (blockOf i) (blockOf j) (getD lab i 0)) (blockOf j)) t in
+            let u = any-mem (fits g (blockOf i) (blockOf j) (getD lab i 0)) (blockOf j) (k .1) in
+            let m = more-so e (length (blockOf i)) (length (blockOf j)) (k .0) in
+            size-grown g (dec-block i) (dec-block j) (below i) (below j) e (taking g (getD lab i 0) (u .0))
+            (contains-map g (taking g (getD lab i 0) (u .0)) (λ x. List·Memᴰ x (blockOf i)) (λ x. List·Memᴰ x (blockOf j)) (SameBlock g cells i) (SameBlock g cells j)
+            (λ x. block-in i x (c .first)) (λ x. in-block j x (c .second)) (fits-contains g (blockOf i) (blockOf j) (getD lab i 0) (u .0) (u .2)))
+            (omega (arith, m .0, block-size i (c .first), block-size j (c .second)))
+            (λ h. omega (arith, m .1 h, block-size i (c .first), block-size j (c .second)))

@@ -6,7 +6,6 @@ use mathlib.Core.Logic.{_≢_}
 use mathlib.Core.Bool.{So}
 use mathlib.Core.List.{List, List·Memᴰ}
 use native.Mathlib.Decide.{ℕ-discrete, map-dec}
-use native.Mathlib.Nat.{le-antisymm}
 use native.Mathlib.Omega.{arith}
 use Rattle.grid.specs.Lists.{any}
 use Rattle.grid.proofs.ListLaws.{any-mem, mem-any, all-mem, mem-all}
@@ -49,31 +48,26 @@ module _ (g : Grid) where
   contains-map s P Q P′ Q′ a b f c p = let u = f c (a c p) in (u .0, b (u .0) (u .1), u .2)
 
   module _ {P Q : ℕ → Type 0} (dP : (i : ℕ) → Dec (P i)) (dQ : (i : ℕ) → Dec (Q i)) (bP : Below g P) (bQ : Below g Q) where
-    -- what has grown is larger by one
-    pub grown-size : Grown g P Q → count dQ (size g) ≡ suc (count dP (size g))
-    grown-size w = le-antisymm above below
+    -- what has grown is larger
+    pub grown-more : {e : ℕ} → Grown e g P Q → count dP (size g) < count dQ (size g)
+    grown-more w = let s = w .shift in count-inj-suc (Moved g s) dP (size g) (size g) (λ i j k _ _. moved-inj s i j k) dQ (w .extra) (bQ _ (w .within)) (w .within)
+        (λ i _ p. let u = w .copy i p in
+        (u .0, bQ _ (u .1), (u .1, λ z. w .added i p (subst (λ x. Moved g s i x) z (u .2))), u .2))
+
+    -- in the first edition by just one
+    pub grown-most : {e : ℕ} → e ≡ 1 → Grown e g P Q → count dQ (size g) ≤ suc (count dP (size g))
+    grown-most h w = omega (
+      arith,
+      count-except dQ (w .extra) (size g) (bQ _ (w .within)) (w .within),
+      count-inj (λ k c. Moved g (w .shift) c k) (except dQ (w .extra)) (size g) (size g) (λ i j c _ _. moved-one (w .shift) c i j) P dP back,
+    )
       where
-        s : Shift
-        s = w .shift
+        back : (k : ℕ) → k < size g → (Q k × (k ≢ w .extra)) → (c : ℕ) × (c < size g) × P c × Moved g (w .shift) c k
+        back k _ (q, ne) = let u = w .rest h k q ne in (u .0, bP (u .0) (u .1), u .1, u .2)
 
-        below : suc (count dP (size g)) ≤ count dQ (size g)
-        below = count-inj-suc (Moved g s) dP (size g) (size g) (λ i j k _ _. moved-inj s i j k) dQ (w .extra) (bQ _ (w .within)) (w .within)
-            (λ i _ p. let u = w .copy i p in
-            (u .0, bQ _ (u .1), (u .1, λ z. w .added i p (subst (λ x. Moved g s i x) z (u .2))), u .2))
-
-        back : (k : ℕ) → k < size g → (Q k × (k ≢ w .extra)) → (c : ℕ) × (c < size g) × P c × Moved g s c k
-        back k _ (q, ne) = let u = w .rest k q ne in (u .0, bP (u .0) (u .1), u .1, u .2)
-
-        above : count dQ (size g) ≤ suc (count dP (size g))
-        above = omega (
-          arith,
-          count-except dQ (w .extra) (size g) (bQ _ (w .within)) (w .within),
-          count-inj (λ k c. Moved g s c k) (except dQ (w .extra)) (size g) (size g) (λ i j c _ _. moved-one s c i j) P dP back,
-        )
-
-    -- contained, and larger by one: a copy and one square more
-    pub size-grown : (s : Shift) → Contains g s P Q → count dQ (size g) ≡ suc (count dP (size g)) → Grown g P Q
-    size-grown s f e = go (dec-some loose (size g))
+    -- contained, and larger, in the first edition by just one: a copy and what is added
+    pub size-grown : (e : ℕ) (s : Shift) → Contains g s P Q → count dP (size g) < count dQ (size g) → (e ≡ 1 → count dQ (size g) ≤ suc (count dP (size g))) → Grown e g P Q
+    size-grown e s f more most = go (dec-some loose (size g))
       where
         Image : ℕ → Type 0
         Image k = (c : ℕ) × (c < size g) × (P c × Moved g s c k)
@@ -87,8 +81,8 @@ module _ (g : Grid) where
         inj : (i j k : ℕ) → P i → P j → Moved g s i k → Moved g s j k → i ≡ j
         inj i j k _ _ = moved-inj s i j k
 
-        go : Dec ((k : ℕ) × (k < size g) × (Q k × ¬ Image k)) → Grown g P Q
-        go (no h) = absurd (omega (arith, e, count-inj (λ k c. Moved g s c k) dQ (size g) (size g) (λ i j c _ _. moved-one s c i j) P dP (λ k l q. pick k l q (image k))))
+        go : Dec ((k : ℕ) × (k < size g) × (Q k × ¬ Image k)) → Grown e g P Q
+        go (no h) = absurd (omega (arith, more, count-inj (λ k c. Moved g s c k) dQ (size g) (size g) (λ i j c _ _. moved-one s c i j) P dP (λ k l q. pick k l q (image k))))
           where
             pick : (k : ℕ) → k < size g → Q k → Dec (Image k) → (c : ℕ) × (c < size g) × P c × Moved g s c k
             pick k l q (yes (c, b, (p, m))) = (c, b, p, m)
@@ -99,14 +93,14 @@ module _ (g : Grid) where
           extra = x;
           within = qx;
           added = λ c p m. nx (c, bP c p, (p, m));
-          rest = λ k q ne. pick k q ne (image k);
+          rest = λ h k q ne. pick (most h) k q ne (image k);
         }
           where
-            pick : (k : ℕ) → Q k → k ≢ x → Dec (Image k) → (c : ℕ) × P c × Moved g s c k
-            pick k q ne (yes (c, _, (p, m))) = (c, p, m)
-            pick k q ne (no ni) = absurd (omega (
+            pick : count dQ (size g) ≤ suc (count dP (size g)) → (k : ℕ) → Q k → k ≢ x → Dec (Image k) → (c : ℕ) × P c × Moved g s c k
+            pick one k q ne (yes (c, _, (p, m))) = (c, p, m)
+            pick one k q ne (no ni) = absurd (omega (
               arith,
-              e,
+              one,
               count-except dQ x (size g) xl qx,
               count-inj-suc (Moved g s) dP (size g) (size g) inj (except dQ x) k (bQ k q) (q, ne)
                   (λ i _ p. let u = f i p in (

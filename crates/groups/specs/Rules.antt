@@ -1,14 +1,15 @@
--- The block rules of a fully decided board.
+-- The block rules of a fully decided board, in an edition: 1, or 2 for free growth.
 -- Assumes nothing.
 use Prim.Native.Nat.{ℕ, _+_, _<_}
 use mathlib.Core.Path.{_≡_}
-use mathlib.Core.Bool.{Bool, true, false, _&&_}
+use mathlib.Core.Bool.{Bool, true, false, cond, _&&_}
 use mathlib.Core.List.{List, _∷_, _++_, List·Memᴰ}
-use lib.Dec.{eqb}
+use lib.Dec.{eqb, ltb}
 use lib.ListN.{length, getD}
 use Rattle.grid.specs.Lists.{any, all, filter, flatMap}
 use Rattle.grid.specs.Grid.{Grid, size, row, col}
 use Rattle.record.specs.Record.{Puzzle}
+use Rattle.record.specs.Leaf.{Leaf}
 use Rattle.grid.specs.Cells.{square}
 use Rattle.grid.specs.Side.{lands}
 use Rattle.groups.specs.Groups.{Joined, labels, group, names}
@@ -26,14 +27,15 @@ pub record Moved (g : Grid) (s : Shift) (x y : ℕ) : Type 0 where
   pub rows : row g y + s .up ≡ row g x + s .down
   pub cols : col g y + s .left ≡ col g x + s .right
 
--- Q is a shifted copy of P plus exactly one square; no turning, no flipping
-pub record Grown (g : Grid) (P Q : ℕ → Type 0) : Type 0 where
+-- Q is a shifted copy of P plus exactly one square in edition 1, one or more in edition 2; no turning, no flipping
+pub record Grown (e : ℕ) (g : Grid) (P Q : ℕ → Type 0) : Type 0 where
   pub shift : Shift
   pub copy : (x : ℕ) → P x → (y : ℕ) × Q y × Moved g shift x y
   pub extra : ℕ
   pub within : Q extra
   pub added : (x : ℕ) → P x → Moved g shift x extra → ⊥
-  pub rest : (y : ℕ) → Q y → (y ≡ extra → ⊥) → (x : ℕ) × P x × Moved g shift x y
+  -- in edition 1 nothing else
+  pub rest : e ≡ 1 → (y : ℕ) → Q y → (y ≡ extra → ⊥) → (x : ℕ) × P x × Moved g shift x y
 
 -- j is in the block of the square i: the largest side-connected set of squares that i is in
 abbrev pub SameBlock : Grid → List ℕ → ℕ → ℕ → Type 0
@@ -57,12 +59,14 @@ module _ (p : Puzzle) (cells : List ℕ) where
     pub second : square cells j ≡ true
     pub none : (k : ℕ) → List·Memᴰ k between → square cells k ≡ false
 
+module _ (l : Leaf) (cells : List ℕ) where
   -- the block rules, for a fully decided board
   pub record BlockRules : Type 0 where
     -- each block has exactly one arrow cell
-    pub one : (i : ℕ) → i < size (p .grid) → square cells i ≡ true → OneArrowCell i
+    pub one : (i : ℕ) → i < size (l .puzzle .grid) → square cells i ≡ true → OneArrowCell (l .puzzle) cells i
     -- for two squares on one arrow with none between them, the later cell's block is the earlier cell's block, grown
-    pub grown : (i j : ℕ) → Next i j → Grown (p .grid) (SameBlock (p .grid) cells i) (SameBlock (p .grid) cells j)
+    pub grown : (i j : ℕ) → Next (l .puzzle) cells i j
+        → Grown (l .edition) (l .puzzle .grid) (SameBlock (l .puzzle .grid) cells i) (SameBlock (l .puzzle .grid) cells j)
 
 -- shifts of sets: what the tests below mean
 
@@ -84,21 +88,26 @@ Below g P = (c : ℕ) → P c → c < size g
 unfoldable pub fits : Grid → List ℕ → List ℕ → ℕ → ℕ → Bool
 fits g b r f t = all (λ c. any (lands g f t c) r) b
 
+-- a block of k squares after one of n: exactly one more in edition 1, one or more in edition 2
+unfoldable pub moreTest : ℕ → ℕ → ℕ → Bool
+moreTest e n k = cond (eqb e 1) (eqb k (n + 1)) (ltb n k)
+
 module _ (p : Puzzle) (cells : List ℕ) where
   -- the block named f has exactly one arrow cell
   unfoldable pub oneTest : List ℕ → ℕ → Bool
   oneTest l f = eqb (length (filter (onArrow (p .arrows)) (group (p .grid) (square cells) l f))) 1
 
-  -- the second block of the pair is the first, grown by one square
-  unfoldable pub grownTest : List ℕ → Pair → Bool
-  grownTest l pair =
+  -- the second block of the pair is the first, grown
+  unfoldable pub grownTest : ℕ → List ℕ → Pair → Bool
+  grownTest e l pair =
       let f = getD l (pair .last) 0 in
       let b = group (p .grid) (square cells) l f in
       let c = group (p .grid) (square cells) l (getD l (pair .cur) 0) in
-      eqb (length c) (length b + 1) && any (fits (p .grid) b c f) c
+      moreTest e (length b) (length c) && any (fits (p .grid) b c f) c
 
-  -- the block rules, computed
-  unfoldable pub rulesTest : Bool
-  rulesTest =
-      let l = labels (p .grid) (square cells) in
-      all (oneTest l) (names (p .grid) (square cells) l) && all (grownTest l) (flatMap (pairs cells) (p .arrows))
+-- the block rules, computed
+unfoldable pub rulesTest : Leaf → List ℕ → Bool
+rulesTest l cells =
+    let p = l .puzzle in
+    let f = labels (p .grid) (square cells) in
+    all (oneTest p cells f) (names (p .grid) (square cells) f) && all (grownTest p cells (l .edition) f) (flatMap (pairs cells) (p .arrows))

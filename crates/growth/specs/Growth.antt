@@ -3,7 +3,8 @@
 use Prim.Native.Nat.{ℕ, suc, _+_, max}
 use mathlib.Core.Bool.{Bool, true, false, cond, not}
 use mathlib.Core.List.{List, [], _∷_, _++_}
-use lib.Dec.{ltb}
+use mathlib.Core.Option.{none}
+use lib.Dec.{eqb, ltb}
 use lib.ListN.{length, getD}
 use Rattle.grid.specs.Lists.{filter, flatMap, last, init, tail}
 use Rattle.grid.specs.Cells.{Literal, empty, undecided}
@@ -55,12 +56,12 @@ module _ (v : View) (pair : Pair) where
       (ltb (length (reach v (blockName v (pair .last))) + 1 + mostApart (v .cells) false (gap pair)) (length (block v (blockName v (pair .cur)))))
       reasonShrink
 
-  -- 4. (a), then (b)
-  unfoldable pub reason4At : Found
-  reason4At = orElse reason4aAt reason4bAt
+  -- 4, in the edition e. (a), then (b), which exists in edition 1 only
+  unfoldable pub reason4At : ℕ → Found
+  reason4At e = orElse reason4aAt (cond (eqb e 1) reason4bAt none)
 
--- 3 for every pair of every arrow, then 4
-unfoldable pub reason34 : View → Found
-reason34 v =
+-- 3 for every pair of every arrow, then 4, in the edition e
+unfoldable pub reason34 : ℕ → View → Found
+reason34 e v =
     let ps = flatMap (pairs (v .cells)) (v .arrows) in
-    orElse (firstOf (reason3At v) ps) (firstOf (reason4At v) ps)
+    orElse (firstOf (reason3At v) ps) (firstOf (λ p. reason4At v p e) ps)

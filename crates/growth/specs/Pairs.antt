@@ -2,8 +2,9 @@
 -- Assumes nothing.
 use Prim.Native.Nat.{ℕ, _+_, _*_, _≤_, _<_}
 use mathlib.Core.Path.{_≡_}
-use mathlib.Core.Bool.{Bool, true, false, cond}
+use mathlib.Core.Bool.{true, false, cond}
 use mathlib.Core.List.{List}
+use lib.Dec.{eqb}
 use lib.ListN.{getD, take}
 use lib.Seq.{slice}
 use Rattle.grid.specs.Side.{sized}
@@ -18,9 +19,9 @@ use Rattle.reach.specs.Chains.{Chains}
 use Rattle.reach.specs.Near.{Sizes, SquaresOf}
 use Rattle.kinds.specs.Inside.{puzzleWith, Held}
 
--- reason 4 for a pair, or reason 3
-unfoldable pub reasonAt : Bool → View → Pair → Found
-reasonAt fourth v pair = cond fourth (reason4At v pair) (reason3At v pair)
+-- reason 3 for a pair where k is 0, else reason 4 in the edition k
+unfoldable pub reasonAt : ℕ → View → Pair → Found
+reasonAt k v pair = cond (eqb k 0) (reason3At v pair) (reason4At v pair k)
 
 -- the pair of the squares at two places of the arrows
 unfoldable pub pairAt : List ℕ → ℕ → ℕ → Pair

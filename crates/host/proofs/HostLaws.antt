@@ -13,16 +13,16 @@ use Rattle.grid.specs.Side.{sized}
 use Rattle.record.specs.Record.{Outcome, ok, refused, Puzzle, readRecord, _>>=_, unless}
 use Rattle.record.specs.Problem.{gridOf, puzzleOf, problemOf}
 use Rattle.record.specs.Valid.{Valid}
-use Rattle.record.specs.declared.Problem.{Problem}
+use Rattle.record.specs.Leaf.{Leaf, inEdition, isEdition, leafOf}
 use Rattle.record.specs.declared.Answer.{Answer}
 use Rattle.record.specs.declared.Answer.the-variants.{Done, Refused}
 use Rattle.record.proofs.RecordLaws.{record-valid, valid-size}
+use Rattle.record.proofs.LeafLaws.{ValidLeaf}
 use Rattle.grid.specs.Cells.{Literal}
 use Rattle.board.specs.Board.{decide, after, refusal, enough}
 use Rattle.board.specs.Form.{wellFormed}
 use Rattle.board.specs.Kept.{boardOf, opening, openOf}
-use Rattle.board.specs.Decide.{decideRefusal, decideOf, answered, refusedWith, onward, placed, placedFrom, allPlaced}
-use Rattle.board.specs.Inside.{held}
+use Rattle.board.specs.Decide.{withDecisions, decideRefusal, decideOf, answered, refusedWith, onward, placed, placedFrom, allPlaced}
 use Rattle.board.specs.declared.Board.{Board}
 use Rattle.board.specs.declared.Decided.{Decided}
 use Rattle.board.specs.declared.Opened.{Opened}
@@ -41,34 +41,34 @@ pub none-counted : 0 ≤ 65535
 none-counted = omega arith
 
 -- the board's answer to a list of decisions, by the machine's
-unfoldable pub decidedBy : Board → Puzzle → Outcome (List Literal) → Decided
-decidedBy b₀ p (refused k) = refusedWith k b₀
-decidedBy b₀ p (ok ds) = record { answer = Done; board = boardOf p ds 0 }
+unfoldable pub decidedBy : Board → Leaf → Outcome (List Literal) → Decided
+decidedBy b₀ l (refused k) = refusedWith k b₀
+decidedBy b₀ l (ok ds) = record { answer = Done; board = boardOf l ds 0 }
 
-module _ (p : Puzzle) (v : Valid p) (b₀ : Board) where
+module _ (l : Leaf) (v : ValidLeaf l) (b₀ : Board) where
   -- one decision: a refusal ends the list, and otherwise it goes on with the next board
-  one : (k : ℕ) (b next : Board) (rest : Outcome (List Literal)) (onto : Decided) → allPlaced b₀ onto ≡ decidedBy b₀ p rest
-      → allPlaced b₀ (onward (answered k b next .answer) b onto) ≡ decidedBy b₀ p (acceptOr k rest)
+  one : (k : ℕ) (b next : Board) (rest : Outcome (List Literal)) (onto : Decided) → allPlaced b₀ onto ≡ decidedBy b₀ l rest
+      → allPlaced b₀ (onward (answered k b next .answer) b onto) ≡ decidedBy b₀ l (acceptOr k rest)
   unfolding onward answered acceptOr decidedBy refusedWith
   one zero b next rest onto e = e
   one (suc k) b next rest onto e = refl
 
   -- a list of decisions on the machine's board
-  pub decided-bytes : (bytes : List ℕ) {ds : List Literal} → Standing (p .grid) ds → allPlaced b₀ (placedFrom (boardOf p ds 0) bytes) ≡ decidedBy b₀ p (decideBytes (p .grid) ds bytes)
+  pub decided-bytes : (bytes : List ℕ) {ds : List Literal} → Standing (l .puzzle .grid) ds → allPlaced b₀ (placedFrom (boardOf l ds 0) bytes) ≡ decidedBy b₀ l (decideBytes (l .puzzle .grid) ds bytes)
   unfolding placedFrom decideBytes
   decided-bytes [] s = unfold decidedBy onward in refl
   decided-bytes (a ∷ []) s = unfold decidedBy onward refusedWith in refl
   decided-bytes (a ∷ b ∷ rest) {ds} s =
-      go (eqb ((a * 256 + b) % 32768 / 1024) 0) ((a * 256 + b) % 1024) ((a * 256 + b) / 32768) (λ (es : List Literal) (t : Standing (p .grid) es). decided-bytes rest t)
+      go (eqb ((a * 256 + b) % 32768 / 1024) 0) ((a * 256 + b) % 1024) ((a * 256 + b) / 32768) (λ (es : List Literal) (t : Standing (l .puzzle .grid) es). decided-bytes rest t)
     where
-      go : (t : Bool) (i x : ℕ) → ((es : List Literal) → Standing (p .grid) es → allPlaced b₀ (placedFrom (boardOf p es 0) rest) ≡ decidedBy b₀ p (decideBytes (p .grid) es rest))
-          → allPlaced b₀ (cond t (onward (decideOf (boardOf p ds 0) i x .answer) (boardOf p ds 0) (placedFrom (decideOf (boardOf p ds 0) i x .board) rest)) (refusedWith 12 (boardOf p ds 0)))
-          ≡ decidedBy b₀ p (cond t (acceptOr (refusal (p .grid) (decide i x) ds) (decideBytes (p .grid) (after (p .grid) (decide i x) ds) rest)) (refused 12))
+      go : (t : Bool) (i x : ℕ) → ((es : List Literal) → Standing (l .puzzle .grid) es → allPlaced b₀ (placedFrom (boardOf l es 0) rest) ≡ decidedBy b₀ l (decideBytes (l .puzzle .grid) es rest))
+          → allPlaced b₀ (cond t (onward (decideOf (boardOf l ds 0) i x .answer) (boardOf l ds 0) (placedFrom (decideOf (boardOf l ds 0) i x .board) rest)) (refusedWith 12 (boardOf l ds 0)))
+          ≡ decidedBy b₀ l (cond t (acceptOr (refusal (l .puzzle .grid) (decide i x) ds) (decideBytes (l .puzzle .grid) (after (l .puzzle .grid) (decide i x) ds) rest)) (refused 12))
       go false i x next = unfold decidedBy onward refusedWith in refl
       go true i x next =
-          rw (decide-left p v none-counted s i x, ← decide-number p v none-counted s i x)
-          (unfold decideOf in one (decideRefusal (boardOf p ds 0) i x) (boardOf p ds 0) (placed (boardOf p ds 0) i x) (decideBytes (p .grid) (after (p .grid) (decide i x) ds) rest)
-          (placedFrom (boardOf p (after (p .grid) (decide i x) ds) 0) rest) (next (after (p .grid) (decide i x) ds) (after-standing (p .grid) (decide i x) s)))
+          rw (decide-left l v none-counted s i x, ← decide-number l v none-counted s i x)
+          (unfold decideOf in one (decideRefusal (boardOf l ds 0) i x) (boardOf l ds 0) (placed (boardOf l ds 0) i x) (decideBytes (l .puzzle .grid) (after (l .puzzle .grid) (decide i x) ds) rest)
+          (placedFrom (boardOf l (after (l .puzzle .grid) (decide i x) ds) 0) rest) (next (after (l .puzzle .grid) (decide i x) ds) (after-standing (l .puzzle .grid) (decide i x) s)))
 
 -- the decisions that are accepted stand
 pub bytes-standing : (g : Grid) (bytes : List ℕ) {ds es : List Literal} → Standing g ds → decideBytes g ds bytes ≡ ok es → Standing g es
@@ -89,35 +89,58 @@ bytes-standing g (a ∷ b ∷ rest) {ds} {es} s e =
         accepted (refusal g (decide i x) ds) (decideBytes g (after g (decide i x) ds) rest)
         (next (after g (decide i x) ds) (after-standing g (decide i x) s)) q
 
--- the reason on a board, by its arrays
-pub reason-held : (q : Problem) (hints : ℕ) (cells order : List ℕ) (decided : ℕ)
-    → reasonOn (held q hints cells order decided) ≡ findReason (puzzleWith (sized (q .height) (q .width)) (linesOf (q .arrows) (q .ends) (q .count))) (take (q .height * q .width) cells)
+-- the reason on a board in edition 1, by its arrays
+pub reason-held : (b : Board) → b .edition ≡ 1 → (cells order : List ℕ) (decided : ℕ) →
+    let q = b .problem in
+    reasonOn (withDecisions b cells order decided)
+    ≡ findReason (inEdition 1 (puzzleWith (sized (q .height) (q .width)) (linesOf (q .arrows) (q .ends) (q .count)))) (take (q .height * q .width) cells)
 unfolding reasonOn cellsOn gridOf puzzleOf size
-reason-held q hints cells order decided = sym (codes-aside (puzzleOf q) (take (q .height * q .width) cells))
+reason-held b e cells order decided =
+    let q = b .problem in
+    ap (λ (k : ℕ). findReason (inEdition k (puzzleOf q)) (take (q .height * q .width) cells)) e ∙ sym (codes-aside 1 (puzzleOf q) (take (q .height * q .width) cells))
 
 -- ---- a call, step by step
 
+-- edition 1 is never refused, so where the record is not opened it is refused
+pub record-refused : (s : List ℕ) (o : Opened) {k : ℕ} → o ≡ openOf s 1 → o .answer ≡ Refused k → readRecord s ≡ refused k
+unfolding openOf opening leafOf isEdition unless _>>=_
+record-refused s o {k} e f = go (readRecord s) (sym (ap (λ (o : Opened). o .answer) e) ∙ f)
+  where
+    go : (r : Outcome Puzzle) → opening (r >>= λ p. unless (isEdition 1) 16 >>= λ _. ok (inEdition 1 p)) .answer ≡ Refused k → r ≡ refused k
+    go (refused m) q = let z : m ≡ k = cc in ap refused z
+    go (ok p) q = let z : _≡_ {A = ℕ} 0 1 = cc in absurd (omega arith)
+
 -- an accepted record
-pub open-done : (s : List ℕ) (o : Opened) → o ≡ openOf s → o .answer ≡ Done → Opens s (o .board)
+pub open-done : (s : List ℕ) (o : Opened) → o ≡ openOf s 1 → o .answer ≡ Done → Opens s (o .board)
 open-done s o e f = sym e ∙ ap (λ (a : Answer). record { answer = a; board = o .board }) f
 
 -- the puzzle of an accepted record, and its fresh board
 pub record OpensAs (s : List ℕ) (b : Board) : Type 0 where
   pub puzzle : Puzzle
   pub reads : readRecord s ≡ ok puzzle
-  pub fresh : b ≡ boardOf puzzle [] 0
+  pub fresh : b ≡ boardOf (inEdition 1 puzzle) [] 0
 
 pub opens-as : (s : List ℕ) (b : Board) → Opens s b → OpensAs s b
-unfolding openOf opening
+unfolding openOf opening leafOf isEdition unless _>>=_
 opens-as s b e = go (readRecord s) refl e
   where
-    go : (r : Outcome Puzzle) → readRecord s ≡ r → opening r ≡ record { answer = Done; board = b } → OpensAs s b
+    go : (r : Outcome Puzzle) → readRecord s ≡ r → opening (r >>= λ p. unless (isEdition 1) 16 >>= λ _. ok (inEdition 1 p)) ≡ record { answer = Done; board = b } → OpensAs s b
     go (refused m) q f = let g = ap (λ (o : Opened). o .answer) f in let z : _≡_ {A = ℕ} 0 1 = cc in absurd (omega arith)
     go (ok p) q f = record { puzzle = p; reads = q; fresh = sym (ap (λ (o : Opened). o .board) f) }
 
-module _ (s : List ℕ) {p : Puzzle} (reads : readRecord s ≡ ok p) {b : Board} (fresh : b ≡ boardOf p [] 0) where
+module _ (s : List ℕ) {p : Puzzle} (reads : readRecord s ≡ ok p) {b : Board} (fresh : b ≡ boardOf (inEdition 1 p) [] 0) where
   pub opens-valid : Valid p
   opens-valid = record-valid s reads
+
+  -- the leaf is an accepted one
+  pub opens-leaf : ValidLeaf (inEdition 1 p)
+  unfolding isEdition
+  opens-leaf = record { puzzle = opens-valid; edition = refl }
+
+  -- the board is of edition 1
+  pub opens-first : b .edition ≡ 1
+  unfolding boardOf
+  opens-first = rw fresh refl
 
   pub opens-size : b .problem .height * b .problem .width ≡ size (p .grid)
   unfolding boardOf problemOf size
@@ -129,23 +152,19 @@ module _ (s : List ℕ) {p : Puzzle} (reads : readRecord s ≡ ok p) {b : Board}
 
   -- the board is well formed
   pub opens-well : wellFormed b ≡ true
-  opens-well = rw fresh (standing-well p opens-valid none-counted none)
+  opens-well = rw fresh (standing-well (inEdition 1 p) opens-leaf none-counted none)
 
   -- the board's list of decisions answers as the machine does
-  all-decided : (decisions : List ℕ) → allPlaced b (placedFrom b decisions) ≡ decidedBy b p (decideBytes (p .grid) [] decisions)
-  all-decided decisions = rw fresh (decided-bytes p opens-valid (boardOf p [] 0) decisions none)
+  all-decided : (decisions : List ℕ) → allPlaced b (placedFrom b decisions) ≡ decidedBy b (inEdition 1 p) (decideBytes (p .grid) [] decisions)
+  all-decided decisions = rw fresh (decided-bytes (inEdition 1 p) opens-leaf (boardOf (inEdition 1 p) [] 0) decisions none)
 
 module _ {A : Type 0} (need : Grid → ℕ) (says : Puzzle → List Literal → A) where
   -- a refused record
-  pub call-unread : (s : List ℕ) (o : Opened) {k : ℕ} → o ≡ openOf s → o .answer ≡ Refused k → (decisions : List ℕ) (n : ℕ) → hostCall need says s decisions n ≡ refused k
-  unfolding openOf opening _>>=_
-  call-unread s o {k} e f decisions n = rw (go (readRecord s) (sym (ap (λ (o : Opened). o .answer) e) ∙ f)) refl
-    where
-      go : (r : Outcome Puzzle) → opening r .answer ≡ Refused k → r ≡ refused k
-      go (refused m) q = let z : m ≡ k = cc in ap refused z
-      go (ok p) q = let z : _≡_ {A = ℕ} 0 1 = cc in absurd (omega arith)
+  pub call-unread : (s : List ℕ) (o : Opened) {k : ℕ} → o ≡ openOf s 1 → o .answer ≡ Refused k → (decisions : List ℕ) (n : ℕ) → hostCall need says s decisions n ≡ refused k
+  unfolding _>>=_
+  call-unread s o e f decisions n = rw (record-refused s o e f) refl
 
-  module _ (s : List ℕ) {p : Puzzle} (reads : readRecord s ≡ ok p) {b : Board} (fresh : b ≡ boardOf p [] 0) (decisions : List ℕ) (n : ℕ) where
+  module _ (s : List ℕ) {p : Puzzle} (reads : readRecord s ≡ ok p) {b : Board} (fresh : b ≡ boardOf (inEdition 1 p) [] 0) (decisions : List ℕ) (n : ℕ) where
     -- an output that is too short
     pub call-short : n < need (p .grid) → hostCall need says s decisions n ≡ refused 11
     unfolding _>>=_ unless
@@ -164,44 +183,44 @@ module _ {A : Type 0} (need : Grid → ℕ) (says : Puzzle → List Literal → 
       call-refused {k} f =
           call-long h ∙ go (decideBytes (p .grid) [] decisions) (sym (ap (λ (x : Answer). allPlaced b (record { answer = x; board = left })) f) ∙ sym (ap (allPlaced b) e) ∙ all-decided s reads fresh decisions)
         where
-          go : (r : Outcome (List Literal)) → refusedWith k b ≡ decidedBy b p r → (r >>= λ ds. ok (says p ds)) ≡ refused k
+          go : (r : Outcome (List Literal)) → refusedWith k b ≡ decidedBy b (inEdition 1 p) r → (r >>= λ ds. ok (says p ds)) ≡ refused k
           go (refused m) q = let a = ap (λ (d : Decided). d .answer) q in let z : m ≡ k = cc in ap refused z
           go (ok ds) q = let a = ap (λ (d : Decided). d .answer) q in let z : _≡_ {A = ℕ} 0 1 = cc in absurd (omega arith)
 
       -- all are accepted: the call says what it says of the board that is left
-      pub call-done : a ≡ Done → (v : A) → ((ds : List Literal) → Standing (p .grid) ds → left ≡ boardOf p ds 0 → says p ds ≡ v) → hostCall need says s decisions n ≡ ok v
+      pub call-done : a ≡ Done → (v : A) → ((ds : List Literal) → Standing (p .grid) ds → left ≡ boardOf (inEdition 1 p) ds 0 → says p ds ≡ v) → hostCall need says s decisions n ≡ ok v
       unfolding onward decidedBy refusedWith _>>=_
       call-done f v said =
           call-long h
           ∙ go (decideBytes (p .grid) [] decisions) refl (sym (ap (λ (x : Answer). allPlaced b (record { answer = x; board = left })) f) ∙ sym (ap (allPlaced b) e) ∙ all-decided s reads fresh decisions)
         where
-          go : (r : Outcome (List Literal)) → decideBytes (p .grid) [] decisions ≡ r → _≡_ {A = Decided} (record { answer = Done; board = left }) (decidedBy b p r) → (r >>= λ ds. ok (says p ds)) ≡ ok v
+          go : (r : Outcome (List Literal)) → decideBytes (p .grid) [] decisions ≡ r → _≡_ {A = Decided} (record { answer = Done; board = left }) (decidedBy b (inEdition 1 p) r) → (r >>= λ ds. ok (says p ds)) ≡ ok v
           go (refused m) q g = let a = ap (λ (d : Decided). d .answer) g in let z : _≡_ {A = ℕ} 0 1 = cc in absurd (omega arith)
           go (ok ds) q g = ap ok (said ds (bytes-standing (p .grid) decisions none q) (ap (λ (d : Decided). d .board) g))
 
 -- ---- the host call
 
 -- a refused record
-pub open-refused : (s : List ℕ) (o : Opened) {k : ℕ} → o ≡ openOf s → o .answer ≡ Refused k → (decisions : List ℕ) (n : ℕ) → hostFinds s decisions n ≡ refused k
+pub open-refused : (s : List ℕ) (o : Opened) {k : ℕ} → o ≡ openOf s 1 → o .answer ≡ Refused k → (decisions : List ℕ) (n : ℕ) → hostFinds s decisions n ≡ refused k
 unfolding hostFinds
-open-refused s o e f decisions n = call-unread (λ g. 2 * enough g) findOn s o e f decisions n
+open-refused s o e f decisions n = call-unread (λ g. 2 * enough g) (λ p. findOn (inEdition 1 p)) s o e f decisions n
 
-module _ (s : List ℕ) {p : Puzzle} (reads : readRecord s ≡ ok p) {b : Board} (fresh : b ≡ boardOf p [] 0) (decisions : List ℕ) (n : ℕ) where
+module _ (s : List ℕ) {p : Puzzle} (reads : readRecord s ≡ ok p) {b : Board} (fresh : b ≡ boardOf (inEdition 1 p) [] 0) (decisions : List ℕ) (n : ℕ) where
   -- an output that is too short
   pub output-short : n < 2 * (3 * (b .problem .height * b .problem .width) + 1) → hostFinds s decisions n ≡ refused 11
   unfolding hostFinds enough
-  output-short h = call-short (λ g. 2 * enough g) findOn s reads fresh decisions n (rw (opens-size s reads fresh) at h)
+  output-short h = call-short (λ g. 2 * enough g) (λ p. findOn (inEdition 1 p)) s reads fresh decisions n (rw (opens-size s reads fresh) at h)
 
   -- what placing all decisions answers, and the board that it leaves, where it is long enough
   module _ (a : Answer) (left : Board) (e : placedFrom b decisions ≡ record { answer = a; board = left }) (h : 2 * (3 * (b .problem .height * b .problem .width) + 1) ≤ n) where
     -- a decision is refused
     pub decisions-refused : {k : ℕ} → a ≡ Refused k → hostFinds s decisions n ≡ refused k
     unfolding hostFinds enough
-    decisions-refused f = call-refused (λ g. 2 * enough g) findOn s reads fresh decisions n a left e (rw (opens-size s reads fresh) at h) f
+    decisions-refused f = call-refused (λ g. 2 * enough g) (λ p. findOn (inEdition 1 p)) s reads fresh decisions n a left e (rw (opens-size s reads fresh) at h) f
 
     -- all are accepted
     pub decisions-done : a ≡ Done → hostFinds s decisions n ≡ ok (reasonOn left)
     unfolding hostFinds enough
     decisions-done f =
-        call-done (λ g. 2 * enough g) findOn s reads fresh decisions n a left e (rw (opens-size s reads fresh) at h) f (reasonOn left)
-        (λ ds t z. rw z (sym (reason-on p (opens-valid s reads fresh) 0 t)))
+        call-done (λ g. 2 * enough g) (λ p. findOn (inEdition 1 p)) s reads fresh decisions n a left e (rw (opens-size s reads fresh) at h) f (reasonOn left)
+        (λ ds t z. rw z (sym (reason-on (inEdition 1 p) (opens-leaf s reads fresh) 0 t)))

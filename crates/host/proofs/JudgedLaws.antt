@@ -4,18 +4,19 @@
 use Prim.Native.Nat.{ℕ, zero, suc}
 use native.Mathlib.Omega.{arith}
 use mathlib.Core.Logic.{_↔_}
-use mathlib.Core.Path.{_≡_, refl, sym, ap, _∙_}
+use mathlib.Core.Path.{_≡_, refl, ap, _∙_}
 use mathlib.Core.Bool.{Bool, true, false}
 use mathlib.Core.List.{List, []}
 use lib.IntN.{pos, negℤ}
 use Rattle.grid.specs.Cells.{Literal}
 use Rattle.record.specs.Record.{Outcome, ok, refused, _>>=_, Puzzle, readRecord}
-use Rattle.record.specs.Valid.{Valid}
+use Rattle.record.specs.Leaf.{Leaf, inEdition}
 use Rattle.record.specs.declared.Answer.the-variants.{Done, Refused}
 use Rattle.record.proofs.ProblemLaws.{problem-puzzle}
 use Rattle.record.proofs.RecordLaws.{record-valid}
+use Rattle.record.proofs.LeafLaws.{ValidLeaf}
 use Rattle.board.specs.Board.{cellsAfter}
-use Rattle.board.specs.Kept.{boardOf, opening, openOf}
+use Rattle.board.specs.Kept.{boardOf, openOf}
 use Rattle.board.specs.Decide.{refusedWith, decideAllOf}
 use Rattle.board.specs.declared.Board.{Board}
 use Rattle.board.specs.declared.Decided.{Decided}
@@ -29,7 +30,7 @@ use Rattle.finished.proofs.FinishedLaws.{finished-means}
 use Rattle.host.specs.Host.{decideBytes, Opens}
 use Rattle.host.specs.Inside.{verdictNumber, judgedOn, judgedBy}
 use Rattle.host.specs.Judged.{hostFinished, judged, FinishedBy}
-use Rattle.host.proofs.HostLaws.{none-counted, decidedBy, decided-bytes, bytes-standing, opens-as}
+use Rattle.host.proofs.HostLaws.{none-counted, decidedBy, decided-bytes, bytes-standing, record-refused, opens-as, opens-leaf}
 
 -- the decisions are accepted, or one is refused
 pub done-judged : (d : Decided) → d .answer ≡ Done → verdictNumber (finishedOf (d .board)) ≡ judgedBy d
@@ -46,39 +47,35 @@ verdict-number true = refl
 verdict-number false = refl
 
 -- on the board of standing decisions
-finished-on : (p : Puzzle) → Valid p → {ds : List Literal} → Standing (p .grid) ds → finishedOf (boardOf p ds 0) ≡ verdict (finishedTest p (cellsAfter (p .grid) ds))
+finished-on : (l : Leaf) → ValidLeaf l → {ds : List Literal} → Standing (l .puzzle .grid) ds → finishedOf (boardOf l ds 0) ≡ verdict (finishedTest l (cellsAfter (l .puzzle .grid) ds))
 unfolding finishedOf boardOf
-finished-on p v {ds} s = rw (standing-well p v none-counted s, cells-on p v 0 s, problem-puzzle p v) refl
+finished-on l v {ds} s = rw (standing-well l v none-counted s, cells-on l v 0 s, problem-puzzle (l .puzzle) (v .puzzle)) refl
 
 -- what the decisions leave, by the outcome of their bytes
-judged-decided : (p : Puzzle) → Valid p → (decisions : List ℕ) (r : Outcome (List Literal)) → decideBytes (p .grid) [] decisions ≡ r
-    → judgedBy (decidedBy (boardOf p [] 0) p r) ≡ judged (r >>= λ ds. ok (finishedTest p (cellsAfter (p .grid) ds)))
+judged-decided : (l : Leaf) → ValidLeaf l → (decisions : List ℕ) (r : Outcome (List Literal)) → decideBytes (l .puzzle .grid) [] decisions ≡ r
+    → judgedBy (decidedBy (boardOf l [] 0) l r) ≡ judged (r >>= λ ds. ok (finishedTest l (cellsAfter (l .puzzle .grid) ds)))
 unfolding decidedBy refusedWith judgedBy judgedOn judged _>>=_
-judged-decided p v decisions (refused k) q = refl
-judged-decided p v decisions (ok ds) q = rw (finished-on p v (bytes-standing (p .grid) decisions none q)) (verdict-number (finishedTest p (cellsAfter (p .grid) ds)))
+judged-decided l v decisions (refused k) q = refl
+judged-decided l v decisions (ok ds) q = rw (finished-on l v (bytes-standing (l .puzzle .grid) decisions none q)) (verdict-number (finishedTest l (cellsAfter (l .puzzle .grid) ds)))
 
 -- on a fresh board
-judged-fresh : (p : Puzzle) → Valid p → (decisions : List ℕ)
-    → judgedBy (decideAllOf (boardOf p [] 0) decisions) ≡ judged (decideBytes (p .grid) [] decisions >>= λ ds. ok (finishedTest p (cellsAfter (p .grid) ds)))
+judged-fresh : (l : Leaf) → ValidLeaf l → (decisions : List ℕ)
+    → judgedBy (decideAllOf (boardOf l [] 0) decisions) ≡ judged (decideBytes (l .puzzle .grid) [] decisions >>= λ ds. ok (finishedTest l (cellsAfter (l .puzzle .grid) ds)))
 unfolding decideAllOf
-judged-fresh p v decisions =
-    rw (standing-well p v none-counted none, decided-bytes p v (boardOf p [] 0) decisions none) (judged-decided p v decisions (decideBytes (p .grid) [] decisions) refl)
+judged-fresh l v decisions =
+    rw (standing-well l v none-counted none, decided-bytes l v (boardOf l [] 0) decisions none) (judged-decided l v decisions (decideBytes (l .puzzle .grid) [] decisions) refl)
 
 -- what comes after an accepted record
 pub judged-open : (s : List ℕ) (b : Board) → Opens s b → (decisions : List ℕ) → judgedBy (decideAllOf b decisions) ≡ judged (hostFinished s decisions)
 unfolding hostFinished _>>=_
 judged-open s b e decisions =
     let o = opens-as s b e in
-    ap (λ (c : Board). judgedBy (decideAllOf c decisions)) (o .fresh) ∙ judged-fresh (o .puzzle) (record-valid s (o .reads)) decisions ∙ rw (o .reads) refl
+    ap (λ (c : Board). judgedBy (decideAllOf c decisions)) (o .fresh) ∙ judged-fresh (inEdition 1 (o .puzzle)) (opens-leaf s (o .reads) (o .fresh)) decisions ∙ rw (o .reads) refl
 
 -- a refused record
-pub judged-refused : (s : List ℕ) (o : Opened) {k : ℕ} → o ≡ openOf s → o .answer ≡ Refused k → (decisions : List ℕ) → negℤ (pos k) ≡ judged (hostFinished s decisions)
-unfolding hostFinished openOf opening _>>=_ judged
-judged-refused s o {k} e f decisions = rw (go (readRecord s) (sym (ap (λ (o : Opened). o .answer) e) ∙ f)) refl
-  where
-    go : (r : Outcome Puzzle) → opening r .answer ≡ Refused k → r ≡ refused k
-    go (refused m) q = let z : m ≡ k = cc in ap refused z
-    go (ok p) q = let z : _≡_ {A = ℕ} 0 1 = cc in absurd (omega arith)
+pub judged-refused : (s : List ℕ) (o : Opened) {k : ℕ} → o ≡ openOf s 1 → o .answer ≡ Refused k → (decisions : List ℕ) → negℤ (pos k) ≡ judged (hostFinished s decisions)
+unfolding hostFinished _>>=_ judged
+judged-refused s o e f decisions = rw (record-refused s o e f) refl
 
 -- ---- what it returns
 
@@ -94,18 +91,18 @@ one-is-yes false e = let z : _≡_ {A = ℕ} 0 1 = cc in absurd (omega arith)
 module _ (s decisions : List ℕ) where
   -- the cells that accepted decisions leave on the board of an accepted record
   means : (p : Puzzle) → readRecord s ≡ ok p → (ds : List Literal) → decideBytes (p .grid) [] decisions ≡ ok ds
-      → (finishedTest p (cellsAfter (p .grid) ds) ≡ true) ↔ Finished p (cellsAfter (p .grid) ds)
-  means p e ds d = finished-means p (record-valid s e) (cellsAfter (p .grid) ds) (cells-valid (bytes-standing (p .grid) decisions none d) .long)
+      → (finishedTest (inEdition 1 p) (cellsAfter (p .grid) ds) ≡ true) ↔ Finished (inEdition 1 p) (cellsAfter (p .grid) ds)
+  means p e ds d = finished-means (inEdition 1 p) (record-valid s e) (cellsAfter (p .grid) ds) (cells-valid (bytes-standing (p .grid) decisions none d) .long)
 
   decided-as : (p : Puzzle) → readRecord s ≡ ok p → (r : Outcome (List Literal)) → decideBytes (p .grid) [] decisions ≡ r
-      → judged (r >>= λ ds. ok (finishedTest p (cellsAfter (p .grid) ds))) ≡ pos 1 → FinishedBy s decisions
+      → judged (r >>= λ ds. ok (finishedTest (inEdition 1 p) (cellsAfter (p .grid) ds))) ≡ pos 1 → FinishedBy s decisions
   unfolding judged _>>=_
   decided-as p e (refused k) d h = absurd (never-one k h)
   decided-as p e (ok ds) d h =
-      record { puzzle = p; reads = e; accepted = ds; decides = d; finished = means p e ds d .0 (one-is-yes (finishedTest p (cellsAfter (p .grid) ds)) h) }
+      record { puzzle = p; reads = e; accepted = ds; decides = d; finished = means p e ds d .0 (one-is-yes (finishedTest (inEdition 1 p) (cellsAfter (p .grid) ds)) h) }
 
   read-as : (r : Outcome Puzzle) → readRecord s ≡ r
-      → judged (r >>= λ p. decideBytes (p .grid) [] decisions >>= λ ds. ok (finishedTest p (cellsAfter (p .grid) ds))) ≡ pos 1 → FinishedBy s decisions
+      → judged (r >>= λ p. decideBytes (p .grid) [] decisions >>= λ ds. ok (finishedTest (inEdition 1 p) (cellsAfter (p .grid) ds))) ≡ pos 1 → FinishedBy s decisions
   unfolding judged _>>=_
   read-as (refused k) e h = absurd (never-one k h)
   read-as (ok p) e h = decided-as p e (decideBytes (p .grid) [] decisions) refl h

@@ -13,7 +13,8 @@ use Rattle.grid.specs.Cells.{empty, square, undecided, potential}
 use Rattle.board.specs.Board.{valueAt, cellsAfter, decided, after, refusal, afterAll, Call, decide, find, enough}
 use Rattle.groups.specs.Groups.{rename, join, joinAll, edges, labels, group, names}
 use Rattle.groups.specs.Arrows.{onArrow, pairsFrom, pairs}
-use Rattle.groups.specs.Rules.{fits, oneTest, grownTest, rulesTest}
+use Rattle.record.specs.Leaf.{inEdition}
+use Rattle.groups.specs.Rules.{fits, moreTest, oneTest, grownTest, rulesTest}
 use Rattle.kinds.specs.Kinds.{isFloating, isIn, isNeighbour, kindTouching, arrowBlock, blocksTouched, kindAt, kindsOf, has, viewWith, view, block, floatNear, inReach, reach, disturbing, fenceAt, fence}
 use Rattle.literals.specs.Literals.{orElse, reasonIf, firstOf, each, Found}
 use Rattle.units.specs.Units.{reason1At, reason1}
@@ -26,7 +27,7 @@ use Rattle.host.specs.Judged.{hostFinished}
 
 -- open a record, decide in order, find
 abbrev pub findAfter : List ℕ → List Call → Outcome Found
-findAfter s cs = readRecord s >>= λ p. ok (findReason p (cellsAfter (p .grid) (afterAll (p .grid) cs [])))
+findAfter s cs = readRecord s >>= λ p. ok (findReason (inEdition 1 p) (cellsAfter (p .grid) (afterAll (p .grid) cs [])))
 
 -- open a record, make the calls, and ask for the refusal of one more: 0 for none
 abbrev pub refusalAfter : List ℕ → List Call → Call → Outcome ℕ
@@ -126,7 +127,7 @@ pub crowned :
     ∷ hostFinished (S 0xE0) (0x80 ∷ 0x00 ∷ 0x00 ∷ [])
     ∷ [])
     (ok false ∷ ok false ∷ ok true ∷ ok true ∷ refused 5 ∷ refused 12 ∷ refused 7 ∷ refused 9 ∷ refused 12 ∷ [])
-unfolding range upto filter any all flatMap member size cellsOf row col only up down left right neighbours rename join joinAll edges labels group names _>>=_ unless bit number field cellCodes there stepFrom stepCells arrowAt filler arrowsAt readRecord valueAt cellsAfter square decided after refusal onArrow pairsFrom pairs fits oneTest grownTest rulesTest keeps keepsAll twoSquares allButRules finishedTest acceptOr decideBytes hostFinished
+unfolding range upto filter any all flatMap member size cellsOf row col only up down left right neighbours rename join joinAll edges labels group names _>>=_ unless bit number field cellCodes there stepFrom stepCells arrowAt filler arrowsAt readRecord valueAt cellsAfter square decided after refusal onArrow pairsFrom pairs fits moreTest oneTest grownTest rulesTest keeps keepsAll twoSquares allButRules finishedTest acceptOr decideBytes hostFinished
 crowned = refl
 
 -- a puzzle of h rows and w columns, all plain, with one arrow
@@ -136,8 +137,8 @@ plain h w a = record { grid = record { height = h; width = w }; given = replicat
 -- two boards that tell the tempting faults: a barrier taken for reachable, and 4 tested before every pair has passed 3
 pub tempting :
     _≡_ {A = List Found}
-    (findReason (plain 1 3 (2 ∷ 1 ∷ 0 ∷ [])) (1 ∷ 2 ∷ 1 ∷ [])
-    ∷ findReason (plain 2 4 (7 ∷ 6 ∷ 5 ∷ 1 ∷ 2 ∷ 3 ∷ [])) (1 ∷ 0 ∷ 1 ∷ 0 ∷ 1 ∷ 1 ∷ 0 ∷ 1 ∷ [])
+    (findReason (inEdition 1 (plain 1 3 (2 ∷ 1 ∷ 0 ∷ []))) (1 ∷ 2 ∷ 1 ∷ [])
+    ∷ findReason (inEdition 1 (plain 2 4 (7 ∷ 6 ∷ 5 ∷ 1 ∷ 2 ∷ 3 ∷ []))) (1 ∷ 0 ∷ 1 ∷ 0 ∷ 1 ∷ 1 ∷ 0 ∷ 1 ∷ [])
     ∷ [])
     (some ((2, 1) ∷ (0, 1) ∷ (2, 1) ∷ [])
     ∷ some ((0, 1) ∷ (4, 1) ∷ (5, 1) ∷ (2, 1) ∷ (1, 0) ∷ (3, 0) ∷ (6, 0) ∷ [])

@@ -11,6 +11,7 @@ use Rattle.record.specs.Record.{Puzzle}
 use Rattle.grid.specs.Cells.{empty, square, undecided, potential}
 use Rattle.groups.specs.Groups.{rename, join, joinAll, edges, labels, group, names}
 use Rattle.groups.specs.Arrows.{onArrow, pairsFrom, pairs}
+use Rattle.record.specs.Leaf.{inEdition}
 use Rattle.groups.specs.Rules.{fits}
 use Rattle.kinds.specs.Kinds.{View, isFloating, isIn, isNeighbour, kindTouching, arrowBlock, blocksTouched, kindAt, kindsOf, has, viewWith, view, block, floatNear, inReach, reach, disturbing, fenceAt, fence}
 use Rattle.literals.specs.Literals.{Found, orElse, reasonIf, firstOf, each}
@@ -43,7 +44,7 @@ aThenB v =
 -- find gives (b) of the first pair, where the other reading gives (a) of the second; with the arrows in the other order find gives that one too
 pub pair-by-pair :
     _≡_ {A = List Found}
-    (findReason (nine front back) blocks ∷ aThenB (view (nine front back) blocks) ∷ findReason (nine back front) blocks ∷ [])
+    (findReason (inEdition 1 (nine front back)) blocks ∷ aThenB (view (nine front back) blocks) ∷ findReason (inEdition 1 (nine back front)) blocks ∷ [])
     (some ((2, 1) ∷ (3, 1) ∷ (4, 1) ∷ (0, 1) ∷ (1, 0) ∷ [])
     ∷ some ((6, 1) ∷ (8, 1) ∷ (7, 0) ∷ [])
     ∷ some ((6, 1) ∷ (8, 1) ∷ (7, 0) ∷ [])

@@ -14,6 +14,7 @@ use Rattle.grid.specs.Lists.{all, member}
 use Rattle.grid.specs.Grid.{Grid, size, up, down, left, right}
 use Rattle.grid.proofs.ListLaws.{all-mem, and-true}
 use Rattle.record.specs.Record.{Outcome, ok, refused, _>>=_, unless, Puzzle, number, field, cellCodes, there, stepFrom, stepCells, arrowAt, filler, arrowsAt, readRecord, Bytes}
+use Rattle.record.specs.Leaf.{inEdition}
 use Rattle.record.proofs.RecordLaws.{record-valid, valid-size}
 use Rattle.grid.specs.Cells.{Literal}
 use Rattle.board.specs.Board.{decide, refusal, decided, cellsAfter, enough}
@@ -182,17 +183,17 @@ module _ {ks : List ℕ} (has : (k : ℕ) → List·Memᴰ k refusals → List·
 pub few-cells : (s : List ℕ) (p : Puzzle) → readRecord s ≡ ok p → size (p .grid) ≤ 1024
 few-cells s p e = valid-size (record-valid s e)
 
-found-with : (s : List ℕ) (p : Puzzle) → readRecord s ≡ ok p → {ds : List Literal} → Standing (p .grid) ds → FoundWith s (findOn p ds)
-found-with s p e {ds} st = record { puzzle = p; reads = e; few = few-cells s p e; found = go (findOn p ds) refl }
+found-with : (s : List ℕ) (p : Puzzle) → readRecord s ≡ ok p → {ds : List Literal} → Standing (p .grid) ds → FoundWith s (findOn (inEdition 1 p) ds)
+found-with s p e {ds} st = record { puzzle = p; reads = e; few = few-cells s p e; found = go (findOn (inEdition 1 p) ds) refl }
   where
-    go : (f : Found) → findOn p ds ≡ f → FoundOn (p .grid) f
+    go : (f : Found) → findOn (inEdition 1 p) ds ≡ f → FoundOn (p .grid) f
     go none q = no-reason
     go (some r) q =
         let cells = cellsAfter (p .grid) ds in
-        let q′ : findReason p (cellsAfter (p .grid) ds) ≡ some r = unfold findOn in q in
+        let q′ : findReason (inEdition 1 p) (cellsAfter (p .grid) ds) ≡ some r = unfold findOn in q in
         let c = standing-calls (p .grid) st in
-        some-reason {r = r} (reason-some p cells r q′) (found-length s p e cells r q′)
-        (λ l m. standing-low st l (rw (c .1) at (on-machine s p e (c .0) (c .0) .stands r (rw (c .1) q) l m)))
+        some-reason {r = r} (reason-some 1 p cells r q′) (found-length 1 s p e cells r q′)
+        (λ l m. standing-low st l (rw (c .1) at (on-machine (inEdition 1 p) (record-valid s e) (c .0) (c .0) .stands r (rw (c .1) q) l m)))
 
 -- what the call can find, where the list has 11 if the output may be too short, and 8 if a value may be above 1
 pub host-possible : {ks : List ℕ} → ((k : ℕ) → List·Memᴰ k refusals → List·Memᴰ k ks) → (s decisions : List ℕ) (k : ℕ)

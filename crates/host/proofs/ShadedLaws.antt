@@ -12,14 +12,13 @@ use Rattle.grid.specs.Side.{sized}
 use Rattle.grid.specs.Cells.{Literal}
 use Rattle.record.specs.Record.{ok, refused, Puzzle, readRecord}
 use Rattle.record.specs.Problem.{gridOf, problemOf}
-use Rattle.record.specs.Valid.{Valid}
-use Rattle.record.specs.declared.Problem.{Problem}
+use Rattle.record.specs.Leaf.{inEdition}
 use Rattle.record.specs.declared.Answer.{Answer}
 use Rattle.record.specs.declared.Answer.the-variants.{Done, Refused}
+use Rattle.record.proofs.LeafLaws.{ValidLeaf}
 use Rattle.board.specs.Board.{cellsAfter}
 use Rattle.board.specs.Kept.{boardOf, openOf}
-use Rattle.board.specs.Decide.{placedFrom}
-use Rattle.board.specs.Inside.{held}
+use Rattle.board.specs.Decide.{withDecisions, placedFrom}
 use Rattle.board.specs.declared.Board.{Board}
 use Rattle.board.specs.declared.Opened.{Opened}
 use Rattle.board.proofs.Standing.{Standing}
@@ -31,7 +30,7 @@ use Rattle.exported.specs.Written.{bytesOf}
 use Rattle.exported.proofs.WrittenLaws.{Told, told-ok}
 use Rattle.host.specs.Shaded.{hostShades}
 use Rattle.exported.proofs.BytesLaws.{bytes-length}
-use Rattle.host.proofs.HostLaws.{opens-size, opens-valid, call-unread, call-short, call-refused, call-done}
+use Rattle.host.proofs.HostLaws.{opens-size, opens-leaf, call-unread, call-short, call-refused, call-done}
 
 -- what the call needs and says
 abbrev need : Grid → ℕ
@@ -41,7 +40,7 @@ abbrev says : Puzzle → List Literal → List ℕ
 says p ds = bytesOf (shadesOn (p .grid) (cellsAfter (p .grid) ds))
 
 -- a refused record
-pub shades-unread : (s : List ℕ) (o : Opened) {k : ℕ} → o ≡ openOf s → o .answer ≡ Refused k → (decisions : List ℕ) (n : ℕ) → hostShades s decisions n ≡ refused k
+pub shades-unread : (s : List ℕ) (o : Opened) {k : ℕ} → o ≡ openOf s 1 → o .answer ≡ Refused k → (decisions : List ℕ) (n : ℕ) → hostShades s decisions n ≡ refused k
 unfolding hostShades
 shades-unread s o e f decisions n = call-unread need says s o e f decisions n
 
@@ -53,34 +52,34 @@ shadedBy h w cells = bytesOf (shadesOn (sized h w) (take (h * w) cells))
 abbrev shadedOn : Board → List ℕ
 shadedOn b = bytesOf (shadesOn (gridOf (b .problem)) (cellsOn b))
 
-on-arrays : (q : Problem) (hints : ℕ) (cells order : List ℕ) (decided : ℕ) → shadedOn (held q hints cells order decided) ≡ shadedBy (q .height) (q .width) cells
+on-arrays : (b : Board) (cells order : List ℕ) (decided : ℕ) → shadedOn (withDecisions b cells order decided) ≡ shadedBy (b .problem .height) (b .problem .width) cells
 unfolding gridOf cellsOn size
-on-arrays q hints cells order decided = refl
+on-arrays b cells order decided = refl
 
-on-machine : (p : Puzzle) → Valid p → {ds : List Literal} → Standing (p .grid) ds → says p ds ≡ shadedOn (boardOf p ds 0)
+on-machine : (p : Puzzle) → ValidLeaf (inEdition 1 p) → {ds : List Literal} → Standing (p .grid) ds → says p ds ≡ shadedOn (boardOf (inEdition 1 p) ds 0)
 unfolding boardOf problemOf gridOf
-on-machine p v {ds} t = rw (cells-on p v 0 t) refl
+on-machine p v {ds} t = rw (cells-on (inEdition 1 p) v 0 t) refl
 
-module _ (s : List ℕ) {p : Puzzle} (reads : readRecord s ≡ ok p) {b : Board} (fresh : b ≡ boardOf p [] 0) (decisions : List ℕ) (n : ℕ) where
+module _ (s : List ℕ) {p : Puzzle} (reads : readRecord s ≡ ok p) {b : Board} (fresh : b ≡ boardOf (inEdition 1 p) [] 0) (decisions : List ℕ) (n : ℕ) where
   -- an output that is too short
   pub shades-short : n < 4 * (b .problem .height * b .problem .width) → hostShades s decisions n ≡ refused 11
   unfolding hostShades
   shades-short h = call-short need says s reads fresh decisions n (rw (opens-size s reads fresh) at h)
 
   -- what placing all decisions answers, and the board that it leaves, where it is long enough
-  module _ (a : Answer) (q : Problem) (hints : ℕ) (cells order : List ℕ) (decided : ℕ) (e : placedFrom b decisions ≡ record { answer = a; board = held q hints cells order decided })
+  module _ (a : Answer) (cells order : List ℕ) (decided : ℕ) (e : placedFrom b decisions ≡ record { answer = a; board = withDecisions b cells order decided })
       (h : 4 * (b .problem .height * b .problem .width) ≤ n) where
     -- a decision is refused
     pub shades-refused : {k : ℕ} → a ≡ Refused k → hostShades s decisions n ≡ refused k
     unfolding hostShades
-    shades-refused f = call-refused need says s reads fresh decisions n a (held q hints cells order decided) e (rw (opens-size s reads fresh) at h) f
+    shades-refused f = call-refused need says s reads fresh decisions n a (withDecisions b cells order decided) e (rw (opens-size s reads fresh) at h) f
 
     -- all are accepted
-    pub shades-done : a ≡ Done → hostShades s decisions n ≡ ok (shadedBy (q .height) (q .width) cells)
+    pub shades-done : a ≡ Done → hostShades s decisions n ≡ ok (shadedBy (b .problem .height) (b .problem .width) cells)
     unfolding hostShades
     shades-done f =
-        call-done need says s reads fresh decisions n a (held q hints cells order decided) e (rw (opens-size s reads fresh) at h) f (shadedBy (q .height) (q .width) cells)
-        (λ ds t z. on-machine p (opens-valid s reads fresh) t ∙ ap shadedOn (sym z) ∙ on-arrays q hints cells order decided)
+        call-done need says s reads fresh decisions n a (withDecisions b cells order decided) e (rw (opens-size s reads fresh) at h) f (shadedBy (b .problem .height) (b .problem .width) cells)
+        (λ ds t z. on-machine p (opens-leaf s reads fresh) t ∙ ap shadedOn (sym z) ∙ on-arrays b cells order decided)
 
 -- the shades' array stays as long as it was
 pub shades-long : (g : Grid) (cells start : List ℕ) {shades : List ℕ} → 2 * size g ≤ length start → shades ≡ shadesOn g cells ++ drop (2 * size g) start → length shades ≡ length start

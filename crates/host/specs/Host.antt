@@ -10,6 +10,7 @@ use lib.IntN.{ℤ, pos, negℤ}
 use lib.ListN.{length, drop}
 use Rattle.grid.specs.Grid.{Grid}
 use Rattle.record.specs.Record.{Outcome, ok, refused, _>>=_, unless, Puzzle, readRecord}
+use Rattle.record.specs.Leaf.{inEdition}
 use Rattle.record.specs.declared.Answer.the-variants.{Done}
 use Rattle.exported.specs.Written.{bytesOf}
 use Rattle.grid.specs.Cells.{Literal, word}
@@ -34,7 +35,7 @@ decideBytes g ds (a ∷ b ∷ rest) =
     (decideBytes g (after g (decide ((a * 256 + b) % 1024) ((a * 256 + b) / 32768)) ds) rest))
     (refused 12)
 
--- a call opens, decides in order and says something of the puzzle and its decisions: 1 to 5, then 11 for an output of k bytes, less than a board
+-- a call opens in edition 1, decides in order and says something of the puzzle and its decisions: 1 to 5, then 11 for an output of k bytes, less than a board
 -- of this size needs, then the decisions' refusals
 abbrev pub hostCall : {A : Type 0} → (Grid → ℕ) → (Puzzle → List Literal → A) → List ℕ → List ℕ → ℕ → Outcome A
 hostCall need says s decisions k =
@@ -45,7 +46,7 @@ hostCall need says s decisions k =
 
 -- the host call opens, decides in order and finds
 unfoldable pub hostFinds : List ℕ → List ℕ → ℕ → Outcome Found
-hostFinds s decisions k = hostCall (λ g. 2 * enough g) findOn s decisions k
+hostFinds s decisions k = hostCall (λ g. 2 * enough g) (λ p. findOn (inEdition 1 p)) s decisions k
 
 -- the number returned: the literal count, 0 for none, or the negated refusal number
 unfoldable pub returned : Outcome Found → ℤ
@@ -65,6 +66,6 @@ outputAfter (refused k) output = output
 outputAfter (ok none) output = output
 outputAfter (ok (some r)) output = bytesOf (map word r) ++ drop (2 * length r) output
 
--- the record s is accepted and opens the board b: what the steps of the call behind `open` know
+-- the record s is accepted and opens the board b in edition 1: what the steps of the call behind `open` know
 abbrev pub Opens : List ℕ → Board → Type 0
-Opens s b = openOf s ≡ record { answer = Done; board = b }
+Opens s b = openOf s 1 ≡ record { answer = Done; board = b }

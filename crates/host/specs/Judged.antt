@@ -7,16 +7,17 @@ use mathlib.Core.List.{List, []}
 use lib.IntN.{ℤ, pos, negℤ}
 use Rattle.grid.specs.Cells.{Literal}
 use Rattle.record.specs.Record.{Outcome, ok, refused, _>>=_, Puzzle, readRecord}
+use Rattle.record.specs.Leaf.{inEdition}
 use Rattle.board.specs.Board.{cellsAfter}
 use Rattle.finished.specs.Finished.{Finished, finishedTest}
 use Rattle.host.specs.Host.{decideBytes}
 
--- the call opens, decides in order and asks whether the board is finished: 1 to 5, then the decisions' refusals
+-- the call opens in edition 1, decides in order and asks whether the board is finished: 1 to 5, then the decisions' refusals
 unfoldable pub hostFinished : List ℕ → List ℕ → Outcome Bool
 hostFinished s decisions =
     readRecord s >>= λ p.
     decideBytes (p .grid) [] decisions >>= λ ds.
-    ok (finishedTest p (cellsAfter (p .grid) ds))
+    ok (finishedTest (inEdition 1 p) (cellsAfter (p .grid) ds))
 
 -- the number returned: 1 yes, 0 no, or the negated refusal number
 unfoldable pub judged : Outcome Bool → ℤ
@@ -30,4 +31,4 @@ pub record FinishedBy (s decisions : List ℕ) : Type 0 where
   pub reads : readRecord s ≡ ok puzzle
   pub accepted : List Literal
   pub decides : decideBytes (puzzle .grid) [] decisions ≡ ok accepted
-  pub finished : Finished puzzle (cellsAfter (puzzle .grid) accepted)
+  pub finished : Finished (inEdition 1 puzzle) (cellsAfter (puzzle .grid) accepted)

@@ -12,6 +12,7 @@ ghost use lib.ListN.{length, take, drop};
 ghost use Rattle.grid.specs.Lists.{last};
 ghost use Rattle.grid.specs.Side.{sized};
 ghost use Rattle.record.specs.Record.{ok};
+ghost use Rattle.record.specs.Leaf.{inEdition};
 ghost use Rattle.kinds.specs.Inside.{puzzleWith};
 ghost use Rattle.reasons.specs.Reasons.{findReason};
 ghost use Rattle.groups.specs.Arrays.{linesOf};
@@ -41,7 +42,7 @@ fn write_literals(literals: &[u16], count: usize, output: &mut [u8])
     }
 }
 
-// Finds on the arrays of a board that is known to be well formed. The output is long enough for every reason.
+// Finds in edition 1 on the arrays of a board that is known to be well formed. The output is long enough for every reason.
 fn find_on<'a>(
     cells: &'a [u8; 1024],
     arrows: &'a [u16; 1024],
@@ -53,11 +54,20 @@ fn find_on<'a>(
 ) -> i32
     requires { ⌜ (h ≤ 32) × (w ≤ 32) × (2 * (3 * (h * w) + 1) ≤ length (now output))
         × ArrowArrays (h * w) (now arrows) (now ends) number (last 0 (take number (now ends))) ⌝ }
-    ensures { λ r. ⌜ (r ≡ returned (ok (findReason (puzzleWith (sized h w) (linesOf (now (arrows .entry)) (now (ends .entry)) number)) (take (h * w) (now (cells .entry))))))
-        × (now (output .exit) ≡ outputAfter (ok (findReason (puzzleWith (sized h w) (linesOf (now (arrows .entry)) (now (ends .entry)) number)) (take (h * w) (now (cells .entry))))) (now (output .entry))) ⌝ }
+    ensures { λ r. ⌜ (r ≡ returned (ok (findReason (inEdition 1 (puzzleWith (sized h w) (linesOf (now (arrows .entry)) (now (ends .entry)) number))) (take (h * w) (now (cells .entry))))))
+        × (now (output .exit) ≡ outputAfter (ok (findReason (inEdition 1 (puzzleWith (sized h w) (linesOf (now (arrows .entry)) (now (ends .entry)) number))) (take (h * w) (now (cells .entry))))) (now (output .entry))) ⌝ }
 {
     let mut literals = reasons::no_literals();
-    let found = inconsistency::find_inconsistency(cells, arrows, ends, number, h, w, &mut literals);
+    let found = inconsistency::find_inconsistency(
+        1,
+        cells,
+        arrows,
+        ends,
+        number,
+        h,
+        w,
+        &mut literals,
+    );
     match found {
         Finding::Nothing => 0,
         Finding::Reason(count) => {
@@ -99,14 +109,14 @@ fn decide_and_find(board: Board, decisions: &[u8], output: &mut [u8]) -> i32
     }
 }
 
-// Opens the record, decides in order and finds. The literals stand in the output's first bytes, two each, most significant first.
+// Opens the record in edition 1, decides in order and finds. The literals stand in the output's first bytes, two each, most significant first.
 // Returns how many there are, 0 for none, or the negated number of a refusal, which leaves the output as it was.
 #[no_mangle]
 pub extern "C" fn evolmino_find(record: &[u8], decisions: &[u8], output: &mut [u8]) -> i32
     ensures { λ r. ⌜ (r ≡ returned (hostFinds (now («record» .entry)) (now (decisions .entry)) (length (now (output .entry)))))
         × (now (output .exit) ≡ outputAfter (hostFinds (now («record» .entry)) (now (decisions .entry)) (length (now (output .entry)))) (now (output .entry))) ⌝ }
 {
-    let opened = Board::open(record);
+    let opened = Board::open(record, 1);
     let answer = opened.answer;
     match answer {
         Answer::Done => decide_and_find(opened.board, decisions, output),
@@ -137,12 +147,12 @@ fn decide_and_judge(board: Board, decisions: &[u8]) -> i32
     }
 }
 
-// Opens the record, decides in order and tells whether the leaf is finished: 1 for yes, 0 for no, or the negated number of a refusal.
+// Opens the record in edition 1, decides in order and tells whether the leaf is finished: 1 for yes, 0 for no, or the negated number of a refusal.
 #[no_mangle]
 pub extern "C" fn evolmino_finished(record: &[u8], decisions: &[u8]) -> i32
     ensures { λ r. ⌜ r ≡ judged (hostFinished (now («record» .entry)) (now (decisions .entry))) ⌝ }
 {
-    let fresh = Board::open(record);
+    let fresh = Board::open(record, 1);
     let answer = fresh.answer;
     match answer {
         Answer::Done => decide_and_judge(fresh.board, decisions),
@@ -197,7 +207,7 @@ fn decide_and_shade(board: Board, decisions: &[u8], output: &mut [u8]) -> i32
     }
 }
 
-// Opens the record, decides in order and writes for each cell of the grid in row order the first cell of its block and the block's count
+// Opens the record in edition 1, decides in order and writes for each cell of the grid in row order the first cell of its block and the block's count
 // of squares, two bytes each, most significant first; 0 and 0 for a cell that is not square. Returns how many bytes are written, or the
 // negated number of a refusal, which leaves the output as it was.
 #[no_mangle]
@@ -205,7 +215,7 @@ pub extern "C" fn evolmino_shades(record: &[u8], decisions: &[u8], output: &mut 
     ensures { λ r. ⌜ (r ≡ written (hostShades (now («record» .entry)) (now (decisions .entry)) (length (now (output .entry)))))
         × (now (output .exit) ≡ outputWith (hostShades (now («record» .entry)) (now (decisions .entry)) (length (now (output .entry)))) (now (output .entry))) ⌝ }
 {
-    let begun = Board::open(record);
+    let begun = Board::open(record, 1);
     let answer = begun.answer;
     match answer {
         Answer::Done => decide_and_shade(begun.board, decisions, output),

@@ -37,6 +37,7 @@ use Rattle.reach.proofs.BlockSize.{block-cell, block-size}
 use Rattle.inconsistency.specs.Arrays.{ArrowArrays}
 use Rattle.literals.specs.Inside.{FoundAs, Fit}
 use Rattle.literals.proofs.Findings.{nothing-found, not-refused, found-first, found-next}
+use Rattle.record.specs.Leaf.{inEdition}
 
 -- ---- the arrays of a board
 
@@ -90,22 +91,22 @@ never-refused f {a} {b} x e = not-refused f (subst (FoundAs f a b) e x)
 pub fit-after : {h w : ℕ} {a b : List ℕ} → Fit h w a → b ≡ a → Fit h w b
 fit-after f e = record { tall = f .tall; wide = f .wide; room = rw e (f .room) }
 
-module _ (p : Puzzle) (cells : List ℕ) {a b : List ℕ} {r : Finding} (x : FoundAs (reason1 p cells) a b r) where
+module _ (k : ℕ) (p : Puzzle) (cells : List ℕ) {a b : List ℕ} {r : Finding} (x : FoundAs (reason1 p cells) a b r) where
   -- reason 1 applies
-  pub first-found : {k : ℕ} → r ≡ Reason k → FoundAs (findReason p cells) a b (Reason k)
+  pub first-found : {m : ℕ} → r ≡ Reason m → FoundAs (findReason (inEdition k p) cells) a b (Reason m)
   unfolding findReason
   first-found e = found-first (reason1 p cells) _ (subst (FoundAs (reason1 p cells) a b) e x)
 
   module _ (e : r ≡ Nothing) {c : List ℕ} {q : Finding} (y : FoundAs (reason2 p cells) b c q) where
     -- reason 2 applies
-    pub second-found : {k : ℕ} → q ≡ Reason k → FoundAs (findReason p cells) a c (Reason k)
+    pub second-found : {m : ℕ} → q ≡ Reason m → FoundAs (findReason (inEdition k p) cells) a c (Reason m)
     unfolding findReason
     second-found d =
         found-next (reason1 p cells) _ (subst (FoundAs (reason1 p cells) a b) e x)
         (found-first (reason2 p cells) _ (subst (FoundAs (reason2 p cells) b c) d y))
 
     -- neither applies
-    pub rest-found : q ≡ Nothing → {t : List ℕ} {r′ : Finding} → FoundAs (reason34 (view p cells)) c t r′ → FoundAs (findReason p cells) a t r′
+    pub rest-found : q ≡ Nothing → {t : List ℕ} {r′ : Finding} → FoundAs (reason34 k (view p cells)) c t r′ → FoundAs (findReason (inEdition k p) cells) a t r′
     unfolding findReason
     rest-found d z =
         found-next (reason1 p cells) _ (subst (FoundAs (reason1 p cells) a b) e x)

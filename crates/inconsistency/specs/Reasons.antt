@@ -2,7 +2,7 @@
 -- Assumes nothing.
 use Prim.Native.Nat.{ℕ}
 use mathlib.Core.List.{List}
-use Rattle.record.specs.Record.{Puzzle}
+use Rattle.record.specs.Leaf.{Leaf}
 use Rattle.kinds.specs.Kinds.{view}
 use Rattle.literals.specs.Literals.{Found, orElse}
 use Rattle.units.specs.Units.{reason1}
@@ -10,5 +10,5 @@ use Rattle.paths.specs.Paths.{reason2}
 use Rattle.growth.specs.Growth.{reason34}
 
 -- reason 1, else 2, else 3 and 4 along the arrows
-unfoldable pub findReason : Puzzle → List ℕ → Found
-findReason p cells = orElse (reason1 p cells) (orElse (reason2 p cells) (reason34 (view p cells)))
+unfoldable pub findReason : Leaf → List ℕ → Found
+findReason l cells = orElse (reason1 (l .puzzle) cells) (orElse (reason2 (l .puzzle) cells) (reason34 (l .edition) (view (l .puzzle) cells)))

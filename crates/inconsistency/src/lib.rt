@@ -1,5 +1,6 @@
 // The first reason that applies, on the arrays of a board.
 use literals::Finding;
+ghost use mathlib.Core.Path.{_≡_};
 ghost use Prim.Native.Nat.{_*_};
 ghost use lib.ListN.{take};
 ghost use Rattle.grid.specs.Lists.{last};
@@ -11,9 +12,11 @@ ghost use Rattle.inconsistency.specs.Arrays.{ArrowArrays, Ready};
 ghost use Rattle.literals.specs.Inside.{Fit, FoundAs};
 ghost use Rattle.growth.specs.Pairs.{viewOn};
 ghost use Rattle.kinds.specs.Inside.{puzzleWith};
+ghost use Rattle.record.specs.Leaf.{inEdition};
 
 // Reasons 3 and 4, if one applies.
 fn check_arrows(
+    edition: u8,
     cells: &[u8; 1024],
     arrows: &[u16; 1024],
     ends: &[u16; 1024],
@@ -25,8 +28,8 @@ fn check_arrows(
     w: usize,
     buffer: &mut [u16],
 ) -> Finding
-    requires { ⌜ Fit h w (now buffer) × Ready h w (now cells) (now arrows) (now ends) number (now blocks) (now squares) (now arrowed) ⌝ }
-    ensures { λ r. ⌜ FoundAs (reason34 (viewOn h w (linesOf (now (arrows .entry)) (now (ends .entry)) number) (now (cells .entry)))) (now (buffer .entry)) (now (buffer .exit)) r ⌝ }
+    requires { ⌜ Fit h w (now buffer) × Ready h w (now cells) (now arrows) (now ends) number (now blocks) (now squares) (now arrowed) × (edition ≡ 0 → ⊥) ⌝ }
+    ensures { λ r. ⌜ FoundAs (reason34 edition (viewOn h w (linesOf (now (arrows .entry)) (now (ends .entry)) number) (now (cells .entry)))) (now (buffer .entry)) (now (buffer .exit)) r ⌝ }
 {
     let mut kinds = [0u8; 1024];
     let mut owners = [1024u16; 1024];
@@ -37,6 +40,7 @@ fn check_arrows(
     reach::chain_cells(&owners, h * w, &mut head, &mut next);
     near::count_cells(&kinds, &owners, h * w, &mut sizes);
     pairs::search_pairs(
+        edition,
         cells,
         arrows,
         ends,
@@ -56,6 +60,7 @@ fn check_arrows(
 // The first reason that applies, on the arrays of a board that is known to be well formed: for `find`, which has tested its board, and
 // for a caller that has opened the board itself.
 pub fn find_inconsistency<'a>(
+    edition: u8,
     cells: &'a [u8; 1024],
     arrows: &'a [u16; 1024],
     ends: &'a [u16; 1024],
@@ -64,8 +69,8 @@ pub fn find_inconsistency<'a>(
     w: usize,
     buffer: &mut [u16],
 ) -> Finding
-    requires { ⌜ Fit h w (now buffer) × ArrowArrays (h * w) (now arrows) (now ends) number (last 0 (take number (now ends))) ⌝ }
-    ensures { λ r. ⌜ FoundAs (findReason (puzzleWith (sized h w) (linesOf (now (arrows .entry)) (now (ends .entry)) number)) (take (h * w) (now (cells .entry)))) (now (buffer .entry)) (now (buffer .exit)) r ⌝ }
+    requires { ⌜ Fit h w (now buffer) × ArrowArrays (h * w) (now arrows) (now ends) number (last 0 (take number (now ends))) × (edition ≡ 0 → ⊥) ⌝ }
+    ensures { λ r. ⌜ FoundAs (findReason (inEdition edition (puzzleWith (sized h w) (linesOf (now (arrows .entry)) (now (ends .entry)) number))) (take (h * w) (now (cells .entry)))) (now (buffer .entry)) (now (buffer .exit)) r ⌝ }
 {
     let mut onarrow = [0u8; 1024];
     let mut labels = [0u16; 1024];
@@ -129,6 +134,7 @@ pub fn find_inconsistency<'a>(
     );
     match second {
         Finding::Nothing => check_arrows(
+            edition,
             cells,
             arrows,
             ends,

@@ -4,7 +4,7 @@ use Prim.Native.Nat.{ℕ, _+_, _*_, _≤_, _<_}
 use native.Mathlib.Omega.{arith}
 use native.Mathlib.Numerals.{add-one}
 use mathlib.Core.Path.{_≡_, refl, ap, _∙_}
-use mathlib.Core.Bool.{Bool, true}
+use mathlib.Core.Bool.{true}
 use mathlib.Core.List.{List, [], _∷_, List·Memᴰ, List·Memᴰ·head, List·Memᴰ·tail}
 use mathlib.Core.Option.{none}
 use lib.ListN.{length, getD, take, drop, length-take, drop-of-length-le}
@@ -33,22 +33,22 @@ found-same e x = rw e at x
 -- ---- one arrow
 
 -- the first reason among the pairs from the place k on
-abbrev pub ahead : Bool → ℕ → ℕ → List (List ℕ) → List ℕ → List ℕ → ℕ → ℕ → Found
-ahead fourth h w lines cells arrows to k = firstOf (reasonAt fourth (viewOn h w lines cells)) (pairs (take (h * w) cells) (slice k to arrows))
+abbrev pub ahead : ℕ → ℕ → ℕ → List (List ℕ) → List ℕ → List ℕ → ℕ → ℕ → Found
+ahead stage h w lines cells arrows to k = firstOf (reasonAt stage (viewOn h w lines cells)) (pairs (take (h * w) cells) (slice k to arrows))
 
-module _ (fourth : Bool) {h w : ℕ} {lines : List (List ℕ)} {cells arrows kinds owners : List ℕ} {from to : ℕ} (s : Scene h w lines cells arrows kinds owners from to) (long : to ≤ length arrows) where
+module _ (stage : ℕ) {h w : ℕ} {lines : List (List ℕ)} {cells arrows kinds owners : List ℕ} {from to : ℕ} (s : Scene h w lines cells arrows kinds owners from to) (long : to ≤ length arrows) where
   abbrev F : Pair → Found
-  F = reasonAt fourth (viewOn h w lines cells)
+  F = reasonAt stage (viewOn h w lines cells)
 
   abbrev L : List ℕ
   L = take (h * w) cells
 
   -- it is the one from the first square on
-  pub search-start : {r : ℕ} → NextSquare cells arrows from to r → ahead fourth h w lines cells arrows to from ≡ ahead fourth h w lines cells arrows to r
+  pub search-start : {r : ℕ} → NextSquare cells arrows from to r → ahead stage h w lines cells arrows to from ≡ ahead stage h w lines cells arrows to r
   search-start n = ap (firstOf F) (pairs-start L arrows to long (next-taken (h * w) n (s .inside)))
 
   -- there is none behind the last place
-  pub search-done : (k : ℕ) → to ≤ k → ahead fourth h w lines cells arrows to k ≡ none
+  pub search-done : (k : ℕ) → to ≤ k → ahead stage h w lines cells arrows to k ≡ none
   unfolding firstOf pairs
   search-done k q = rw (slice-none arrows k to q) refl
 
@@ -60,18 +60,18 @@ module _ (fourth : Bool) {h w : ℕ} {lines : List (List ℕ)} {cells arrows kin
     first-taken = square-taken cells (h * w) (getD arrows last 0) (s .inside last low within) ∙ first
 
     -- the pair of a square and the next gives none, or the reason
-    pub search-more : cur < to → {b a : List ℕ} → FoundAs (F (pairAt arrows last cur)) b a Nothing → ahead fourth h w lines cells arrows to last ≡ ahead fourth h w lines cells arrows to cur
+    pub search-more : cur < to → {b a : List ℕ} → FoundAs (F (pairAt arrows last cur)) b a Nothing → ahead stage h w lines cells arrows to last ≡ ahead stage h w lines cells arrows to cur
     unfolding firstOf orElse
     search-more q x = ap (firstOf F) (pairs-more L arrows to long last within first-taken taken q) ∙ rw (nothing-found (F (pairAt arrows last cur)) x .0) refl
 
-    pub search-found : cur < to → {b a : List ℕ} {k : ℕ} → FoundAs (F (pairAt arrows last cur)) b a (Reason k) → FoundAs (ahead fourth h w lines cells arrows to last) b a (Reason k)
+    pub search-found : cur < to → {b a : List ℕ} {k : ℕ} → FoundAs (F (pairAt arrows last cur)) b a (Reason k) → FoundAs (ahead stage h w lines cells arrows to last) b a (Reason k)
     unfolding firstOf
     search-found q x =
         rw (pairs-more L arrows to long last within first-taken taken q)
-        (found-first (F (pairAt arrows last cur)) (ahead fourth h w lines cells arrows to cur) x)
+        (found-first (F (pairAt arrows last cur)) (ahead stage h w lines cells arrows to cur) x)
 
     -- no square comes after it
-    pub search-end : cur ≡ to → ahead fourth h w lines cells arrows to last ≡ none
+    pub search-end : cur ≡ to → ahead stage h w lines cells arrows to last ≡ none
     unfolding firstOf
     search-end e = ap (firstOf F) (pairs-end L arrows to long last within first-taken taken e)
 

@@ -1,6 +1,7 @@
 // Reasons 3 and 4: the search for them along the arrows.
 use literals::Finding;
 ghost use mathlib.Core.List.{List};
+ghost use mathlib.Core.Path.{_≡_};
 ghost use Prim.Native.Nat.{ℕ, _+_, _*_, _≤_};
 ghost use lib.ListN.{take};
 ghost use lib.Seq.{slice};
@@ -87,9 +88,9 @@ fn check_shift(
     Finding::Reason(literals)
 }
 
-// Reason 4, or reason 3, for the squares at two places of an arrow.
+// Reason 3, at stage 0, or reason 4 in the edition that the stage is, for the squares at two places of an arrow.
 fn check_pair(
-    fourth: bool,
+    stage: u8,
     cells: &[u8; 1024],
     arrows: &[u16; 1024],
     kinds: &[u8; 1024],
@@ -112,10 +113,10 @@ fn check_pair(
         × Grouped (now kinds) (now owners) (now head) (now next) (now sizes) (now squares) (h * w) × Work (now groups) (now rows) (now columns) ⌝ }
     ensures { λ r. ⌜ ((lines : List (List ℕ))
         → Scene h w lines (now (cells .entry)) (now (arrows .entry)) (now (kinds .entry)) (now (owners .entry)) last (cur + 1)
-        → FoundAs (reasonAt fourth (viewOn h w lines (now (cells .entry))) (pairAt (now (arrows .entry)) last cur)) (now (buffer .entry)) (now (buffer .exit)) r) ⌝ }
+        → FoundAs (reasonAt stage (viewOn h w lines (now (cells .entry))) (pairAt (now (arrows .entry)) last cur)) (now (buffer .entry)) (now (buffer .exit)) r) ⌝ }
     ensures { λ r. ⌜ Work (now (groups .exit)) (now (rows .exit)) (now (columns .exit)) ⌝ }
 {
-    if !fourth {
+    if stage == 0 {
         return check_shift(
             cells,
             arrows,
@@ -151,6 +152,9 @@ fn check_pair(
         groups,
         buffer,
     );
+    if stage != 1 {
+        return finding;
+    }
     match finding {
         Finding::Nothing => fourth::check_gap(
             cells,
@@ -176,7 +180,7 @@ fn check_pair(
 
 // The first reason among the pairs of the arrow at the places from `from` up to `to`.
 fn search_arrow(
-    fourth: bool,
+    stage: u8,
     cells: &[u8; 1024],
     arrows: &[u16; 1024],
     kinds: &[u8; 1024],
@@ -199,7 +203,7 @@ fn search_arrow(
         × Grouped (now kinds) (now owners) (now head) (now next) (now sizes) (now squares) (h * w) × Work (now groups) (now rows) (now columns) ⌝ }
     ensures { λ r. ⌜ ((lines : List (List ℕ))
         → Scene h w lines (now (cells .entry)) (now (arrows .entry)) (now (kinds .entry)) (now (owners .entry)) from to
-        → FoundAs (firstOf (reasonAt fourth (viewOn h w lines (now (cells .entry)))) (pairs (take (h * w) (now (cells .entry))) (slice from to (now (arrows .entry))))) (now (buffer .entry)) (now (buffer .exit)) r) ⌝ }
+        → FoundAs (firstOf (reasonAt stage (viewOn h w lines (now (cells .entry)))) (pairs (take (h * w) (now (cells .entry))) (slice from to (now (arrows .entry))))) (now (buffer .entry)) (now (buffer .exit)) r) ⌝ }
     ensures { λ r. ⌜ Work (now (groups .exit)) (now (rows .exit)) (now (columns .exit)) ⌝ }
 {
     let mut last = next_square(cells, arrows, from, to);
@@ -209,7 +213,7 @@ fn search_arrow(
             return Finding::Nothing;
         }
         let finding = check_pair(
-            fourth,
+            stage,
             cells,
             arrows,
             kinds,
@@ -243,9 +247,9 @@ fn search_arrow(
     Finding::Nothing
 }
 
-// The first reason among the pairs of all arrows, in record order: 4 for all of them, or 3.
+// The first reason among the pairs of all arrows, in record order: 3 for all of them at stage 0, or 4 in the edition that the stage is.
 fn search_arrows(
-    fourth: bool,
+    stage: u8,
     cells: &[u8; 1024],
     arrows: &[u16; 1024],
     ends: &[u16; 1024],
@@ -266,7 +270,7 @@ fn search_arrows(
 ) -> Finding
     requires { ⌜ Fit h w (now buffer) × Whole h w (now cells) (now arrows) (now ends) (now kinds) (now owners) number
         × Grouped (now kinds) (now owners) (now head) (now next) (now sizes) (now squares) (h * w) × Work (now groups) (now rows) (now columns) ⌝ }
-    ensures { λ r. ⌜ FoundAs (firstOf (reasonAt fourth (viewOn h w (linesOf (now (arrows .entry)) (now (ends .entry)) number) (now (cells .entry)))) (flatMap (pairs (take (h * w) (now (cells .entry)))) (linesOf (now (arrows .entry)) (now (ends .entry)) number))) (now (buffer .entry)) (now (buffer .exit)) r ⌝ }
+    ensures { λ r. ⌜ FoundAs (firstOf (reasonAt stage (viewOn h w (linesOf (now (arrows .entry)) (now (ends .entry)) number) (now (cells .entry)))) (flatMap (pairs (take (h * w) (now (cells .entry)))) (linesOf (now (arrows .entry)) (now (ends .entry)) number))) (now (buffer .entry)) (now (buffer .exit)) r ⌝ }
     ensures { λ r. ⌜ Work (now (groups .exit)) (now (rows .exit)) (now (columns .exit)) ⌝ }
 {
     let mut from = 0;
@@ -274,7 +278,7 @@ fn search_arrows(
     while a < number {
         let to = grid::wide(ends[a]);
         let finding = search_arrow(
-            fourth,
+            stage,
             cells,
             arrows,
             kinds,
@@ -311,6 +315,7 @@ fn search_arrows(
 
 // Reason 3 for every pair of every arrow; only where none meets it, reason 4.
 pub fn search_pairs(
+    edition: u8,
     cells: &[u8; 1024],
     arrows: &[u16; 1024],
     ends: &[u16; 1024],
@@ -325,16 +330,16 @@ pub fn search_pairs(
     w: usize,
     buffer: &mut [u16],
 ) -> Finding
-    requires { ⌜ Fit h w (now buffer) × Whole h w (now cells) (now arrows) (now ends) (now kinds) (now owners) number
+    requires { ⌜ (edition ≡ 0 → ⊥) × Fit h w (now buffer) × Whole h w (now cells) (now arrows) (now ends) (now kinds) (now owners) number
         × Grouped (now kinds) (now owners) (now head) (now next) (now sizes) (now squares) (h * w) ⌝ }
-    ensures { λ r. ⌜ FoundAs (reason34 (viewOn h w (linesOf (now (arrows .entry)) (now (ends .entry)) number) (now (cells .entry)))) (now (buffer .entry)) (now (buffer .exit)) r ⌝ }
+    ensures { λ r. ⌜ FoundAs (reason34 edition (viewOn h w (linesOf (now (arrows .entry)) (now (ends .entry)) number) (now (cells .entry)))) (now (buffer .entry)) (now (buffer .exit)) r ⌝ }
 {
     let mut near = [0u8; 1024];
     let mut groups = [0u16; 1024];
     let mut rows = [0u16; 1024];
     let mut columns = [0u16; 1024];
     let finding = search_arrows(
-        false,
+        0,
         cells,
         arrows,
         ends,
@@ -355,7 +360,7 @@ pub fn search_pairs(
     );
     match finding {
         Finding::Nothing => search_arrows(
-            true,
+            edition,
             cells,
             arrows,
             ends,

@@ -4,6 +4,7 @@ use Prim.Native.Nat.{ℕ, zero, suc, _+_, _*_, _≤_, _<_}
 use native.Mathlib.Omega.{arith}
 use native.Mathlib.Decide.{decLt}
 use native.Mathlib.Numerals.{add-one}
+use mathlib.Core.Logic.{_⊎_, inl, inr}
 use mathlib.Core.Path.{_≡_, refl, ap, _∙_, subst}
 use mathlib.Core.Bool.{true, false, _&&_}
 use mathlib.Core.List.{List, [], _∷_}
@@ -16,12 +17,14 @@ use Rattle.grid.specs.Side.{sized}
 use Rattle.grid.proofs.ListLaws.{and-true, at-mem}
 use Rattle.grid.proofs.ArrayLaws.{array-length, array-take, array-in, array-out}
 use Rattle.record.specs.Record.{Puzzle}
+use Rattle.record.specs.Leaf.{inEdition}
 use Rattle.record.specs.Valid.{Valid}
 use Rattle.record.specs.Problem.{arrowCells, endsFrom, problemOf, puzzleOf, gridOf}
 use Rattle.record.specs.declared.Problem.{Problem}
 use Rattle.record.proofs.FreshLaws.{arrows-size, one-length, arrows-length}
 use Rattle.record.proofs.ProblemLaws.{length-ends, problem-puzzle}
 use Rattle.record.proofs.RecordLaws.{valid-size}
+use Rattle.record.proofs.LeafLaws.{edition-is}
 use Rattle.form.specs.Form.{rises, ended, behind}
 use Rattle.board.specs.Form.{wellFormed}
 use Rattle.board.specs.declared.Board.{Board}
@@ -128,6 +131,14 @@ pub board-arrays : (b : Board) → wellFormed b ≡ true
     → ArrowArrays (b .problem .height * b .problem .width) (b .problem .arrows) (b .problem .ends) (b .problem .count) (last 0 (take (b .problem .count) (b .problem .ends)))
 board-arrays b h = problem-arrays (b .problem) (whole-is b h .problem)
 
+-- and its edition is not 0
+pub board-edition : (b : Board) → wellFormed b ≡ true → b .edition ≡ 0 → ⊥
+board-edition b h z = go (edition-is (b .edition) .0 (whole-is b h .edition))
+  where
+    go : (b .edition ≡ 1) ⊎ (b .edition ≡ 2) → ⊥
+    go (inl e) = omega (arith, e, z)
+    go (inr e) = omega (arith, e, z)
+
 -- find on the board b with this buffer: its answer, the board and the buffer after it
 abbrev pub Finds : Board → List ℕ → Finding → Board → List ℕ → Type 0
 Finds b buffer finding left after = (finding ≡ findOf b buffer) × (left ≡ afterFind b (length buffer)) × (after ≡ bufferAfter b buffer)
@@ -145,15 +156,15 @@ find-short b buffer h l =
     (rw (h, t) refl, rw (h, t) refl, rw (h, t) refl)
 
 -- a reason goes by the grid and the arrows alone
-pub codes-aside : (p : Puzzle) (cells : List ℕ) → findReason (puzzleWith (p .grid) (p .arrows)) cells ≡ findReason p cells
+pub codes-aside : (e : ℕ) (p : Puzzle) (cells : List ℕ) → findReason (inEdition e (puzzleWith (p .grid) (p .arrows))) cells ≡ findReason (inEdition e p) cells
 unfolding findReason reason1 reason1At reason2 view viewWith kindsOf kindAt blocksTouched arrowBlock
-codes-aside p cells = refl
+codes-aside e p cells = refl
 
 pub find-found : (b : Board) (buffer : List ℕ) {after : List ℕ} {r : Finding} → wellFormed b ≡ true → 3 * (b .problem .height * b .problem .width) + 1 ≤ length buffer
-    → FoundAs (findReason (puzzleWith (sized (b .problem .height) (b .problem .width)) (linesOf (b .problem .arrows) (b .problem .ends) (b .problem .count))) (take (b .problem .height * b .problem .width) (b .cells))) buffer after r
+    → FoundAs (findReason (inEdition (b .edition) (puzzleWith (sized (b .problem .height) (b .problem .width)) (linesOf (b .problem .arrows) (b .problem .ends) (b .problem .count)))) (take (b .problem .height * b .problem .width) (b .cells))) buffer after r
     → Finds b buffer r (hinted b) after
 unfolding findOf afterFind bufferAfter findRefusal hintedBy enough gridOf size reasonOn cellsOn puzzleOf
 find-found b buffer h l x =
     let t = le-ltb (length buffer) (3 * (b .problem .height * b .problem .width) + 1) l in
-    let same = codes-aside (puzzleOf (b .problem)) (cellsOn b) in
+    let same = codes-aside (b .edition) (puzzleOf (b .problem)) (cellsOn b) in
     (x .answer ∙ ap (findingBy 0) same ∙ rw (h, t) refl, rw (h, t) refl, x .buffer ∙ ap (λ (f : Found). bufferBy 0 f buffer) same ∙ rw (h, t) refl)

@@ -11,10 +11,11 @@ use lib.ListN.{length, drop, length-map}
 use lib.Seq.{take-at}
 use borrow.Author.Tests.{le-ltb, lt-ltb}
 use Rattle.grid.proofs.ArrayLaws.{array-take}
-use Rattle.record.specs.Record.{Puzzle, ok, refused, readRecord}
+use Rattle.record.specs.Record.{Puzzle, ok, refused}
+use Rattle.record.specs.Leaf.{Leaf}
 use Rattle.record.specs.Problem.{gridOf, problemOf}
-use Rattle.record.specs.Valid.{Valid}
-use Rattle.record.proofs.RecordLaws.{record-valid, valid-size}
+use Rattle.record.proofs.RecordLaws.{valid-size}
+use Rattle.record.proofs.LeafLaws.{ValidLeaf, leaf-valid}
 use Rattle.record.proofs.ProblemLaws.{problem-puzzle}
 use Rattle.grid.specs.Cells.{Literal, word}
 use Rattle.board.specs.Board.{Call, Full, cellsAfter, enough}
@@ -50,86 +51,89 @@ told-found none a h = refl
 told-found (some r) a h = rw (take-at (map word r) (drop (length r) a) (length r) (length-map r word), literals-words r (h r refl)) refl
 
 -- on the board of standing decisions, with any count of hints
-module _ (p : Puzzle) (v : Valid p) (n : ℕ) {ds : List Literal} (s : Standing (p .grid) ds) where
+module _ (l : Leaf) (v : ValidLeaf l) (n : ℕ) {ds : List Literal} (s : Standing (l .puzzle .grid) ds) where
   -- the cells are those of the machine
-  pub cells-on : cellsOn (boardOf p ds n) ≡ cellsAfter (p .grid) ds
+  pub cells-on : cellsOn (boardOf l ds n) ≡ cellsAfter (l .puzzle .grid) ds
   unfolding cellsOn boardOf problemOf gridOf
-  cells-on = rw (← cells-valid s .long) (array-take 2 (cellsAfter (p .grid) ds))
+  cells-on = rw (← cells-valid s .long) (array-take 2 (cellsAfter (l .puzzle .grid) ds))
 
   -- and so is the reason that applies
-  pub reason-on : reasonOn (boardOf p ds n) ≡ findOn p ds
+  pub reason-on : reasonOn (boardOf l ds n) ≡ findOn l ds
   unfolding reasonOn findOn boardOf
-  reason-on = rw (cells-on, problem-puzzle p v) refl
+  reason-on = rw (cells-on, problem-puzzle (l .puzzle) (v .puzzle)) refl
 
-module _ (p : Puzzle) (v : Valid p) {n : ℕ} (low : n ≤ 65535) {ds : List Literal} (s : Standing (p .grid) ds) where
-  accepted : (k : ℕ) → enough (p .grid) ≤ k → findRefusal (boardOf p ds n) k ≡ 0
+module _ (l : Leaf) (v : ValidLeaf l) {n : ℕ} (low : n ≤ 65535) {ds : List Literal} (s : Standing (l .puzzle .grid) ds) where
+  accepted : (k : ℕ) → enough (l .puzzle .grid) ≤ k → findRefusal (boardOf l ds n) k ≡ 0
   unfolding findRefusal boardOf problemOf gridOf
-  accepted k h = rw (standing-well p v low s, le-ltb k (enough (p .grid)) h) refl
+  accepted k h = rw (standing-well l v low s, le-ltb k (enough (l .puzzle .grid)) h) refl
 
-  short : (k : ℕ) → k < enough (p .grid) → findRefusal (boardOf p ds n) k ≡ 11
+  short : (k : ℕ) → k < enough (l .puzzle .grid) → findRefusal (boardOf l ds n) k ≡ 11
   unfolding findRefusal boardOf problemOf gridOf
-  short k h = rw (standing-well p v low s, lt-ltb k (enough (p .grid)) h) refl
+  short k h = rw (standing-well l v low s, lt-ltb k (enough (l .puzzle .grid)) h) refl
 
   -- every index of a reason is below 32,768
-  module _ (small : (r : List Literal) → findOn p ds ≡ some r → (l : Literal) → List·Memᴰ l r → l .0 < 32768) where
+  module _ (small : (r : List Literal) → findOn l ds ≡ some r → (x : Literal) → List·Memᴰ x r → x .0 < 32768) where
     -- a long enough buffer gets the reason that applies, a shorter one is refused
-    pub long-answer : (a : List ℕ) → enough (p .grid) ≤ length a → answerOn (boardOf p ds n) a ≡ ok (findOn p ds)
+    pub long-answer : (a : List ℕ) → enough (l .puzzle .grid) ≤ length a → answerOn (boardOf l ds n) a ≡ ok (findOn l ds)
     unfolding answerOn findOf bufferAfter
-    long-answer a h = rw (accepted (length a) h, reason-on p v n s) (told-found (findOn p ds) a small)
+    long-answer a h = rw (accepted (length a) h, reason-on l v n s) (told-found (findOn l ds) a small)
 
-    short-answer : (a : List ℕ) → length a < enough (p .grid) → answerOn (boardOf p ds n) a ≡ refused 11
+    short-answer : (a : List ℕ) → length a < enough (l .puzzle .grid) → answerOn (boardOf l ds n) a ≡ refused 11
     unfolding answerOn findOf bufferAfter told findingBy bufferBy
     short-answer a h = rw (short (length a) h) refl
 
-    short-buffer : (a : List ℕ) → length a < enough (p .grid) → bufferAfter (boardOf p ds n) a ≡ a
+    short-buffer : (a : List ℕ) → length a < enough (l .puzzle .grid) → bufferAfter (boardOf l ds n) a ≡ a
     unfolding bufferAfter bufferBy
     short-buffer a h = rw (short (length a) h) refl
 
     -- so a reason that is told is the one that applies
-    told-reason : (a : List ℕ) (r : List Literal) → answerOn (boardOf p ds n) a ≡ ok (some r) → findOn p ds ≡ some r
-    told-reason a r e = go (decLe (enough (p .grid)) (length a))
+    told-reason : (a : List ℕ) (r : List Literal) → answerOn (boardOf l ds n) a ≡ ok (some r) → findOn l ds ≡ some r
+    told-reason a r e = go (decLe (enough (l .puzzle .grid)) (length a))
       where
-        go : Dec (enough (p .grid) ≤ length a) → findOn p ds ≡ some r
+        go : Dec (enough (l .puzzle .grid) ≤ length a) → findOn l ds ≡ some r
         go (yes h) = let q = long-answer a h in cc
         go (no h) = let q = short-answer a (omega arith) in let z : _≡_ {A = ℕ} 0 1 = cc in absurd (omega arith)
 
--- demand 3, for every accepted record and all lists of calls
+-- demand 3, for every accepted record in either edition and all lists of calls
 pub demand-3 : Demand
-demand-3 s p read cs ds = record {
+demand-3 s e l read cs ds = record {
   indexes = m .indexes;
-  cells = after-calls s p read cs ds .cells;
+  cells = after-calls s e l read cs ds .cells;
   answer = λ same a b h k. reasons cs a h ∙ ap ok (m .answer same) ∙ sym (reasons ds b k);
   reasons = reasons cs;
   short = λ a h.
-      rw (board cs) (short-answer p v (after-low p cs) (calls-standing (p .grid) cs) (small cs) a h, short-buffer p v (after-low p cs) (calls-standing (p .grid) cs) (small cs) a h);
-  stands = λ a r e. m .stands r (reason cs a r e);
-  refutes = λ a r e. m .refutes r (reason cs a r e);
+      rw (board cs) (short-answer l v (after-low p cs) (calls-standing (p .grid) cs) (small cs) a h, short-buffer l v (after-low p cs) (calls-standing (p .grid) cs) (small cs) a h);
+  stands = λ a r k. m .stands r (reason cs a r k);
+  refutes = λ a r k. m .refutes r (reason cs a r k);
   finds = λ full a h. full-board full a h;
 }
   where
-    v : Valid p
-    v = record-valid s read
+    p : Puzzle
+    p = l .puzzle
 
-    m : OnMachine p cs ds
-    m = on-machine s p read cs ds
+    v : ValidLeaf l
+    v = leaf-valid s e read
 
-    board : (cs : List Call) → boardAfter s cs ≡ boardOf p (standing p cs) (hintsAfter p cs)
-    board cs = opened-left s p read cs
+    m : OnMachine l cs ds
+    m = on-machine l (v .puzzle) cs ds
 
-    small : (cs : List Call) (r : List Literal) → findOn p (standing p cs) ≡ some r → (l : Literal) → List·Memᴰ l r → l .0 < 32768
-    small cs r e l q =
-        omega (arith, standing-low (calls-standing (p .grid) cs) l (on-machine s p read cs cs .stands r e l q) .0, valid-size v)
+    board : (cs : List Call) → boardAfter s e cs ≡ boardOf l (standing p cs) (hintsAfter p cs)
+    board cs = opened-left s e l read cs
 
-    reasons : (cs : List Call) (a : List ℕ) → enough (p .grid) ≤ length a → answerOn (boardAfter s cs) a ≡ ok (findOn p (standing p cs))
-    reasons cs a h = rw (board cs) (long-answer p v (after-low p cs) (calls-standing (p .grid) cs) (small cs) a h)
+    small : (cs : List Call) (r : List Literal) → findOn l (standing p cs) ≡ some r → (x : Literal) → List·Memᴰ x r → x .0 < 32768
+    small cs r k x q =
+        omega (arith, standing-low (calls-standing (p .grid) cs) x (on-machine l (v .puzzle) cs cs .stands r k x q) .0, valid-size (v .puzzle))
 
-    reason : (cs : List Call) (a : List ℕ) (r : List Literal) → answerOn (boardAfter s cs) a ≡ ok (some r) → findOn p (standing p cs) ≡ some r
-    reason cs a r e = told-reason p v (after-low p cs) (calls-standing (p .grid) cs) (small cs) a r (rw (board cs) at e)
+    reasons : (cs : List Call) (a : List ℕ) → enough (p .grid) ≤ length a → answerOn (boardAfter s e cs) a ≡ ok (findOn l (standing p cs))
+    reasons cs a h = rw (board cs) (long-answer l v (after-low p cs) (calls-standing (p .grid) cs) (small cs) a h)
 
-    full-board : Full (p .grid) (cellsOn (boardAfter s cs)) → (a : List ℕ) → enough (p .grid) ≤ length a
-        → (answerOn (boardAfter s cs) a ≡ ok none) ↔ BlockRules p (cellsOn (boardAfter s cs))
+    reason : (cs : List Call) (a : List ℕ) (r : List Literal) → answerOn (boardAfter s e cs) a ≡ ok (some r) → findOn l (standing p cs) ≡ some r
+    reason cs a r k = told-reason l v (after-low p cs) (calls-standing (p .grid) cs) (small cs) a r (rw (board cs) at k)
+
+    full-board : Full (p .grid) (cellsOn (boardAfter s e cs)) → (a : List ℕ) → enough (p .grid) ≤ length a
+        → (answerOn (boardAfter s e cs) a ≡ ok none) ↔ BlockRules l (cellsOn (boardAfter s e cs))
     full-board full a h =
-        let shown : cellsOn (boardAfter s cs) ≡ cellsAfter (p .grid) (standing p cs) = rw (board cs) (cells-on p v (hintsAfter p cs) (calls-standing (p .grid) cs)) in
+        let shown : cellsOn (boardAfter s e cs) ≡ cellsAfter (p .grid) (standing p cs) = rw (board cs) (cells-on l v (hintsAfter p cs) (calls-standing (p .grid) cs)) in
         let q = m .finds (rw shown at full) in
-        let e = reasons cs a h in
+        let k = reasons cs a h in
         (λ none. rw shown (q .0 (cc)), λ rules. let f = q .1 (rw shown at rules) in cc)

@@ -21,6 +21,7 @@ use Rattle.literals.specs.Literals.{Found, orElse, reasonIf, firstOf}
 use Rattle.growth.specs.Growth.{reasonGrow, reason3At, reasonShrink, reason4At, reason4aAt, reason4bAt, reason34}
 use Rattle.reasons.specs.Reasons.{findReason}
 use Rattle.literals.proofs.Pass.{each-length}
+use Rattle.record.specs.Leaf.{inEdition}
 
 -- a reason with a literal, or none
 Literate : Found → Type 0
@@ -98,14 +99,18 @@ module _ (v : View) (e : Pair) where
   unfolding reason3At
   literate3 = given-literate _ (reasonGrow v e) grow-some
 
-  literate4 : Literate (reason4At v e)
+  literate4 : (k : ℕ) → Literate (reason4At v e k)
   unfolding reason4At reason4aAt reason4bAt
-  literate4 = orElse-literate _ _ (given-literate _ (reasonGrow v e) grow-some) (given-literate _ (reasonShrink v e) shrink-some)
+  literate4 k = orElse-literate _ _ (given-literate _ (reasonGrow v e) grow-some) (by-edition (eqb k 1))
+    where
+      by-edition : (t : Bool) → Literate (cond t (reason4bAt v e) none)
+      by-edition true = given-literate _ (reasonShrink v e) shrink-some
+      by-edition false = none-literate
 
 -- a reason has a literal
-pub reason-some : (p : Puzzle) (cells : List ℕ) (r : List Literal) → findReason p cells ≡ some r → 0 < length r
+pub reason-some : (e : ℕ) (p : Puzzle) (cells : List ℕ) (r : List Literal) → findReason (inEdition e p) cells ≡ some r → 0 < length r
 unfolding findReason reason34 Literate
-reason-some p cells =
+reason-some e p cells =
     let v : View = view p cells in
     orElse-literate _ _ (literate1 p cells) (orElse-literate _ _ (literate2 p cells)
-    (orElse-literate _ _ (firstOf-literate (reason3At v) _ (literate3 v)) (firstOf-literate (reason4At v) _ (literate4 v))))
+    (orElse-literate _ _ (firstOf-literate (reason3At v) _ (literate3 v)) (firstOf-literate (λ k. reason4At v k e) _ (λ k. literate4 v k e))))

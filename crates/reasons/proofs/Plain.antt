@@ -17,6 +17,7 @@ use Rattle.grid.specs.Cells.{square}
 use Rattle.grid.proofs.CellLaws.{square-below}
 use Rattle.groups.specs.Arrows.{OnArrow, Pair, Parted, posLast, posCur}
 use Rattle.groups.proofs.ArrowLaws.{NextAt, at-last, at-cur, pos-below, position, mid, tip, whole, mid-clear}
+use Rattle.record.specs.Leaf.{inEdition}
 use Rattle.groups.specs.Rules.{Next, BlockRules, Grown, SameBlock}
 use Rattle.kinds.specs.Kinds.{has}
 use Rattle.reasons.proofs.Refute.{Rules}
@@ -38,10 +39,10 @@ pub on-line : (arrows : List (List ℕ)) (t : Which arrows) (k : ℕ) → k < li
 on-line arrows t k l = (t .0, t .1, at-mem (t .0) k l)
 
 -- the block rules of a full board, by positions
-abbrev pub RulesAt : Puzzle → List ℕ → Type 0
-RulesAt p full = Rules (Adjacent (p .grid)) (OnArrow (p .arrows)) (p .grid) (Which (p .arrows)) (lineLen (p .arrows)) (lineAt (p .arrows)) (λ c. So (square full c))
+abbrev pub RulesAt : ℕ → Puzzle → List ℕ → Type 0
+RulesAt e p full = Rules e (Adjacent (p .grid)) (OnArrow (p .arrows)) (p .grid) (Which (p .arrows)) (lineLen (p .arrows)) (lineAt (p .arrows)) (λ c. So (square full c))
 
-module _ (p : Puzzle) (full : List ℕ) (long : length full ≡ size (p .grid)) where
+module _ (e : ℕ) (p : Puzzle) (full : List ℕ) (long : length full ≡ size (p .grid)) where
   abbrev g : Grid
   g = p .grid
 
@@ -56,7 +57,7 @@ module _ (p : Puzzle) (full : List ℕ) (long : length full ≡ size (p .grid)) 
   low c s = omega (arith, square-below full c s, long)
 
   -- from the rules as stated to positions
-  pub plain-rules : BlockRules p full → RulesAt p full
+  pub plain-rules : BlockRules (inEdition e p) full → RulesAt e p full
   plain-rules r = record {
     has = λ c s. let o = r .one c (low c s) s in (o .cell, o .arrow, o .within);
     one = λ d e ad ae l. let o = r .one d (low d (linked-start l)) (linked-start l) in
@@ -76,7 +77,7 @@ module _ (p : Puzzle) (full : List ℕ) (long : length full ≡ size (p .grid)) 
       }
 
   -- and back
-  pub rules-plain : RulesAt p full → BlockRules p full
+  pub rules-plain : RulesAt e p full → BlockRules (inEdition e p) full
   rules-plain r = record {
     one = λ i l s. let w = r .has i s in record {
       cell = w .0;
@@ -87,11 +88,11 @@ module _ (p : Puzzle) (full : List ℕ) (long : length full ≡ size (p .grid)) 
     grown = grown;
   }
     where
-      grown : (i j : ℕ) → Next p full i j → Grown g (SameBlock g full i) (SameBlock g full j)
+      grown : (i j : ℕ) → Next p full i j → Grown e g (SameBlock g full i) (SameBlock g full j)
       grown i j n =
-          let e : Pair = record { last = i; between = n .between; cur = j } in
+          let pr : Pair = record { last = i; between = n .between; cur = j } in
           let arrow : List ℕ = n .before ++ (i ∷ (n .between ++ (j ∷ n .behind))) in
-          let q : Parted full arrow e = record { before = n .before; behind = n .behind; whole = refl; first = n .first; second = n .second; none = n .none } in
-          subst (λ z. Grown g (SameBlock g full z) (SameBlock g full j)) (at-last full arrow e q)
-          (subst (λ z. Grown g (SameBlock g full (getD arrow (posLast q) 0)) (SameBlock g full z)) (at-cur full arrow e q)
-          (r .grow (arrow, n .arrow) (posLast q) (posCur q) (pos-below full arrow e q) (position full arrow e q)))
+          let q : Parted full arrow pr = record { before = n .before; behind = n .behind; whole = refl; first = n .first; second = n .second; none = n .none } in
+          subst (λ z. Grown e g (SameBlock g full z) (SameBlock g full j)) (at-last full arrow pr q)
+          (subst (λ z. Grown e g (SameBlock g full (getD arrow (posLast q) 0)) (SameBlock g full z)) (at-cur full arrow pr q)
+          (r .grow (arrow, n .arrow) (posLast q) (posCur q) (pos-below full arrow pr q) (position full arrow pr q)))

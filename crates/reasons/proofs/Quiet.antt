@@ -1,4 +1,4 @@
--- On a full board where no reason applies the block rules hold.
+-- On a full board where no reason of an edition applies its block rules hold.
 -- Assumes nothing.
 use Prim.Native.Nat.{ℕ, _+_, _<_}
 use mathlib.Core.Path.{_≡_}
@@ -17,7 +17,7 @@ use Rattle.kinds.specs.Meaning.{PartialBoard, Block, Reach}
 use Rattle.kinds.proofs.Confine.{Decide}
 use Rattle.reasons.proofs.Refute.{Arrows, Rules}
 
-module _ (B : PartialBoard) (G : Grid) (A : Arrows B) (D : Decide B) (dR : (a c : ℕ) → Dec (Reach B a c)) where
+module _ (e : ℕ) (B : PartialBoard) (G : Grid) (A : Arrows B) (D : Decide B) (dR : (a c : ℕ) → Dec (Reach B a c)) where
   open PartialBoard B using (Adj, Arrow, Empty, Square, Undecided)
   open Arrows A using (Which, len, at, on, side, once)
 
@@ -27,7 +27,7 @@ module _ (B : PartialBoard) (G : Grid) (A : Arrows B) (D : Decide B) (dR : (a c 
     pub q2 : (a b : ℕ) → Arrow a → Arrow b → a ≢ b → ¬ Block B a b
     pub q3 : (t : Which) (i j : ℕ) → j < len t → NextAt Square (at t) i j → (s : Shift) × Contains G s (Block B (at t i)) (Reach B (at t j))
     pub q4a : (t : Which) (i j : ℕ) → j < len t → NextAt Square (at t) i j → ¬ (count (dR (at t j)) (size G) < count (D .blk (at t i)) (size G) + 1)
-    pub q4b : (t : Which) (i j : ℕ) → j < len t → NextAt Square (at t) i j → ¬ (count (dR (at t i)) (size G) + 1 < count (D .blk (at t j)) (size G))
+    pub q4b : e ≡ 1 → (t : Which) (i j : ℕ) → j < len t → NextAt Square (at t) i j → ¬ (count (dR (at t i)) (size G) + 1 < count (D .blk (at t j)) (size G))
 
   module _ (dA : (c : ℕ) → Dec (Arrow c)) (below : Below G Square) (full : (c : ℕ) → ¬ Undecided c) where
     low : (a : ℕ) → Below G (Block B a)
@@ -47,7 +47,7 @@ module _ (B : PartialBoard) (G : Grid) (A : Arrows B) (D : Decide B) (dR : (a c 
     sizes a = omega (arith, count-mono (dR a) (D .blk a) (size G) (λ c _. reach-blk a c), count-mono (D .blk a) (dR a) (size G) (λ c _ b. inl b))
 
     -- where no reason applies the rules hold
-    pub quiet-rules : Quiet → Rules Adj Arrow G Which len at Square
+    pub quiet-rules : Quiet → Rules e Adj Arrow G Which len at Square
     quiet-rules q = record { has = has; one = λ d e ad ae l. same d e ad ae l (ℕ-discrete d e); grow = grow }
       where
         has : (c : ℕ) → Square c → (d : ℕ) × Arrow d × Block B c d
@@ -62,9 +62,10 @@ module _ (B : PartialBoard) (G : Grid) (A : Arrows B) (D : Decide B) (dR : (a c 
         same d e ad ae l (yes z) = z
         same d e ad ae l (no ne) = absurd (q .q2 d e ad ae ne l)
 
-        grow : (t : Which) (i j : ℕ) → j < len t → NextAt Square (at t) i j → Grown G (Block B (at t i)) (Block B (at t j))
+        grow : (t : Which) (i j : ℕ) → j < len t → NextAt Square (at t) i j → Grown e G (Block B (at t i)) (Block B (at t j))
         grow t i j jl p =
             let w = q .q3 t i j jl p in
-            size-grown G (D .blk (at t i)) (D .blk (at t j)) (low _) (low _) (w .0)
+            size-grown G (D .blk (at t i)) (D .blk (at t j)) (low _) (low _) e (w .0)
             (λ c b. let u = w .1 c b in (u .0, reach-blk _ _ (u .1), u .2))
-            (omega (arith, q .q4a t i j jl p, q .q4b t i j jl p, sizes (at t i), sizes (at t j)))
+            (omega (arith, q .q4a t i j jl p, sizes (at t j)))
+            (λ h. omega (arith, q .q4b h t i j jl p, sizes (at t i)))

@@ -27,6 +27,7 @@ use Rattle.literals.specs.Literals.{Found, orElse, reasonIf, firstOf, each}
 use Rattle.growth.specs.Growth.{blockName, reasonGrow, reason3At, gap, reasonShrink, reason4At, reason4aAt, reason4bAt, reason34}
 use Rattle.reasons.specs.Reasons.{findReason}
 use Rattle.kinds.proofs.Lengths.{block-length, fence-length}
+use Rattle.record.specs.Leaf.{inEdition}
 
 -- a reason of this length at most
 Short : ℕ → Found → Type 0
@@ -117,21 +118,25 @@ module _ (v : View) (e : Pair) (h : length (e .between) ≤ size (v .grid)) wher
         length-init (e .between),
       ))
 
-  short4 : Short (bound (v .grid)) (reason4At v e)
+  short4 : (k : ℕ) → Short (bound (v .grid)) (reason4At v e k)
   unfolding reason4At reason4aAt reason4bAt
-  short4 = orElse-short (bound (v .grid)) _ _ (reason-if-short (bound (v .grid)) _ (reasonGrow v e) grow-length) (reason-if-short (bound (v .grid)) _ (reasonShrink v e) shrink-length)
+  short4 k = orElse-short (bound (v .grid)) _ _ (reason-if-short (bound (v .grid)) _ (reasonGrow v e) grow-length) (by-edition (eqb k 1))
+    where
+      by-edition : (t : Bool) → Short (bound (v .grid)) (cond t (reason4bAt v e) none)
+      by-edition true = reason-if-short (bound (v .grid)) _ (reasonShrink v e) shrink-length
+      by-edition false = none-short (bound (v .grid))
 
 -- a pair's cells lie on an arrow
 pairs-length : (cells a : List ℕ) (p : Pair) → List·Memᴰ p (pairs cells a) → length (p .between) ≤ length a
 pairs-length cells a p m = omega (arith, pos-below cells a p (pairs-parted cells a p m))
 
 -- a reason is no longer than the bound, if no arrow is longer than the grid
-pub reason-length : (p : Puzzle) (cells : List ℕ) → ((a : List ℕ) → List·Memᴰ a (p .arrows) → length a ≤ size (p .grid))
-    → (r : List Literal) → findReason p cells ≡ some r → length r ≤ 3 * size (p .grid) + 1
+pub reason-length : (e : ℕ) (p : Puzzle) (cells : List ℕ) → ((a : List ℕ) → List·Memᴰ a (p .arrows) → length a ≤ size (p .grid))
+    → (r : List Literal) → findReason (inEdition e p) cells ≡ some r → length r ≤ 3 * size (p .grid) + 1
 unfolding findReason reason34 Short view viewWith
-reason-length p cells h =
+reason-length e p cells h =
     orElse-short (bound (p .grid)) _ _ (short1 p cells) (orElse-short (bound (p .grid)) _ _ (short2 p cells)
-    (orElse-short (bound (p .grid)) _ _ (firstOf-short (bound (p .grid)) (reason3At v) ps (λ e m. short3 v e (fit e m))) (firstOf-short (bound (p .grid)) (reason4At v) ps (λ e m. short4 v e (fit e m)))))
+    (orElse-short (bound (p .grid)) _ _ (firstOf-short (bound (p .grid)) (reason3At v) ps (λ e m. short3 v e (fit e m))) (firstOf-short (bound (p .grid)) (λ k. reason4At v k e) ps (λ k m. short4 v k (fit k m) e))))
   where
     v : View
     v = view p cells
@@ -143,7 +148,7 @@ reason-length p cells h =
     fit e m = let r = flatMap-mem (pairs cells) (p .arrows) m in omega (arith, pairs-length cells (r .0) e (r .2), h (r .0) (r .1))
 
 -- a reason found on a record that is read fits the buffer
-pub found-length : (s : List ℕ) (p : Puzzle) → readRecord s ≡ ok p → (cells : List ℕ) (r : List Literal)
-    → findReason p cells ≡ some r → length r ≤ 3 * size (p .grid) + 1
-found-length s p e cells r f =
-    reason-length p cells (λ a m. omega (arith, one-length (p .arrows) a m, arrows-length p (record-valid s e))) r f
+pub found-length : (e : ℕ) (s : List ℕ) (p : Puzzle) → readRecord s ≡ ok p → (cells : List ℕ) (r : List Literal)
+    → findReason (inEdition e p) cells ≡ some r → length r ≤ 3 * size (p .grid) + 1
+found-length e s p k cells r f =
+    reason-length e p cells (λ a m. omega (arith, one-length (p .arrows) a m, arrows-length p (record-valid s k))) r f

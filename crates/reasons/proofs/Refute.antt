@@ -35,16 +35,16 @@ pub record Filling (B : PartialBoard) (G : Grid) : Type 1 where
   pub dec-block : (a c : ℕ) → Dec (Linked (B .Adj) F a c)
 
 -- the block rules
-pub record Rules (Adj : ℕ → ℕ → Type 0) (Arrow : ℕ → Type 0) (G : Grid) (Which : Type 0) (len : Which → ℕ) (at : Which → ℕ → ℕ) (F : ℕ → Type 0) : Type 0 where
+pub record Rules (e : ℕ) (Adj : ℕ → ℕ → Type 0) (Arrow : ℕ → Type 0) (G : Grid) (Which : Type 0) (len : Which → ℕ) (at : Which → ℕ → ℕ) (F : ℕ → Type 0) : Type 0 where
   pub has : (c : ℕ) → F c → (d : ℕ) × Arrow d × Linked Adj F c d
   pub one : (d e : ℕ) → Arrow d → Arrow e → Linked Adj F d e → d ≡ e
-  pub grow : (t : Which) (i j : ℕ) → j < len t → NextAt F (at t) i j → Grown G (Linked Adj F (at t i)) (Linked Adj F (at t j))
+  pub grow : (t : Which) (i j : ℕ) → j < len t → NextAt F (at t) i j → Grown e G (Linked Adj F (at t i)) (Linked Adj F (at t j))
 
-module _ (B : PartialBoard) (G : Grid) (A : Arrows B) where
+module _ (e : ℕ) (B : PartialBoard) (G : Grid) (A : Arrows B) where
   open PartialBoard B using (Adj, Arrow, Empty, Square, Undecided)
   open Arrows A using (Which, len, at, on, side, once)
 
-  module _ (D : Decide B) (dR : (a c : ℕ) → Dec (Reach B a c)) (fill : Filling B G) (rules : Rules Adj Arrow G Which len at (fill .F)) (t : Which) where
+  module _ (D : Decide B) (dR : (a c : ℕ) → Dec (Reach B a c)) (fill : Filling B G) (rules : Rules e Adj Arrow G Which len at (fill .F)) (t : Which) where
     -- the squares of the filling
     abbrev F : ℕ → Type 0
     F = fill .F
@@ -54,8 +54,8 @@ module _ (B : PartialBoard) (G : Grid) (A : Arrows B) where
     Bf a c = Linked Adj F a c
 
     follows : (i j : ℕ) → i < j → j < len t → F (at t i) → F (at t j)
-        → Follows G Bf (fill .dec-block) (at t) i j (passed (fill .dec) (at t) i (j - suc i))
-    follows i j l jl f g = along G F (fill .dec) Bf (fill .dec-block) (λ a c l. fill .below c (linked-end l)) (at t) (len t) (λ i j. rules .grow t i j) i (j - suc i) j (omega arith) jl f g
+        → Follows e G Bf (fill .dec-block) (at t) i j (passed (fill .dec) (at t) i (j - suc i))
+    follows i j l jl f g = along e G F (fill .dec) Bf (fill .dec-block) (λ a c l. fill .below c (linked-end l)) (at t) (len t) (λ i j. rules .grow t i j) i (j - suc i) j (omega arith) jl f g
 
     -- neighbours on an arrow are not both squares
     split : (k : ℕ) → suc k < len t → F (at t k) → ¬ F (at t (suc k))
@@ -75,7 +75,7 @@ module _ (B : PartialBoard) (G : Grid) (A : Arrows B) where
             let w = follows i j (pair .0) jl (all _ (here (pair .1))) cur in
             omega (
               arith,
-              w .larger,
+              w .least,
               count-mono (D .blk (at t i)) (fill .dec-block (at t i)) (size G) (λ c _ b. linked-map all b),
               count-mono (fill .dec-block (at t j)) (dR (at t j)) (size G) (λ c _ b. confined B D F (rules .one) (at t j) (on t j jl) (pair .2) fence c b),
             )
@@ -110,12 +110,12 @@ module _ (B : PartialBoard) (G : Grid) (A : Arrows B) where
             into zero l s = absurd (split i (omega arith) lst (subst (λ x. F (at t x)) (omega arith) s))
             into (suc p) l s = inner p l s (decLt p w)
 
-        pub reason-4b : count (dR (at t i)) (size G) + 1 + g < count (D .blk (at t j)) (size G) → ⊥
-        reason-4b h =
+        pub reason-4b : e ≡ 1 → count (dR (at t i)) (size G) + 1 + g < count (D .blk (at t j)) (size G) → ⊥
+        reason-4b one h =
             let w = follows i j (pair .0) jl lst (all _ (here (pair .2))) in
             omega (
               arith,
-              w .larger,
+              w .most one,
               few,
               count-mono (D .blk (at t j)) (fill .dec-block (at t j)) (size G) (λ c _ b. linked-map all b),
               count-mono (fill .dec-block (at t i)) (dR (at t i)) (size G) (λ c _ b. confined B D F (rules .one) (at t i) (on t i (omega (arith, pair .0))) (pair .1) fence c b),

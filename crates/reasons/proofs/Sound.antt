@@ -20,27 +20,28 @@ use Rattle.grid.proofs.CellLaws.{square-not-empty}
 use Rattle.groups.proofs.GroupLaws.{mem-group, own-names, group-linked, linked-group}
 use Rattle.groups.specs.Groups.{labels, group, names}
 use Rattle.groups.specs.Arrows.{OnArrow, onArrow, pairs, Pair}
+use Rattle.record.specs.Leaf.{inEdition}
 use Rattle.groups.specs.Rules.{Shift, BlockRules, Contains}
 use Rattle.groups.proofs.ArrowLaws.{arrow-so, so-arrow, dec-arrow, NextAt, position-pair}
 use Rattle.kinds.proofs.Bridge.{decisions, dec-reach, sq<, blockName}
 use Rattle.kinds.specs.Kinds.{View, view, viewWith, block, reach}
 use Rattle.kinds.specs.Meaning.{PartialBoard, Block, Reach, Setting, partialOf}
 use Rattle.kinds.proofs.Fence.{length-reach, length-block}
-use Rattle.reasons.proofs.Sound34.{four-none, tooMany, three-none, tooFew, Spot, reason34-sound, A}
-use Rattle.reasons.proofs.Plain.{on-line, lineAt, lineLen, Which, rules-plain, plain-rules, RulesAt}
-use Rattle.reasons.proofs.First.{or-else-some, reason-if-none, first-none, or-else-none}
-use Rattle.reasons.proofs.Sound1.{so-filled, reason1-sound, potential<, filled-so}
-use Rattle.reasons.proofs.Stands.{find-stands}
-use Rattle.reasons.proofs.Sound2.{reason2-sound, blockOf}
-use Rattle.literals.specs.Literals.{Found, orElse, firstOf}
+use Rattle.literals.specs.Literals.{Found, firstOf}
 use Rattle.units.specs.Units.{reason1At, reason1}
 use Rattle.paths.specs.Paths.{reason2At, reason2}
 use Rattle.growth.specs.Growth.{mostApart, reason3At, reason4At, reason34}
-use Rattle.reasons.specs.Reasons.{findReason}
-use Rattle.reasons.proofs.Quiet.{Quiet, quiet-rules}
 use Rattle.growth.proofs.Gap.{most-full}
+use Rattle.reasons.specs.Reasons.{findReason}
+use Rattle.reasons.proofs.First.{or-else-some, reason-if-none, first-none, or-else-none}
+use Rattle.reasons.proofs.Plain.{on-line, lineAt, lineLen, Which, RulesAt, plain-rules, rules-plain}
+use Rattle.reasons.proofs.Sound1.{so-filled, potential<, filled-so, reason1-sound}
+use Rattle.reasons.proofs.Sound2.{blockOf, reason2-sound}
+use Rattle.reasons.proofs.Sound34.{tooMany, three-none, tooFew, Spot, A, four-none, reason34-sound}
+use Rattle.reasons.proofs.Stands.{find-stands}
+use Rattle.reasons.proofs.Quiet.{Quiet, quiet-rules}
 
-module _ (set : Setting) where
+module _ (e : ℕ) (set : Setting) where
   open Setting set using (puzzle, cells, valid)
 
   abbrev pub grid : Grid
@@ -57,16 +58,18 @@ module _ (set : Setting) where
   abbrev v : View
   v = view puzzle cells
 
-  -- every reason is sound, with the rules by positions
-  pub find-sound : (r : List Literal) → findReason puzzle cells ≡ some r → (full : List ℕ) → length full ≡ size grid → Agrees full r → ¬ RulesAt puzzle full
+  -- every reason is sound
+  pub sound : (r : List Literal) → findReason (inEdition e puzzle) cells ≡ some r → (full : List ℕ) → length full ≡ size grid → Agrees full r → ¬ BlockRules (inEdition e puzzle) full
   unfolding findReason
-  find-sound r e full long ag rules =
-      or-else-some (reason1 puzzle cells) _ r e (λ k. reason1-sound set full long rules r k ag)
-      (λ k. or-else-some (reason2 puzzle cells) (reason34 v) r k (λ k. reason2-sound set r k full ag rules) (λ k. reason34-sound set full long rules r k ag))
+  sound r k full long ag rules =
+      let at : RulesAt e puzzle full = plain-rules e puzzle full long rules in
+      or-else-some (reason1 puzzle cells) _ r k (λ k. reason1-sound set full long at r k ag)
+      (λ k. or-else-some (reason2 puzzle cells) _ r k (λ k. reason2-sound set r k full ag at)
+      (λ k. reason34-sound set e full long at r k ag))
 
   -- no reason applies
   abbrev Q : Type 0
-  Q = Quiet B grid (A set) (decisions set) (dec-reach set)
+  Q = Quiet e B grid (A set) (decisions set) (dec-reach set)
 
   -- where no reason is given none applies
   module _ (full : (c : ℕ) → ¬ So (undecided cells c)) where
@@ -103,14 +106,14 @@ module _ (set : Setting) where
         (mem-filter (onArrow arrows) c (linked-group grid (square cells) a b a< l) (so-arrow arrows b ab)) ne k
 
     -- a pair of positions, and what the two tests say of it
-    module _ (e : reason34 v ≡ none) (t : Which arrows) (i j : ℕ) (jl : j < lineLen arrows t) (pr : NextAt (λ c. So (square cells c)) (lineAt arrows t) i j) where
-      both : (b : List ℕ) × (reason3At v (record { last = lineAt arrows t i; between = b; cur = lineAt arrows t j }) ≡ none) × (reason4At v (record { last = lineAt arrows t i; between = b; cur = lineAt arrows t j }) ≡ none)
+    module _ (h34 : reason34 e v ≡ none) (t : Which arrows) (i j : ℕ) (jl : j < lineLen arrows t) (pr : NextAt (λ c. So (square cells c)) (lineAt arrows t) i j) where
+      both : (b : List ℕ) × (reason3At v (record { last = lineAt arrows t i; between = b; cur = lineAt arrows t j }) ≡ none) × (reason4At v (record { last = lineAt arrows t i; between = b; cur = lineAt arrows t j }) e ≡ none)
       unfolding reason34 view viewWith
       both =
-          let w = or-else-none (firstOf (reason3At v) ps) (firstOf (reason4At v) ps) e in
+          let w = or-else-none (firstOf (reason3At v) ps) (firstOf (λ p. reason4At v p e) ps) h34 in
           let q = position-pair cells (t .0) i j jl pr in
           let m = mem-flatMap (pairs cells) arrows (t .1) (q .1) in
-          (q .0, first-none (reason3At v) ps (w .0) m, first-none (reason4At v) ps (w .1) m)
+          (q .0, first-none (reason3At v) ps (w .0) m, first-none (λ p. reason4At v p e) ps (w .1) m)
         where
           ps : List Pair
           ps = flatMap (pairs cells) arrows
@@ -134,9 +137,9 @@ module _ (set : Setting) where
       size-block k l s = length-block set
           (lineAt arrows t k) (on-line arrows t k l) s
 
-      tests : (¬ So (tooFew set spot)) × (¬ So (tooMany set spot))
+      tests : (¬ So (tooFew set spot)) × (e ≡ 1 → ¬ So (tooMany set spot))
       unfolding spot
-      tests = four-none set spot (both .2)
+      tests = four-none set spot e (both .2)
 
       quiet-3 : (s : Shift) × Contains grid s (Block B a₁) (Reach B c₁)
       unfolding spot
@@ -146,34 +149,41 @@ module _ (set : Setting) where
       unfolding spot
       quiet-4a h = tests .0 (lt-ltb (length (reach v (blockName set c₁))) (length (block v (blockName set a₁)) + 1) (omega (arith, size-reach j jl (pr .2), size-block i (omega (arith, pr .0)) (pr .1))))
 
-      quiet-4b : ¬ (count (dec-reach set a₁) (size grid) + 1 < count (decisions set .blk c₁) (size grid))
+      quiet-4b : e ≡ 1 → ¬ (count (dec-reach set a₁) (size grid) + 1 < count (decisions set .blk c₁) (size grid))
       unfolding spot
-      quiet-4b h = tests .1 (lt-ltb (length (reach v (blockName set a₁)) + 1 + mostApart cells false (tail (init (both .0)))) (length (block v (blockName set c₁)))
+      quiet-4b first h = tests .1 first (lt-ltb (length (reach v (blockName set a₁)) + 1 + mostApart cells false (tail (init (both .0)))) (length (block v (blockName set c₁)))
           (omega (arith, size-reach i (omega (arith, pr .0)) (pr .1), size-block j jl (pr .2), most-full cells (tail (init (both .0))) full)))
 
-    quiet : findReason puzzle cells ≡ none → Q
+    -- no reason is given
+    record NoReason : Type 0 where
+      first : reason1 puzzle cells ≡ none
+      second : reason2 puzzle cells ≡ none
+      third : reason34 e v ≡ none
+
+    parts : findReason (inEdition e puzzle) cells ≡ none → NoReason
     unfolding findReason
-    quiet e =
-        let w = or-else-none (reason1 puzzle cells) (orElse (reason2 puzzle cells) (reason34 v)) e in
-        let u = or-else-none (reason2 puzzle cells) (reason34 v) (w .1) in
-        record { q1 = quiet-1 (w .0); q2 = quiet-2 (u .0); q3 = λ t i j jl pr. quiet-3 (u .1) t i j jl pr; q4a = λ t i j jl pr. quiet-4a (u .1) t i j jl pr; q4b = λ t i j jl pr. quiet-4b (u .1) t i j jl pr }
+    parts k =
+        let w = or-else-none (reason1 puzzle cells) _ k in
+        let u = or-else-none (reason2 puzzle cells) _ (w .1) in
+        record { first = w .0; second = u .0; third = u .1 }
+
+    quiet : NoReason → Q
+    quiet n = record {
+      q1 = quiet-1 (n .first);
+      q2 = quiet-2 (n .second);
+      q3 = λ t i j jl pr. quiet-3 (n .third) t i j jl pr;
+      q4a = λ t i j jl pr. quiet-4a (n .third) t i j jl pr;
+      q4b = λ h t i j jl pr. quiet-4b (n .third) t i j jl pr h;
+    }
 
     -- on a full board none is given exactly when the block rules hold
-    pub find-full : (findReason puzzle cells ≡ none) ↔ RulesAt puzzle cells
-    find-full = (λ e. by-quiet (quiet e), λ r. given-up r (findReason puzzle cells) refl)
+    pub complete : (findReason (inEdition e puzzle) cells ≡ none) ↔ BlockRules (inEdition e puzzle) cells
+    complete = (λ k. let n = parts k in rules-plain e puzzle cells (valid .long) (by-quiet (quiet n)), λ r. given-up r (findReason (inEdition e puzzle) cells) refl)
       where
-        by-quiet : Q → RulesAt puzzle cells
-        by-quiet = quiet-rules B grid (A set) (decisions set) (dec-reach set)
+        by-quiet : Q → RulesAt e puzzle cells
+        by-quiet = quiet-rules e B grid (A set) (decisions set) (dec-reach set)
             (dec-arrow arrows) (sq< set) full
 
-        given-up : RulesAt puzzle cells → (o : Found) → findReason puzzle cells ≡ o → findReason puzzle cells ≡ none
-        given-up r none e = e
-        given-up r (some l) e = absurd (find-sound l e cells (valid .long) (λ i w m. find-stands set l e i w m .2) r)
-
-  -- every reason is sound
-  pub sound : (r : List Literal) → findReason puzzle cells ≡ some r → (full : List ℕ) → length full ≡ size grid → Agrees full r → ¬ BlockRules puzzle full
-  sound r e full long ag rules = find-sound r e full long ag (plain-rules puzzle full long rules)
-
-  -- on a full board none is given exactly when the block rules hold
-  pub complete : ((c : ℕ) → ¬ So (undecided cells c)) → (findReason puzzle cells ≡ none) ↔ BlockRules puzzle cells
-  complete full = let w = find-full full in (λ e. rules-plain puzzle cells (valid .long) (w .0 e), λ r. w .1 (plain-rules puzzle cells (valid .long) r))
+        given-up : BlockRules (inEdition e puzzle) cells → (o : Found) → findReason (inEdition e puzzle) cells ≡ o → findReason (inEdition e puzzle) cells ≡ none
+        given-up r none k = k
+        given-up r (some l) k = absurd (sound l k cells (valid .long) (λ i w m. find-stands set e l k i w m .2) r)

@@ -76,12 +76,12 @@ module _ (set : Setting) where
   abbrev pub bounds : List ℕ → List ℕ
   bounds c = filter (λ i. empty cells i && touches grid c i) (cellsOf grid)
 
-  module _ (full : List ℕ) (long : length full ≡ size grid) (rules : RulesAt puzzle full) where
+  module _ {e : ℕ} (full : List ℕ) (long : length full ≡ size grid) (rules : RulesAt e puzzle full) where
     -- reason 1 is sound
     pub reason1-sound : (r : List Literal) → reason1 puzzle cells ≡ some r → Agrees full r → ⊥
     unfolding reason1 reason1At square
-    reason1-sound r e ag =
-        let w = first-some (λ f. reason1At puzzle cells (pot f)) (names grid (potential cells) (labels grid (potential cells))) r e in
+    reason1-sound r k ag =
+        let w = first-some (λ f. reason1At puzzle cells (pot f)) (names grid (potential cells) (labels grid (potential cells))) r k in
         let q = reason-if-some (any (square cells) (pot (w .0)) && not (any (onArrow arrows) (pot (w .0)))) (each 0 (bounds (pot (w .0))) ++ each 1 (last 0 (filter (square cells) (pot (w .0))) ∷ [])) r (w .2) in
         go (w .0) (and-true (any (square cells) (pot (w .0))) _ (q .0)) (subst (Agrees full) (sym (q .1)) ag)
       where

@@ -90,7 +90,7 @@ module _ (set : Setting) where
           }
 
   -- reason 2 is sound
-  pub reason2-sound : (r : List Literal) → reason2 puzzle cells ≡ some r → (full : List ℕ) → Agrees full r → ¬ RulesAt puzzle full
+  pub reason2-sound : {e : ℕ} (r : List Literal) → reason2 puzzle cells ≡ some r → (full : List ℕ) → Agrees full r → ¬ RulesAt e puzzle full
   unfolding square
   reason2-sound r e full ag rules =
       let w = two-of r e in

@@ -3,11 +3,11 @@
 use Prim.Native.Nat.{ℕ, _+_, _-_, _≤_, _<_}
 use mathlib.Core.Logic.{_⊎_, inl, inr}
 use mathlib.Core.Path.{_≡_, refl, sym, ap, _∙_, subst}
-use mathlib.Core.Bool.{Bool, false, So, not, false≢true}
+use mathlib.Core.Bool.{Bool, true, false, So, cond, not, false≢true}
 use mathlib.Core.List.{List, [], _∷_, _++_, List·Memᴰ, List·Memᴰ·head}
 use mathlib.Core.Option.{none, some}
 use native.Mathlib.Omega.{arith}
-use lib.Dec.{ltb}
+use lib.Dec.{eqb, ltb}
 use lib.ListN.{length, getD}
 use borrow.Author.Tests.{eqb-true, eq-eqb, ltb-true}
 use Rattle.grid.specs.Lists.{filter, any, flatMap, last, init, tail}
@@ -29,7 +29,7 @@ use Rattle.kinds.proofs.Confine.{Fenced}
 use Rattle.kinds.proofs.Fence.{reach-in, in-reach, block-in, in-block, length-reach, length-block, fenced}
 use Rattle.reasons.proofs.First.{first-some, agrees-left, agrees-right, agrees-each, or-else-some, or-else-none, reason-if-none, reason-if-some}
 use Rattle.reasons.proofs.Plain.{lineLen, RulesAt, on-line, Which, lineAt}
-use Rattle.literals.specs.Literals.{reasonIf, firstOf, each}
+use Rattle.literals.specs.Literals.{Found, reasonIf, firstOf, each}
 use Rattle.growth.specs.Growth.{reasonShrink, mostApart, blockName as viewName, reasonGrow, reason3At, gap, reason4At, reason4aAt, reason4bAt, reason34}
 use Rattle.growth.specs.Gap.{Choice}
 use Rattle.growth.proofs.Gap.{most-bound}
@@ -138,18 +138,31 @@ module _ (set : Setting) where
     abbrev pub shrinkLiterals : List Literal
     shrinkLiterals = each 1 (block v (blockName set curCell)) ++ each 1 (lastCell ∷ []) ++ fence v (blockName set lastCell) ++ each 0 (filter (empty cells) (tail (init between)))
 
-    pub four-some : (r : List Literal) → reason4At v pair ≡ some r → (So tooFew × (reasonGrow v pair ≡ r)) ⊎ (So tooMany × (shrinkLiterals ≡ r))
-    unfolding reason4At reason4aAt reason4bAt reasonShrink view viewWith viewName gap
-    four-some r e =
-        or-else-some (reasonIf tooFew (reasonGrow v pair)) (reasonIf tooMany shrinkLiterals) r e
-        (λ k. inl (reason-if-some tooFew (reasonGrow v pair) r k)) (λ k. inr (reason-if-some tooMany shrinkLiterals r k))
+    -- 4 (b) in the edition e
+    abbrev manyIn : ℕ → Found
+    manyIn e = cond (eqb e 1) (reasonIf tooMany shrinkLiterals) none
 
-    pub four-none : reason4At v pair ≡ none → (¬ So tooFew) × (¬ So tooMany)
+    many-some : (e : ℕ) (r : List Literal) → manyIn e ≡ some r → (e ≡ 1) × So tooMany × (shrinkLiterals ≡ r)
+    many-some e r = go (eqb e 1) refl
+      where
+        go : (t : Bool) → eqb e 1 ≡ t → cond t (reasonIf tooMany shrinkLiterals) none ≡ some r → (e ≡ 1) × So tooMany × (shrinkLiterals ≡ r)
+        go true z k = let w = reason-if-some tooMany shrinkLiterals r k in (eqb-true e 1 z, w .0, w .1)
+        go false z k = absurd (let y : _≡_ {A = ℕ} 0 1 = cc in omega arith)
+
+    pub four-some : (e : ℕ) (r : List Literal) → reason4At v pair e ≡ some r → (So tooFew × (reasonGrow v pair ≡ r)) ⊎ ((e ≡ 1) × So tooMany × (shrinkLiterals ≡ r))
     unfolding reason4At reason4aAt reason4bAt reasonShrink view viewWith viewName gap
-    four-none e = let w = or-else-none (reasonIf tooFew (reasonGrow v pair)) (reasonIf tooMany shrinkLiterals) e in (reason-if-none tooFew (reasonGrow v pair) (w .0), reason-if-none tooMany shrinkLiterals (w .1))
+    four-some e r k =
+        or-else-some (reasonIf tooFew (reasonGrow v pair)) (manyIn e) r k
+        (λ k. inl (reason-if-some tooFew (reasonGrow v pair) r k)) (λ k. inr (many-some e r k))
+
+    pub four-none : (e : ℕ) → reason4At v pair e ≡ none → (¬ So tooFew) × (e ≡ 1 → ¬ So tooMany)
+    unfolding reason4At reason4aAt reason4bAt reasonShrink view viewWith viewName gap
+    four-none e k =
+        let w = or-else-none (reasonIf tooFew (reasonGrow v pair)) (manyIn e) k in
+        (reason-if-none tooFew (reasonGrow v pair) (w .0), λ h. reason-if-none tooMany shrinkLiterals (subst (λ t. cond t (reasonIf tooMany shrinkLiterals) none ≡ none) (eq-eqb e 1 h) (w .1)))
 
     -- a filling that agrees and meets the rules
-    module _ (full : List ℕ) (long : length full ≡ size grid) (rules : RulesAt puzzle full) where
+    module _ {e : ℕ} (full : List ℕ) (long : length full ≡ size grid) (rules : RulesAt e puzzle full) where
       -- the squares of the full board
       abbrev F : ℕ → Type 0
       F c = So (square full c)
@@ -191,15 +204,15 @@ module _ (set : Setting) where
         grow-fence = fenced set full curCell ac (pr .2) (agrees-right full (first ++ second) (fence v (blockName set curCell)) ag)
 
         pub three-sound : ((s : Shift) → ¬ Contains grid s (Block B lastCell) (Reach B curCell)) → ⊥
-        three-sound = reason-3 B grid A (decisions set) (dec-reach set) fill rules t i j jl pr grow-all grow-cur grow-fence
+        three-sound = reason-3 e B grid A (decisions set) (dec-reach set) fill rules t i j jl pr grow-all grow-cur grow-fence
 
         pub four-a-sound : So tooFew → ⊥
-        four-a-sound h = reason-4a B grid A (decisions set) (dec-reach set) fill rules t i j jl pr grow-all grow-cur grow-fence
+        four-a-sound h = reason-4a e B grid A (decisions set) (dec-reach set) fill rules t i j jl pr grow-all grow-cur grow-fence
             (omega (arith, ltb-true, length-reach set curCell ac (pr .2) (dec-reach set curCell), length-block set lastCell aa (pr .1)))
 
-      pub four-b-sound : length (tail (init between)) ≡ j - (i + 3) → ((k : ℕ) → k < length (tail (init between)) → lineAt arrows t (i + 2 + k) ≡ getD (tail (init between)) k 0)
+      pub four-b-sound : e ≡ 1 → length (tail (init between)) ≡ j - (i + 3) → ((k : ℕ) → k < length (tail (init between)) → lineAt arrows t (i + 2 + k) ≡ getD (tail (init between)) k 0)
           → Agrees full shrinkLiterals → So tooMany → ⊥
-      four-b-sound glen gat ag h = reason-4b B grid A (decisions set) (dec-reach set) fill rules t i j jl pr all-cur lst fnc gp g₀ most
+      four-b-sound one glen gat ag h = reason-4b e B grid A (decisions set) (dec-reach set) fill rules t i j jl pr all-cur lst fnc gp g₀ most one
           (omega (arith, ltb-true, length-reach set lastCell aa (pr .1) (dec-reach set lastCell), length-block set curCell ac (pr .2)))
         where
           G : List ℕ
@@ -272,38 +285,39 @@ module _ (set : Setting) where
         gat = at-gap cells (w .0) p q;
       }
 
-  -- a reason 3 or 4 is one of three
-  pub data Told34 (r : List Literal) : Type 0 where
-    no-shift : (spot : Spot) → ((s : Shift) → ¬ Contains grid s (Block B (lastCell spot)) (Reach B (curCell spot))) → reasonGrow v (pair spot) ≡ r → Told34 r
-    too-few : (spot : Spot) → So (tooFew spot) → reasonGrow v (pair spot) ≡ r → Told34 r
-    too-many : {p : Pair} (q : Placed p) → So (tooMany (q .spot)) → shrinkLiterals (q .spot) ≡ r → Told34 r
+  module _ (e : ℕ) where
+    -- a reason 3 or 4 is one of three, the last in the first edition only
+    pub data Told34 (r : List Literal) : Type 0 where
+      no-shift : (spot : Spot) → ((s : Shift) → ¬ Contains grid s (Block B (lastCell spot)) (Reach B (curCell spot))) → reasonGrow v (pair spot) ≡ r → Told34 r
+      too-few : (spot : Spot) → So (tooFew spot) → reasonGrow v (pair spot) ≡ r → Told34 r
+      too-many : e ≡ 1 → {p : Pair} (q : Placed p) → So (tooMany (q .spot)) → shrinkLiterals (q .spot) ≡ r → Told34 r
 
-  pub told-34 : (r : List Literal) → reason34 v ≡ some r → Told34 r
-  unfolding reason34 view viewWith
-  told-34 r e =
-      or-else-some (firstOf (reason3At v) ps) (firstOf (reason4At v) ps) r e
-      (λ k. let w = first-some (reason3At v) ps r k in three (w .0) (placed (w .0) (w .1)) (w .2))
-      (λ k. let w = first-some (reason4At v) ps r k in four (w .0) (placed (w .0) (w .1)) (w .2))
-    where
-      ps : List Pair
-      ps = flatMap (pairs cells) arrows
-
-      three : (p : Pair) (q : Placed p) → reason3At v p ≡ some r → Told34 r
-      three p q k = let w = three-some (q .spot) r (subst (λ z. reason3At v z ≡ some r) (q .is) k) in no-shift (q .spot) (w .1) (w .0)
-
-      four : (p : Pair) (q : Placed p) → reason4At v p ≡ some r → Told34 r
-      four p q k = two (four-some (q .spot) r (subst (λ z. reason4At v z ≡ some r) (q .is) k))
-        where
-          two : (So (tooFew (q .spot)) × (reasonGrow v (pair (q .spot)) ≡ r)) ⊎ (So (tooMany (q .spot)) × (shrinkLiterals (q .spot) ≡ r)) → Told34 r
-          two (inl (h, z)) = too-few (q .spot) h z
-          two (inr (h, z)) = too-many q h z
-
-  module _ (full : List ℕ) (long : length full ≡ size grid) (rules : RulesAt puzzle full) where
-    -- reasons 3 and 4 are sound
-    pub reason34-sound : (r : List Literal) → reason34 v ≡ some r → Agrees full r → ⊥
-    reason34-sound r e ag = go (told-34 r e)
+    pub told-34 : (r : List Literal) → reason34 e v ≡ some r → Told34 r
+    unfolding reason34 view viewWith
+    told-34 r k =
+        or-else-some (firstOf (reason3At v) ps) (firstOf (λ p. reason4At v p e) ps) r k
+        (λ k. let w = first-some (reason3At v) ps r k in three (w .0) (placed (w .0) (w .1)) (w .2))
+        (λ k. let w = first-some (λ p. reason4At v p e) ps r k in four (w .0) (placed (w .0) (w .1)) (w .2))
       where
-        go : Told34 r → ⊥
-        go (no-shift spot n z) = three-sound spot full long rules (subst (Agrees full) (sym z) ag) n
-        go (too-few spot h z) = four-a-sound spot full long rules (subst (Agrees full) (sym z) ag) h
-        go (too-many q h z) = four-b-sound (q .spot) full long rules (q .glen) (q .gat) (subst (Agrees full) (sym z) ag) h
+        ps : List Pair
+        ps = flatMap (pairs cells) arrows
+
+        three : (p : Pair) (q : Placed p) → reason3At v p ≡ some r → Told34 r
+        three p q k = let w = three-some (q .spot) r (subst (λ z. reason3At v z ≡ some r) (q .is) k) in no-shift (q .spot) (w .1) (w .0)
+
+        four : (p : Pair) (q : Placed p) → reason4At v p e ≡ some r → Told34 r
+        four p q k = two (four-some (q .spot) e r (subst (λ z. reason4At v z e ≡ some r) (q .is) k))
+          where
+            two : (So (tooFew (q .spot)) × (reasonGrow v (pair (q .spot)) ≡ r)) ⊎ ((e ≡ 1) × So (tooMany (q .spot)) × (shrinkLiterals (q .spot) ≡ r)) → Told34 r
+            two (inl (h, z)) = too-few (q .spot) h z
+            two (inr (o, h, z)) = too-many o q h z
+
+    module _ (full : List ℕ) (long : length full ≡ size grid) (rules : RulesAt e puzzle full) where
+      -- reasons 3 and 4 are sound
+      pub reason34-sound : (r : List Literal) → reason34 e v ≡ some r → Agrees full r → ⊥
+      reason34-sound r k ag = go (told-34 r k)
+        where
+          go : Told34 r → ⊥
+          go (no-shift spot n z) = three-sound spot full long rules (subst (Agrees full) (sym z) ag) n
+          go (too-few spot h z) = four-a-sound spot full long rules (subst (Agrees full) (sym z) ag) h
+          go (too-many o q h z) = four-b-sound (q .spot) full long rules o (q .glen) (q .gat) (subst (Agrees full) (sym z) ag) h

@@ -31,6 +31,7 @@ use Rattle.paths.specs.Paths.{way, reason2}
 use Rattle.growth.specs.Growth.{blockName as viewName, reasonGrow, reason34}
 use Rattle.reasons.specs.Reasons.{findReason}
 use Rattle.paths.proofs.Walk.{path-square}
+use Rattle.record.specs.Leaf.{inEdition}
 
 module _ (set : Setting) where
   open Setting set using (puzzle, lines, cells, valid)
@@ -129,13 +130,13 @@ module _ (set : Setting) where
       let l : u .i + 2 + k .0 < length (u .t .0) = omega (arith, k .1, q .glen, u .jl) in
       subst (λ z. z < size grid) (q .gat (k .0) (k .1) ∙ k .2) (lines .on (u .t .0) (u .t .1) _ (at-mem (u .t .0) (u .i + 2 + k .0) l))
 
-  stand-34 : (r : List Literal) → reason34 v ≡ some r → Stands r
-  stand-34 r e = go (told-34 set r e)
+  stand-34 : (e : ℕ) (r : List Literal) → reason34 e v ≡ some r → Stands r
+  stand-34 e r k = go (told-34 set e r k)
     where
-      go : Told34 set r → Stands r
+      go : Told34 set e r → Stands r
       go (no-shift spot n z) = subst Stands z (stand-grow spot)
       go (too-few spot h z) = subst Stands z (stand-grow spot)
-      go (too-many q h z) = subst Stands z (stand-shrink (q .spot) (gap-low q))
+      go (too-many o q h z) = subst Stands z (stand-shrink (q .spot) (gap-low q))
 
   stand-2 : (r : List Literal) → reason2 puzzle cells ≡ some r → Stands r
   stand-2 r e =
@@ -161,6 +162,6 @@ module _ (set : Setting) where
       bounds c = filter (λ i. empty cells i && touches grid c i) (cellsOf grid)
 
   -- every literal of a reason is shown
-  pub find-stands : (r : List Literal) → findReason puzzle cells ≡ some r → Stands r
+  pub find-stands : (e : ℕ) (r : List Literal) → findReason (inEdition e puzzle) cells ≡ some r → Stands r
   unfolding findReason
-  find-stands r e = or-else-some (reason1 puzzle cells) _ r e (stand-1 r) (λ k. or-else-some (reason2 puzzle cells) (reason34 v) r k (stand-2 r) (stand-34 r))
+  find-stands e r k = or-else-some (reason1 puzzle cells) _ r k (stand-1 r) (λ k. or-else-some (reason2 puzzle cells) _ r k (stand-2 r) (stand-34 e r))

@@ -1,4 +1,4 @@
--- Demand 3: what holds after any two lists of calls on boards of one accepted record.
+-- Demand 3: what holds after any two lists of calls on boards of one accepted record in one edition.
 -- A list may hold finds with buffers of any length, and calls that are refused. The boards are those that `openOf`, `decideOf`, `undoOf` and `afterFind`
 -- leave, which the contracts cite. The plain machine stands on the other side and sees only the calls. Two boards may differ in their counts of hints:
 -- equal cells means cells only.
@@ -10,7 +10,8 @@ use mathlib.Core.List.{List, map, List·Memᴰ}
 use mathlib.Core.Option.{none, some}
 use lib.ListN.{length}
 use Rattle.grid.specs.Lists.{Distinct}
-use Rattle.record.specs.Record.{Puzzle, ok, refused, readRecord}
+use Rattle.record.specs.Record.{ok, refused}
+use Rattle.record.specs.Leaf.{Leaf, leafOf}
 use Rattle.grid.specs.Cells.{Literal, Agrees}
 use Rattle.board.specs.Board.{Call, SameCells, SameDecisions, Full, enough}
 use Rattle.board.specs.Kept.{openOf}
@@ -20,32 +21,32 @@ use Rattle.groups.specs.Rules.{BlockRules}
 use Rattle.reasons.specs.Reasons.{findOn}
 use Rattle.reasons.specs.Find.{cellsOn, bufferAfter, answerOn}
 
--- the board that the calls cs leave, the first of them on the board that the record s opens
-abbrev pub boardAfter : List ℕ → List Call → Board
-boardAfter s cs = leftAll (openOf s .board) cs
+-- the board that the calls cs leave, the first of them on the board that the record s opens in the edition e
+abbrev pub boardAfter : List ℕ → ℕ → List Call → Board
+boardAfter s e cs = leftAll (openOf s e .board) cs
 
--- the record s with the puzzle p, and two lists of calls
-pub record Demand3 (s : List ℕ) (p : Puzzle) (cs ds : List Call) : Type 0 where
+-- the record s in the edition e, with the leaf l, and two lists of calls
+pub record Demand3 (s : List ℕ) (e : ℕ) (l : Leaf) (cs ds : List Call) : Type 0 where
   -- no cell stands twice in the machine's pairs, so the same pairs are the same decisions, their order aside
-  pub indexes : Distinct (map (λ (d : Literal). d .0) (standing p cs))
+  pub indexes : Distinct (map (λ (d : Literal). d .0) (standing (l .puzzle) cs))
   -- equal cells exactly when the same decisions stand, in whatever order
-  pub cells : SameCells (p .grid) (boardAfter s cs .cells) (boardAfter s ds .cells) ↔ SameDecisions (standing p cs) (standing p ds)
+  pub cells : SameCells (l .puzzle .grid) (boardAfter s e cs .cells) (boardAfter s e ds .cells) ↔ SameDecisions (standing (l .puzzle) cs) (standing (l .puzzle) ds)
   -- if so, find lent a long enough buffer gives the same answer on both
-  pub answer : SameDecisions (standing p cs) (standing p ds) → (a b : List ℕ) → enough (p .grid) ≤ length a → enough (p .grid) ≤ length b
-      → answerOn (boardAfter s cs) a ≡ answerOn (boardAfter s ds) b
+  pub answer : SameDecisions (standing (l .puzzle) cs) (standing (l .puzzle) ds) → (a b : List ℕ) → enough (l .puzzle .grid) ≤ length a → enough (l .puzzle .grid) ≤ length b
+      → answerOn (boardAfter s e cs) a ≡ answerOn (boardAfter s e ds) b
   -- and it is the one of Reasons
-  pub reasons : (a : List ℕ) → enough (p .grid) ≤ length a → answerOn (boardAfter s cs) a ≡ ok (findOn p (standing p cs))
+  pub reasons : (a : List ℕ) → enough (l .puzzle .grid) ≤ length a → answerOn (boardAfter s e cs) a ≡ ok (findOn l (standing (l .puzzle) cs))
   -- a shorter buffer is refused with 11, and is unchanged
-  pub short : (a : List ℕ) → length a < enough (p .grid) → (answerOn (boardAfter s cs) a ≡ refused 11) × (bufferAfter (boardAfter s cs) a ≡ a)
+  pub short : (a : List ℕ) → length a < enough (l .puzzle .grid) → (answerOn (boardAfter s e cs) a ≡ refused 11) × (bufferAfter (boardAfter s e cs) a ≡ a)
   -- each literal of a reason is a standing decision
-  pub stands : (a : List ℕ) (r : List Literal) → answerOn (boardAfter s cs) a ≡ ok (some r) → (l : Literal) → List·Memᴰ l r → List·Memᴰ l (standing p cs)
+  pub stands : (a : List ℕ) (r : List Literal) → answerOn (boardAfter s e cs) a ≡ ok (some r) → (x : Literal) → List·Memᴰ x r → List·Memᴰ x (standing (l .puzzle) cs)
   -- no fully decided board that agrees with all of them meets the block rules
-  pub refutes : (a : List ℕ) (r : List Literal) → answerOn (boardAfter s cs) a ≡ ok (some r) → (full : List ℕ) → Full (p .grid) full → Agrees full r
-      → BlockRules p full → ⊥
+  pub refutes : (a : List ℕ) (r : List Literal) → answerOn (boardAfter s e cs) a ≡ ok (some r) → (full : List ℕ) → Full (l .puzzle .grid) full → Agrees full r
+      → BlockRules l full → ⊥
   -- if every cell is decided, find gives none exactly when the block rules are met
-  pub finds : Full (p .grid) (cellsOn (boardAfter s cs)) → (a : List ℕ) → enough (p .grid) ≤ length a
-      → (answerOn (boardAfter s cs) a ≡ ok none) ↔ BlockRules p (cellsOn (boardAfter s cs))
+  pub finds : Full (l .puzzle .grid) (cellsOn (boardAfter s e cs)) → (a : List ℕ) → enough (l .puzzle .grid) ≤ length a
+      → (answerOn (boardAfter s e cs) a ≡ ok none) ↔ BlockRules l (cellsOn (boardAfter s e cs))
 
--- the demand: it holds for every accepted record and all lists of calls
+-- the demand: it holds for every accepted record in either edition and all lists of calls
 abbrev pub Demand : Type 0
-Demand = (s : List ℕ) (p : Puzzle) → readRecord s ≡ ok p → (cs ds : List Call) → Demand3 s p cs ds
+Demand = (s : List ℕ) (e : ℕ) (l : Leaf) → leafOf s e ≡ ok l → (cs ds : List Call) → Demand3 s e l cs ds

@@ -42,6 +42,7 @@ pub fn find(board: Board, buffer: &mut [u16]) -> Asked
         };
     }
     let finding = inconsistency::find_inconsistency(
+        board.edition,
         &board.cells,
         &board.problem.arrows,
         &board.problem.ends,

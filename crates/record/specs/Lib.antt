@@ -1,4 +1,5 @@
 pub mod Record
+pub mod Leaf
 pub mod Write
 pub mod Valid
 pub mod Problem

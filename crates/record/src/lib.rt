@@ -234,8 +234,8 @@ pub fn no_cells() -> [u16; 1024]
     [0; 1024]
 }
 
-// The answer to a record that is refused.
-fn refusal(k: u8) -> Reading
+// The answer to what is refused, a record or what is opened with it: no problem.
+pub fn refusal(k: u8) -> Reading
     ensures { λ r. ⌜ r ≡ reading (refused k) ⌝ }
 {
     Reading {

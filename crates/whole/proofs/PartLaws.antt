@@ -1,4 +1,4 @@
--- A puzzle as a part of another: blocks, arrow cells, pairs, two squares and the rules; where the whole is finished, so is the part.
+-- A puzzle as a part of another: blocks, arrow cells, pairs, two squares and the rules of an edition; where the whole is finished, so is the part.
 -- Assumes nothing.
 use Prim.Native.Nat.{ℕ, _<_}
 use native.Mathlib.Omega.{arith}
@@ -10,6 +10,7 @@ use Rattle.grid.specs.Grid.{size}
 use Rattle.grid.specs.Cells.{square}
 use Rattle.grid.proofs.CellLaws.{square-below}
 use Rattle.record.specs.Record.{Puzzle}
+use Rattle.record.specs.Leaf.{inEdition}
 use Rattle.groups.specs.Arrows.{OnArrow}
 use Rattle.groups.specs.Rules.{Grown, SameBlock, OneArrowCell, Next, BlockRules}
 use Rattle.finished.specs.Finished.{TwoSquares, Finished}
@@ -139,27 +140,27 @@ module _ {p q : Puzzle} {f : ℕ → ℕ} {cells cells′ : List ℕ} (I : Part 
       let r = I .only _ (c .arrow) i l (Memᴰ·append-right (c .before) (List·Memᴰ·head refl)) in
       next-parts (r .0) (c .before) (c .between) (c .behind) (f i) j′ (r .1) (sym (r .2)) (c .first) (c .second) (c .none)
 
-  pair-grown : (i j : ℕ) → Next p cells i j → Grown (p .grid) (SameBlock (p .grid) cells i) (SameBlock (p .grid) cells j)
-      ↔ Grown (q .grid) (SameBlock (q .grid) cells′ (f i)) (SameBlock (q .grid) cells′ (f j))
-  pair-grown i j c =
+  pair-grown : (e i j : ℕ) → Next p cells i j → Grown e (p .grid) (SameBlock (p .grid) cells i) (SameBlock (p .grid) cells j)
+      ↔ Grown e (q .grid) (SameBlock (q .grid) cells′ (f i)) (SameBlock (q .grid) cells′ (f j))
+  pair-grown e i j c =
       let a = block-image i (square-on i (c .first)) in
       let b = block-image j (square-on j (c .second)) in
       (grown-to (I .embeds) a b, grown-from (I .embeds) a b)
 
   -- where the whole keeps the rules, so does the part
-  pub rules-from : BlockRules q cells′ → BlockRules p cells
-  rules-from r = record {
+  pub rules-from : {e : ℕ} → BlockRules (inEdition e q) cells′ → BlockRules (inEdition e p) cells
+  rules-from {e} r = record {
     one = λ i l s. one-from i l (r .one (f i) (I .embeds .into i l) (same-square i l ∙ s));
-    grown = λ i j c. pair-grown i j c .1 (r .grown (f i) (f j) (next-to i j c));
+    grown = λ i j c. pair-grown e i j c .1 (r .grown (f i) (f j) (next-to i j c));
   }
 
   -- where the part keeps the rules, so does the whole at the part's cells
-  pub grown-at : BlockRules p cells → (i j′ : ℕ) → i < size (p .grid) → Next q cells′ (f i) j′ → Grown (q .grid) (SameBlock (q .grid) cells′ (f i)) (SameBlock (q .grid) cells′ j′)
-  grown-at r i j′ l c =
+  pub grown-at : {e : ℕ} → BlockRules (inEdition e p) cells → (i j′ : ℕ) → i < size (p .grid) → Next q cells′ (f i) j′ → Grown e (q .grid) (SameBlock (q .grid) cells′ (f i)) (SameBlock (q .grid) cells′ j′)
+  grown-at {e} r i j′ l c =
       let b = next-from i j′ l c in
-      let w = pair-grown (b .i) (b .j) (b .next) .0 (r .grown (b .i) (b .j) (b .next)) in
-      let w′ = subst (λ y. Grown (q .grid) (SameBlock (q .grid) cells′ y) (SameBlock (q .grid) cells′ (f (b .j)))) (b .first) w in
-      subst (λ y. Grown (q .grid) (SameBlock (q .grid) cells′ (f i)) (SameBlock (q .grid) cells′ y)) (b .second) w′
+      let w = pair-grown e (b .i) (b .j) (b .next) .0 (r .grown (b .i) (b .j) (b .next)) in
+      let w′ = subst (λ y. Grown e (q .grid) (SameBlock (q .grid) cells′ y) (SameBlock (q .grid) cells′ (f (b .j)))) (b .first) w in
+      subst (λ y. Grown e (q .grid) (SameBlock (q .grid) cells′ (f i)) (SameBlock (q .grid) cells′ y)) (b .second) w′
 
   -- two squares on an arrow
   pub two-to : (a : List ℕ) → List·Memᴰ a (p .arrows) → TwoSquares cells a → TwoSquares cells′ (map f a)
@@ -190,7 +191,7 @@ module _ {p q : Puzzle} {f : ℕ → ℕ} {cells cells′ : List ℕ} (I : Part 
       }
 
   -- where the whole is finished, so is the part
-  pub finished-from : Finished q cells′ → Finished p cells
+  pub finished-from : {e : ℕ} → Finished (inEdition e q) cells′ → Finished (inEdition e p) cells
   finished-from F = record {
     decided = record { long = I .long; each = λ i l. rw (← I .states i l) (F .decided .each (f i) (I .embeds .into i l)) };
     kept = record {

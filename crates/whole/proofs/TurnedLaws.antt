@@ -1,4 +1,4 @@
--- A turned leaf: a full board is finished exactly when its turned image is.
+-- A turned leaf: a full board is finished exactly when its turned image is, in any edition.
 -- Assumes nothing.
 use Prim.Native.Nat.{ℕ}
 use mathlib.Core.Logic.{_↔_, inl}
@@ -9,6 +9,7 @@ use Rattle.grid.specs.Grid.{size}
 use Rattle.grid.proofs.PlaceLaws.{adjacent-on}
 use Rattle.record.specs.Record.{Puzzle, ok, readRecord}
 use Rattle.record.specs.Valid.{Valid}
+use Rattle.record.specs.Leaf.{inEdition}
 use Rattle.record.proofs.FreshLaws.{arrows-size}
 use Rattle.record.proofs.RecordLaws.{record-valid}
 use Rattle.board.specs.Board.{Full}
@@ -34,9 +35,9 @@ module _ (p : Puzzle) (v : Valid p) (m : Turn) (t : Turns (p .grid) m) (cells : 
   }
 
   -- .. make up the whole
-  finished-by : Finished (turnedBy m p) (carried m cells) ↔ Finished p cells
-  finished-by =
-      let r = whole-finished w in
+  finished-by : (e : ℕ) → Finished (inEdition e (turnedBy m p)) (carried m cells) ↔ Finished (inEdition e p) cells
+  finished-by e =
+      let r = whole-finished w e in
       (λ F. r .0 F tt, λ F. r .1 (λ _. F))
     where
       w : Whole {A = Unit {0}} (λ _. p) (turnedBy m p) (λ _. m .to) (λ _. cells) (carried m cells)
@@ -55,10 +56,10 @@ turned-full k p cells full =
     let t = turning-turns k (p .grid) in
     record { long = carried-length m cells; each = λ j l. rw (carried-at m cells j l) (full .each (m .from j) (t .into j l)) }
 
--- for every turning of an accepted record: a full board is finished exactly when its turned image is
-pub turned-finished : (k : ℕ) (s : List ℕ) (p : Puzzle) → readRecord s ≡ ok p → (cells : List ℕ) → Full (p .grid) cells
-    → Finished p cells ↔ Finished (turned k p) (turnedCells k (p .grid) cells)
+-- for every turning of an accepted record and in every edition: a full board is finished exactly when its turned image is
+pub turned-finished : (k : ℕ) (s : List ℕ) (p : Puzzle) → readRecord s ≡ ok p → (e : ℕ) (cells : List ℕ) → Full (p .grid) cells
+    → Finished (inEdition e p) cells ↔ Finished (inEdition e (turned k p)) (turnedCells k (p .grid) cells)
 unfolding turned turnedCells
-turned-finished k s p e cells full =
-    let r = finished-by p (record-valid s e) (turning k (p .grid)) (turning-turns k (p .grid)) cells (full .long) in
+turned-finished k s p reads e cells full =
+    let r = finished-by p (record-valid s reads) (turning k (p .grid)) (turning-turns k (p .grid)) cells (full .long) e in
     (r .1, r .0)

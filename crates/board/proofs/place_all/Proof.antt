@@ -9,21 +9,20 @@ use lib.ListN.{length, drop, drop-of-length-le}
 use borrow.Author.Needs.{needs}
 use Rattle.grid.specs.Grid.{size}
 use Rattle.record.specs.Problem.{gridOf}
-use Rattle.record.specs.declared.Problem.{Problem}
+use Rattle.board.specs.declared.Board.{Board}
 use Rattle.board.specs.Form.{wellFormed}
-use Rattle.board.specs.Decide.{refusedWith, placedFrom}
-use Rattle.board.specs.Inside.{held}
+use Rattle.board.specs.Decide.{withDecisions, refusedWith, placedFrom}
 use Rattle.board.proofs.BoardForm.{whole-is, whole-room, whole-most}
 use Rattle.board.proofs.Fold.{place-refused, place-put, two-left, one-left}
 use Rattle.board.proofs.place_all.Statement.{statement}
 use Rattle.board.proofs.place_all.Tie as tie
 
--- amid the bytes, on the board of any problem of n cells and any count of hints that is well formed with the first arrays
+-- amid the bytes, on any board of n cells that is well formed with the first arrays
 record Amid (n decided : ℕ) (cells₀ order₀ bytes : List ℕ) (count at : ℕ) (cells order : List ℕ) : Type 0 where
   within : at ≤ length bytes
-  same : (q : Problem) (k : ℕ) → size (gridOf q) ≡ n → wellFormed (held q k cells₀ order₀ decided) ≡ true
-      → (wellFormed (held q k cells order count) ≡ true)
-      × (placedFrom (held q k cells₀ order₀ decided) bytes ≡ placedFrom (held q k cells order count) (drop at bytes))
+  same : (b : Board) → size (gridOf (b .problem)) ≡ n → wellFormed (withDecisions b cells₀ order₀ decided) ≡ true
+      → (wellFormed (withDecisions b cells order count) ≡ true)
+      × (placedFrom (withDecisions b cells₀ order₀ decided) bytes ≡ placedFrom (withDecisions b cells order count) (drop at bytes))
 
 abbrev Inv-loop : tie.InvT-loop
 Inv-loop cells₀ order₀ n decided bytes count₀ at₀ cells order count at = Amid n decided cells₀ order₀ bytes count at cells order
@@ -62,24 +61,24 @@ next-two c =
     (c .before .before .before .before .before .byte .ensures .0) (c .before .before .before .byte2 .ensures .0)
 
 -- the board after a decision that is put
-after-put : (c : tie.After-enum-told Inv-loop μ-loop) (q : Problem) (k : ℕ) →
+after-put : (c : tie.After-enum-told Inv-loop μ-loop) (b : Board) →
     let a = at-loop (c .before .before) in
     let s = start a .args in
     let p = c .before .before .place in
-    let b₀ = held q k (s .cells .now) (s .order .now) (s .decided) in
-    size (gridOf q) ≡ s .n → wellFormed b₀ ≡ true
-    → (placedFrom b₀ (s .bytes .now) ≡ placedFrom (held q k (p .last .0) (p .last .1 .0) (a .loop .count + 1)) (drop (a .loop .at + 2) (s .bytes .now)))
-    × (wellFormed (held q k (p .last .0) (p .last .1 .0) (a .loop .count + 1)) ≡ true)
-after-put c q k e w =
+    let b₀ = withDecisions b (s .cells .now) (s .order .now) (s .decided) in
+    size (gridOf (b .problem)) ≡ s .n → wellFormed b₀ ≡ true
+    → (placedFrom b₀ (s .bytes .now) ≡ placedFrom (withDecisions b (p .last .0) (p .last .1 .0) (a .loop .count + 1)) (drop (a .loop .at + 2) (s .bytes .now)))
+    × (wellFormed (withDecisions b (p .last .0) (p .last .1 .0) (a .loop .count + 1)) ≡ true)
+after-put c b e w =
     let p = c .before .before in
     let s = start (at-loop p) in
     let t = at-loop p .loop in
-    let r = place-put q k (t .cells) (t .order) (s .args .n) (t .count) (first p) (second p) (drop (t .at + 2) (s .args .bytes .now)) e (t .inv .same q k e w .0) (low-word (p .before .before .before))
+    let r = place-put b (t .cells) (t .order) (s .args .n) (t .count) (first p) (second p) (drop (t .at + 2) (s .args .bytes .now)) e (t .inv .same b e w .0) (low-word (p .before .before .before))
     (rw (c .enum-told .given .1) at (p .place .ensures)) in
-    (t .inv .same q k e w .1 ∙ ap (placedFrom (held q k (t .cells) (t .order) (t .count))) (next-two p) ∙ r .0, r .1)
+    (t .inv .same b e w .1 ∙ ap (placedFrom (withDecisions b (t .cells) (t .order) (t .count))) (next-two p) ∙ r .0, r .1)
 
 loop-holds : tie.Need-loop-holds Inv-loop μ-loop
-loop-holds c = record { within = omega arith; same = λ q k e w. (w, refl) }
+loop-holds c = record { within = omega arith; same = λ b e w. (w, refl) }
 
 add-loop : tie.Need-add-loop Inv-loop μ-loop
 add-loop c = search needs
@@ -110,8 +109,8 @@ place-requires c κs =
     let a = tested c .before in
     let t = a .loop in
     let h = start a .pre in
-    let b = held (h .problem) (h .hints) (t .cells) (t .order) (t .count) in
-    let w = whole-is b (t .inv .same (h .problem) (h .hints) (h .area) (h .well) .0) in
+    let b = withDecisions (h .board) (t .cells) (t .order) (t .count) in
+    let w = whole-is b (t .inv .same (h .board) (h .area) (h .well) .0) in
     (omega (arith, h .area, whole-most b w), low-word (c .before .before), λ i l e. whole-room b w i (rw (h .area) l) e)
 
 enum-told : tie.Need-enum-told Inv-loop μ-loop
@@ -126,17 +125,17 @@ returns c =
     let p = c .before .before in
     let s = start (at-loop p) in
     let t = at-loop p .loop in
-    λ q k e w.
-    let r = place-refused q k (t .cells) (t .order) (s .args .n) (t .count) (first p) (second p) (drop (t .at + 2) (s .args .bytes .now)) e (t .inv .same q k e w .0) (low-word (p .before .before .before))
+    λ b e w.
+    let r = place-refused b (t .cells) (t .order) (s .args .n) (t .count) (first p) (second p) (drop (t .at + 2) (s .args .bytes .now)) e (t .inv .same b e w .0) (low-word (p .before .before .before))
     (rw (c .enum-told2 .given .1) at (p .place .ensures)) in
-    rw (c .enum-told2 .given .1) (t .inv .same q k e w .1 ∙ ap (placedFrom (held q k (t .cells) (t .order) (t .count))) (next-two p) ∙ r)
+    rw (c .enum-told2 .given .1) (t .inv .same b e w .1 ∙ ap (placedFrom (withDecisions b (t .cells) (t .order) (t .count))) (next-two p) ∙ r)
 
 add-count : tie.Need-add-count Inv-loop μ-loop
 add-count c =
     let a = at-loop (c .before .before) in
     let h = start a .pre in
     let p = c .before .before .place in
-    omega (arith, whole-is (held (h .problem) (h .hints) (p .last .0) (p .last .1 .0) (a .loop .count + 1)) (after-put c (h .problem) (h .hints) (h .area) (h .well) .1) .few)
+    omega (arith, whole-is (withDecisions (h .board) (p .last .0) (p .last .1 .0) (a .loop .count + 1)) (after-put c (h .board) (h .area) (h .well) .1) .few)
 
 add-at : tie.Need-add-at Inv-loop μ-loop
 add-at c = search needs
@@ -145,23 +144,23 @@ loop-less : tie.Need-loop-less Inv-loop μ-loop
 loop-less c = search needs
 
 loop-again : tie.Need-loop-again Inv-loop μ-loop
-loop-again c = record { within = omega arith; same = λ q k e w. let r = after-put c q k e w in (r .1, r .0) }
+loop-again c = record { within = omega arith; same = λ b e w. let r = after-put c b e w in (r .1, r .0) }
 
 returns-2 : tie.Need-returns-2 Inv-loop μ-loop
 unfolding placedFrom refusedWith
 returns-2 c =
     let s = start (c .before .before) in
     let t = c .before .before .loop in
-    λ q k e w.
-    t .inv .same q k e w .1 ∙ ap (placedFrom (held q k (t .cells) (t .order) (t .count))) (one-left (s .args .bytes .now) (t .at) (c .if1 .taken) (c .before .loop-test .left))
+    λ b e w.
+    t .inv .same b e w .1 ∙ ap (placedFrom (withDecisions b (t .cells) (t .order) (t .count))) (one-left (s .args .bytes .now) (t .at) (c .if1 .taken) (c .before .loop-test .left))
 
 returns-3 : tie.Need-returns-3 Inv-loop μ-loop
 unfolding placedFrom refusedWith
 returns-3 c =
     let s = start (c .before .before) in
     let t = c .before .before .loop in
-    λ q k e w.
-    t .inv .same q k e w .1 ∙ ap (placedFrom (held q k (t .cells) (t .order) (t .count))) (drop-of-length-le (s .args .bytes .now) {i = t .at} (c .if1 .left))
+    λ b e w.
+    t .inv .same b e w .1 ∙ ap (placedFrom (withDecisions b (t .cells) (t .order) (t .count))) (drop-of-length-le (s .args .bytes .now) {i = t .at} (c .if1 .left))
 
 pub place-all-spec : {M : Type 1} → statement M
 place-all-spec =

@@ -25,7 +25,7 @@ returns c =
     let n = c .before .number in
     let o = c .before .before .before .«open» in
     let a = start (c .before) .args in
-    fails (not-opened (a .«record» .now) (a .decisions .now) (a .list .now) (a .at) (a .count) (o .result) (o .ensures) (n .result) (n .ensures) (c .if1 .taken))
+    fails (not-opened (a .«record» .now) (a .edition) (a .decisions .now) (a .list .now) (a .at) (a .count) (o .result) (o .ensures) (n .result) (n .ensures) (c .if1 .taken))
 
 decide-all-requires : tie.Need-decide-all-requires
 decide-all-requires c κs = search needs
@@ -44,7 +44,7 @@ returns-2 c =
     let o = p .before .before .«open» in
     let a = start p .args in
     fails-so (not (eqb (m .result) 0)) (rw (ne-eqb _ _ (c .if2 .taken)))
-    (not-decided (a .«record» .now) (a .decisions .now) (a .list .now) (a .at) (a .count) (o .result) (o .ensures) (d .result) (d .ensures) (m .result) (m .ensures) (c .if2 .taken))
+    (not-decided (a .«record» .now) (a .edition) (a .decisions .now) (a .list .now) (a .at) (a .count) (o .result) (o .ensures) (d .result) (d .ensures) (m .result) (m .ensures) (c .if2 .taken))
 
 returns-3 : tie.Need-returns-3
 returns-3 c =
@@ -56,7 +56,7 @@ returns-3 c =
     let n = p .number in
     let o = p .before .before .«open» in
     let a = start p .args in
-    board-decides (a .«record» .now) (a .decisions .now) (a .list .now) (a .at) (a .count) (o .result) (o .ensures) (d .result) (d .ensures)
+    board-decides (a .«record» .now) (a .edition) (a .decisions .now) (a .list .now) (a .at) (a .count) (o .result) (o .ensures) (d .result) (d .ensures)
     (sym (n .ensures) ∙ e .if1 .left) (sym (m .ensures) ∙ c .before .if2 .left) (c .board-differs .result) (c .board-differs .ensures)
 
 pub entry-differs-spec : {M : Type 1} → statement M

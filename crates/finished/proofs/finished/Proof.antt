@@ -6,6 +6,7 @@ use borrow.Author.Tests.{not-true, not-false}
 use Rattle.form.proofs.ProblemForm.{is-formed}
 use Rattle.board.specs.Form.{wellFormed}
 use Rattle.board.proofs.BoardForm.{whole-is}
+use Rattle.reasons.proofs.BoardArrays.{board-edition}
 use Rattle.finished.specs.Verdicts.{verdict}
 use Rattle.finished.proofs.VerdictLaws.{finished-ill, finished-by}
 use borrow.Author.Needs.{needs}
@@ -31,7 +32,7 @@ is-finished-requires c κs =
     let e = tested c in
     let b = e .before .before .args .t1 in
     let q = whole-is b (formed e) in
-    (q .cells-long, is-formed (b .problem) (q .problem))
+    (board-edition b (formed e), q .cells-long, is-formed (b .problem) (q .problem))
 
 returns-2 : tie.Need-returns-2
 unfolding verdict

@@ -25,7 +25,7 @@ abbrev problem : tie.Start → Problem
 problem s = problemOn (s .args .h) (s .args .w) (s .args .codes .now) (s .args .arrows .now) (s .args .ends .now) (s .args .number)
 
 formed : (s : tie.Start) → Formed (problem s)
-formed s = formed-is (problem s) (s .pre .1)
+formed s = formed-is (problem s) (s .pre .2)
 
 -- the start, seen from behind the search for a reason
 abbrev start : tie.After-find-inconsistency → tie.Start
@@ -47,7 +47,7 @@ all-but-rules-requires c κs = (few (problem c) (formed c), problem-arrays (prob
 returns : tie.Need-returns
 returns c =
     let s = c .before .before in
-    fails-before (problem s) (formed s) (s .args .cells .now) (s .pre .0) (sym (c .before .all-but-rules .ensures) ∙ not-true _ (c .if1 .taken))
+    fails-before (problem s) (formed s) (s .args .edition) (s .args .cells .now) (s .pre .1) (sym (c .before .all-but-rules .ensures) ∙ not-true _ (c .if1 .taken))
 
 no-literals-requires : tie.Need-no-literals-requires
 no-literals-requires c κs = search needs
@@ -60,7 +60,7 @@ unfolding gridOf
 find-inconsistency-requires c κs =
     let s = c .before .before .before .before in
     let f = formed s in
-    (record { tall = f .sizes .high .0; wide = f .sizes .high .1; room = omega (arith, few (problem s) f, room-length (c .before .no-literals .ensures)) }, problem-arrays (problem s) f)
+    (record { tall = f .sizes .high .0; wide = f .sizes .high .1; room = omega (arith, few (problem s) f, room-length (c .before .no-literals .ensures)) }, problem-arrays (problem s) f, s .pre .0)
 
 enum-told : tie.Need-enum-told
 enum-told c = search needs
@@ -75,13 +75,13 @@ returns-2 : tie.Need-returns-2
 returns-2 c =
     let k = c .before .before .before in
     let s = start k in
-    no-reason (problem s) (formed s) (s .args .cells .now) (s .pre .0) (holds k) (rw (c .enum-told .given .1) at (k .find-inconsistency .ensures))
+    no-reason (problem s) (formed s) (s .args .edition) (s .args .cells .now) (s .pre .1) (holds k) (rw (c .enum-told .given .1) at (k .find-inconsistency .ensures))
 
 returns-3 : tie.Need-returns-3
 returns-3 c =
     let k = c .before .before .before in
     let s = start k in
-    some-reason (problem s) (formed s) (s .args .cells .now) (s .pre .0) (holds k) (rw (c .enum-told2 .given .1) at (k .find-inconsistency .ensures))
+    some-reason (problem s) (formed s) (s .args .edition) (s .args .cells .now) (s .pre .1) (holds k) (rw (c .enum-told2 .given .1) at (k .find-inconsistency .ensures))
 
 returns-4 : tie.Need-returns-4
 returns-4 c =

@@ -11,10 +11,10 @@ use mir.ValLaws.{toZ-ofZ}
 use Rattle.grid.specs.Grid.{size}
 use Rattle.grid.specs.Side.{sized}
 use Rattle.record.specs.Record.{ok}
+use Rattle.record.specs.Leaf.{inEdition}
 use Rattle.record.specs.Problem.{gridOf}
 use Rattle.board.specs.Form.{wellFormed}
-use Rattle.board.specs.Decide.{placedFrom}
-use Rattle.board.specs.Inside.{held}
+use Rattle.board.specs.Decide.{withDecisions, placedFrom}
 use Rattle.board.specs.declared.Board.{Board}
 use Rattle.kinds.specs.Inside.{puzzleWith}
 use Rattle.literals.specs.Literals.{Found}
@@ -22,7 +22,7 @@ use Rattle.reasons.specs.Reasons.{findReason}
 use Rattle.groups.specs.Arrays.{linesOf}
 use Rattle.reasons.proofs.BoardArrays.{board-sizes, board-arrays}
 use Rattle.host.specs.Host.{hostFinds, Opens}
-use Rattle.host.proofs.HostLaws.{opens-as, opens-area, opens-well, output-short, decisions-refused, decisions-done, reason-held}
+use Rattle.host.proofs.HostLaws.{opens-as, opens-area, opens-first, opens-well, output-short, decisions-refused, decisions-done, reason-held}
 use Rattle.host.proofs.FoundLaws.{refused-told, told-as}
 use borrow.Author.Needs.{needs}
 use Rattle.host.proofs.decide_and_find.Statement.{statement}
@@ -57,18 +57,18 @@ accepted c = c .before .before .before .before .before .before
 
 -- the board after the decisions
 abbrev left : tie.After-place-all → Board
-left c = held (start c .args .t1 .problem) (start c .args .t1 .hints) (c .place-all .last .0) (c .place-all .last .1 .0) (c .place-all .result .decided)
+left c = withDecisions (start c .args .t1) (c .place-all .last .0) (c .place-all .last .1 .0) (c .place-all .result .decided)
 
 -- what `place_all` says of it
 placed : (c : tie.After-place-all) → placedFrom (start c .args .t1) (start c .args .decisions .now) ≡ record { answer = c .place-all .result .answer; board = left c }
 unfolding size gridOf
-placed c = c .place-all .ensures (start c .args .t1 .problem) (start c .args .t1 .hints) refl (well (start c))
+placed c = c .place-all .ensures (start c .args .t1) refl (well (start c))
 
 -- the first reason on the board after the decisions
 abbrev reason : tie.After-place-all → Found
 reason c =
     let q = start c .args .t1 .problem in
-    findReason (puzzleWith (sized (q .height) (q .width)) (linesOf (q .arrows) (q .ends) (q .count))) (take (q .height * q .width) (c .place-all .last .0))
+    findReason (inEdition 1 (puzzleWith (sized (q .height) (q .width)) (linesOf (q .arrows) (q .ends) (q .count)))) (take (q .height * q .width) (c .place-all .last .0))
 
 -- it is what the call finds where all decisions are accepted
 finds : (c : tie.After-enum-told) (s : List ℕ) → Opens s (start (c .before .before) .args .t1)
@@ -79,7 +79,7 @@ finds c s e =
     let o = opens-as s (a .t1) e in
     let r = p .place-all .result in
     decisions-done s (o .reads) (o .fresh) (a .decisions .now) (length (a .output .now)) (r .answer) (left p) (placed p) (long p .if1 .left) (c .enum-told .given .1)
-    ∙ ap ok (reason-held (a .t1 .problem) (a .t1 .hints) (p .place-all .last .0) (p .place-all .last .1 .0) (r .decided))
+    ∙ ap ok (reason-held (a .t1) (opens-first s (o .reads) (o .fresh)) (p .place-all .last .0) (p .place-all .last .1 .0) (r .decided))
 
 mul-if1 : tie.Need-mul-if1
 mul-if1 c = omega (arith, few (c .before .before))
@@ -111,7 +111,7 @@ place-all-requires : tie.Need-place-all-requires
 unfolding size gridOf
 place-all-requires c κs =
     let s = begun c in
-    record { problem = s .args .t1 .problem; hints = s .args .t1 .hints; area = refl; well = well s }
+    record { board = s .args .t1; area = refl; well = well s }
 
 enum-told : tie.Need-enum-told
 enum-told c = search needs

@@ -10,8 +10,7 @@ use mir.ValLaws.{toZ-ofZ}
 use Rattle.grid.specs.Grid.{size}
 use Rattle.record.specs.Problem.{gridOf}
 use Rattle.board.specs.Form.{wellFormed}
-use Rattle.board.specs.Decide.{placedFrom}
-use Rattle.board.specs.Inside.{held}
+use Rattle.board.specs.Decide.{withDecisions, placedFrom}
 use Rattle.board.specs.declared.Board.{Board}
 use Rattle.reasons.proofs.BoardArrays.{board-sizes}
 use Rattle.exported.proofs.WrittenLaws.{told-refused, told-as}
@@ -50,12 +49,12 @@ placing c = c .before .before .before .before
 
 -- the board after the decisions
 abbrev left : tie.After-place-all → Board
-left c = held (start c .args .board .problem) (start c .args .board .hints) (c .place-all .last .0) (c .place-all .last .1 .0) (c .place-all .result .decided)
+left c = withDecisions (start c .args .board) (c .place-all .last .0) (c .place-all .last .1 .0) (c .place-all .result .decided)
 
 -- what placing all decisions answers and leaves
 placed : (c : tie.After-place-all) → placedFrom (start c .args .board) (start c .args .decisions .now) ≡ record { answer = c .place-all .result .answer; board = left c }
 unfolding size gridOf
-placed c = c .place-all .ensures (start c .args .board .problem) (start c .args .board .hints) refl (well (start c))
+placed c = c .place-all .ensures (start c .args .board) refl (well (start c))
 
 mul-if1 : tie.Need-mul-if1
 mul-if1 c = omega (arith, few (c .before .before))
@@ -81,7 +80,7 @@ place-all-requires : tie.Need-place-all-requires
 unfolding size gridOf
 place-all-requires c κs =
     let s = begun c in
-    record { problem = s .args .board .problem; hints = s .args .board .hints; area = refl; well = well s }
+    record { board = s .args .board; area = refl; well = well s }
 
 enum-told : tie.Need-enum-told
 enum-told c = search needs
@@ -106,24 +105,22 @@ returns-2 : tie.Need-returns-2
 returns-2 c = λ s e.
     let p = placing (c .before .before .before) in
     let a = start p .args in
-    let b = a .board in
     let o = opens-as s (a .board) e in
     let f = c .before .before .shade-on in
     told-as (a .output .now)
     (shades-done s (o .reads) (o .fresh) (a .decisions .now) (length (a .output .now)) (p .place-all .result .answer)
-    (b .problem) (b .hints) (p .place-all .last .0) (p .place-all .last .1 .0) (p .place-all .result .decided) (placed p) (long p .if1 .left) (c .before .before .before .before .before .enum-told .given .1))
+    (p .place-all .last .0) (p .place-all .last .1 .0) (p .place-all .result .decided) (placed p) (long p .if1 .left) (c .before .before .before .before .before .enum-told .given .1))
     (toZ-ofZ w32 (f .result) (record { sfits = f .ok }) ∙ f .ensures .0, f .ensures .1)
 
 returns-3 : tie.Need-returns-3
 returns-3 c = λ s e.
     let p = c .before .before .before .before in
-    let t = start p .args .board in
     let a = start p .args in
     let o = opens-as s (a .board) e in
     let n = c .negated2 in
     told-refused _ _ _ (a .output .now)
     (shades-refused s (o .reads) (o .fresh) (a .decisions .now) (length (a .output .now)) (p .place-all .result .answer)
-    (t .problem) (t .hints) (p .place-all .last .0) (p .place-all .last .1 .0) (p .place-all .result .decided) (placed p) (long p .if1 .left) (c .before .before .answer .given .1))
+    (p .place-all .last .0) (p .place-all .last .1 .0) (p .place-all .result .decided) (placed p) (long p .if1 .left) (c .before .before .answer .given .1))
     (toZ-ofZ w32 (n .result) (record { sfits = n .ok }) ∙ n .ensures)
 
 pub decide-and-shade-spec : {M : Type 1} → statement M

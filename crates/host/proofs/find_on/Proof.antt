@@ -8,6 +8,7 @@ use mir.Syntax.{w32}
 use mir.ValLaws.{toZ-pos}
 use Rattle.grid.specs.Side.{sized}
 use Rattle.grid.proofs.SideLaws.{area}
+use Rattle.record.specs.Leaf.{inEdition}
 use Rattle.kinds.specs.Inside.{puzzleWith}
 use Rattle.literals.specs.Literals.{Found}
 use Rattle.reasons.specs.Reasons.{findReason}
@@ -21,7 +22,7 @@ use Rattle.host.proofs.find_on.Tie as tie
 
 -- the first reason on the arrays
 abbrev reason : tie.Start → Found
-reason s = findReason (puzzleWith (sized (s .args .h) (s .args .w)) (linesOf (s .args .arrows .now) (s .args .ends .now) (s .args .number))) (take (s .args .h * s .args .w) (s .args .cells .now))
+reason s = findReason (inEdition 1 (puzzleWith (sized (s .args .h) (s .args .w)) (linesOf (s .args .arrows .now) (s .args .ends .now) (s .args .number)))) (take (s .args .h * s .args .w) (s .args .cells .now))
 
 -- the cells are few
 cells-few : (s : tie.Start) → s .args .h * s .args .w ≤ 1024
@@ -36,7 +37,7 @@ abbrev told : tie.After-slice-known2 → tie.After-found
 told c = c .before .before .before .before .before .before
 
 -- the literals found
-literals : (c : tie.After-found) → Literals (reason (start c)) (c .found .given .0 .0) (c .before .before .before .find-inconsistency .last .1 .1 .1 .1 .1 .1 .0)
+literals : (c : tie.After-found) → Literals (reason (start c)) (c .found .given .0 .0) (c .before .before .before .find-inconsistency .last .1 .1 .1 .1 .1 .1 .1 .0)
 literals c = found-literals (reason (start c)) (rw (c .found .given .1) at (c .before .before .before .find-inconsistency .ensures))
 
 -- and they are few
@@ -54,7 +55,7 @@ slice-aggregate-find-inconsistency c = search needs
 find-inconsistency-requires : tie.Need-find-inconsistency-requires
 find-inconsistency-requires c κs =
     let s = c .before .before .before in
-    (record { tall = s .pre .0; wide = s .pre .1; room = omega (arith, cells-few s, room-length (c .before .no-literals .ensures)) }, s .pre .3)
+    (record { tall = s .pre .0; wide = s .pre .1; room = omega (arith, cells-few s, room-length (c .before .no-literals .ensures)) }, s .pre .3, λ z. omega arith)
 
 enum-told : tie.Need-enum-told
 enum-told c = search needs

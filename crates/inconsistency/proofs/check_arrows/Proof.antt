@@ -46,6 +46,7 @@ search-pairs-requires c κs =
     let s = start k in
     let lines = linesOf (s .args .arrows .now) (s .args .ends .now) (s .args .number) in
     let held = k .compute-board-info-detailed .ensures lines (s .pre .1 .held) in (
+      s .pre .2,
       s .pre .0,
       record { held = held; drawn = s .pre .1 .drawn },
       record {

@@ -129,7 +129,7 @@ same-length c = search needs
 returns : tie.Need-returns
 returns c =
     let k = c .before .before .before .before .before in
-    first-found (puzzle (start k)) (held (start k)) (one k) (c .before .first .given .1)
+    first-found ((start k) .args .edition) (puzzle (start k)) (held (start k)) (one k) (c .before .first .given .1)
 
 enum-known-first-2 : tie.Need-enum-known-first-2
 enum-known-first-2 c = search needs
@@ -168,6 +168,7 @@ check-arrows-requires c κs =
     let t = blocks (labelled b) .table in (
       fit-after (s .pre .0) (same-after (reason2 (puzzle s) (held s)) (two b) (e .enum-told2 .given .1) ∙ same-after (reason1 (puzzle s) (held s)) (one (searched p)) (none p)),
       record { drawn = s .pre .1 .drawn; held = record { named = t .groups-are; counted = t .arrowed-are }; counted = t .squares-are },
+      s .pre .2,
     )
 
 enum-known-second : tie.Need-enum-known-second
@@ -180,7 +181,7 @@ same-length-3 : tie.Need-same-length-3
 same-length-3 c =
     let k = c .before .before in
     let b = searched-2 (k .before .before .before .before .before) in
-    k .check-arrows .kept .1 .1 .1 .1 .1 .1 .1 .1 .1 .0
+    k .check-arrows .kept .1 .1 .1 .1 .1 .1 .1 .1 .1 .1 .0
     ∙ b .check-blocks .kept .1 .1 .1 .1 .1 .1 .1 .1 .0
     ∙ searched (passed (labelled b)) .check-potential-groups .kept .1 .1 .1 .1 .1 .1 .1 .1 .0
 
@@ -191,7 +192,7 @@ returns-3 c =
     let b = searched-2 e in
     let p = passed (labelled b) in
     let s = start (searched p) in
-    rest-found (puzzle s) (held s) (one (searched p)) (none p) (two b) (e .enum-told2 .given .1) (k .check-arrows .ensures)
+    rest-found (s .args .edition) (puzzle s) (held s) (one (searched p)) (none p) (two b) (e .enum-told2 .given .1) (k .check-arrows .ensures)
 
 same-length-4 : tie.Need-same-length-4
 same-length-4 c = search needs
@@ -201,7 +202,7 @@ returns-4 c =
     let b = c .before .before .before .before .before in
     let p = passed (labelled b) in
     let s = start (searched p) in
-    second-found (puzzle s) (held s) (one (searched p)) (none p) (two b) (c .before .second .given .1)
+    second-found (s .args .edition) (puzzle s) (held s) (one (searched p)) (none p) (two b) (c .before .second .given .1)
 
 same-length-5 : tie.Need-same-length-5
 same-length-5 c = search needs

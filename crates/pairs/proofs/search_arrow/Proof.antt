@@ -3,7 +3,7 @@
 use Prim.Native.Nat.{ℕ, _-_, _≤_, _<_}
 use native.Mathlib.Omega.{arith}
 use mathlib.Core.Path.{_≡_, refl, ap, subst, _∙_}
-use mathlib.Core.Bool.{Bool, true}
+use mathlib.Core.Bool.{true}
 use mathlib.Core.List.{List}
 use lib.Arith.{lt-of-le-ne}
 use lib.ListN.{length, getD}
@@ -19,20 +19,20 @@ use Rattle.pairs.proofs.search_arrow.Statement.{statement}
 use Rattle.pairs.proofs.search_arrow.Tie as tie
 
 -- the pairs before `last` give no reason, and the buffer is as it was
-record Amid (fourth : Bool) (cells arrows kinds owners : List ℕ) (h w from to : ℕ) (groups rows columns buffer₀ buffer : List ℕ) (last : ℕ) : Type 0 where
+record Amid (stage : ℕ) (cells arrows kinds owners : List ℕ) (h w from to : ℕ) (groups rows columns buffer₀ buffer : List ℕ) (last : ℕ) : Type 0 where
   low : from ≤ last
   high : last ≤ to
   first : last < to → square cells (getD arrows last 0) ≡ true
   work : Work groups rows columns
   same : buffer ≡ buffer₀
-  passed : (lines : List (List ℕ)) → Scene h w lines cells arrows kinds owners from to → ahead fourth h w lines cells arrows to from ≡ ahead fourth h w lines cells arrows to last
+  passed : (lines : List (List ℕ)) → Scene h w lines cells arrows kinds owners from to → ahead stage h w lines cells arrows to from ≡ ahead stage h w lines cells arrows to last
 
 abbrev Inv-loop : tie.InvT-loop
-Inv-loop fourth cells arrows kinds owners head next sizes squares h w from to near₀ groups₀ rows₀ columns₀ buffer₀ last₀ near groups rows columns buffer last =
-    Amid fourth cells arrows kinds owners h w from to groups rows columns buffer₀ buffer last
+Inv-loop stage cells arrows kinds owners head next sizes squares h w from to near₀ groups₀ rows₀ columns₀ buffer₀ last₀ near groups rows columns buffer last =
+    Amid stage cells arrows kinds owners h w from to groups rows columns buffer₀ buffer last
 
 abbrev μ-loop : tie.MeasureT-loop
-μ-loop fourth cells arrows kinds owners head next sizes squares h w from to near₀ groups₀ rows₀ columns₀ buffer₀ last₀ near groups rows columns buffer last = to - last
+μ-loop stage cells arrows kinds owners head next sizes squares h w from to near₀ groups₀ rows₀ columns₀ buffer₀ last₀ near groups rows columns buffer last = to - last
 
 -- the start, seen from the loop
 abbrev start : tie.At-loop Inv-loop μ-loop → tie.Start Inv-loop μ-loop
@@ -64,7 +64,7 @@ loop-holds : tie.Need-loop-holds Inv-loop μ-loop
 loop-holds c =
     let s = c .before .before in
     let n = c .next-square .ensures in
-    record { low = n .low; high = n .high; first = n .some; work = s .pre .3; same = refl; passed = λ lines k. search-start (s .args .fourth) k (long s) n }
+    record { low = n .low; high = n .high; first = n .some; work = s .pre .3; same = refl; passed = λ lines k. search-start (s .args .stage) k (long s) n }
 
 add-next-square : tie.Need-add-next-square Inv-loop μ-loop
 add-next-square c = omega (arith, c .loop-test .taken, c .before .before .before .before .pre .1 .short)
@@ -80,7 +80,7 @@ returns c =
     let s = start (c .before .before .before) in
     let l = c .before .before .before .loop in (
       (λ lines k.
-          rw (l .inv .passed lines k ∙ search-end (s .args .fourth) k (long s) (l .last) (l .inv .low) (c .before .before .loop-test .taken) (l .inv .first (c .before .before .loop-test .taken)) (c .before .next-square2 .ensures) (c .if1 .taken), l .inv .same)
+          rw (l .inv .passed lines k ∙ search-end (s .args .stage) k (long s) (l .last) (l .inv .low) (c .before .before .loop-test .taken) (l .inv .first (c .before .before .loop-test .taken)) (c .before .next-square2 .ensures) (c .if1 .taken), l .inv .same)
           (found-none (s .args .buffer .now))),
       l .inv .work,
     )
@@ -127,7 +127,7 @@ loop-again c =
       work = check .1;
       same = nothing-found _ (subst (FoundAs _ _ _) (c .enum-told .given .1) (check .0 (s .pre .1 .lines) (scene-part (s .pre .1 .scene) (l .inv .low) (omega (arith, more e))))) .1 ∙ l .inv .same;
       passed = λ lines k. l .inv .passed lines k
-          ∙ search-more (s .args .fourth) k (long s) (l .last) (l .inv .low) within (l .inv .first within) n (more e) (subst (FoundAs _ _ _) (c .enum-told .given .1) (check .0 lines (scene-part k (l .inv .low) (omega (arith, more e)))));
+          ∙ search-more (s .args .stage) k (long s) (l .last) (l .inv .low) within (l .inv .first within) n (more e) (subst (FoundAs _ _ _) (c .enum-told .given .1) (check .0 lines (scene-part k (l .inv .low) (omega (arith, more e)))));
     }
 
 enum-known-finding : tie.Need-enum-known-finding Inv-loop μ-loop
@@ -147,7 +147,7 @@ returns-2 c =
     let within = e .before .before .loop-test .taken in
     let check = p .check-pair .ensures in (
       (λ lines k.
-          rw (l .inv .passed lines k) (found-same (l .inv .same) (search-found (s .args .fourth) k (long s) (l .last) (l .inv .low) within (l .inv .first within) (e .before .next-square2 .ensures) (more e)
+          rw (l .inv .passed lines k) (found-same (l .inv .same) (search-found (s .args .stage) k (long s) (l .last) (l .inv .low) within (l .inv .first within) (e .before .next-square2 .ensures) (more e)
           (subst (FoundAs _ _ _) (c .before .finding .given .1) (check .0 lines (scene-part k (l .inv .low) (omega (arith, more e)))))))),
       check .1,
     )
@@ -176,7 +176,7 @@ returns-4 : tie.Need-returns-4 Inv-loop μ-loop
 returns-4 c =
     let s = start (c .before) in
     let l = c .before .loop in (
-      (λ lines k. rw (l .inv .passed lines k ∙ search-done (s .args .fourth) k (long s) (l .last) (c .loop-test .left), l .inv .same) (found-none (s .args .buffer .now))),
+      (λ lines k. rw (l .inv .passed lines k ∙ search-done (s .args .stage) k (long s) (l .last) (c .loop-test .left), l .inv .same) (found-none (s .args .buffer .now))),
       l .inv .work,
     )
 

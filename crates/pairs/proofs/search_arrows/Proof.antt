@@ -3,7 +3,6 @@
 use Prim.Native.Nat.{ℕ, _-_, _*_, _≤_, _<_}
 use native.Mathlib.Omega.{arith}
 use mathlib.Core.Path.{_≡_, refl, ap, subst, _∙_}
-use mathlib.Core.Bool.{Bool}
 use mathlib.Core.List.{List, List·Memᴰ}
 use lib.ListN.{length, getD, take}
 use lib.Seq.{slice}
@@ -20,21 +19,21 @@ use Rattle.pairs.proofs.search_arrows.Statement.{statement}
 use Rattle.pairs.proofs.search_arrows.Tie as tie
 
 -- the arrows before the a-th, which starts at `from`, give no reason, and the buffer is as it was
-record Amid (fourth : Bool) (cells arrows ends : List ℕ) (number : ℕ) (h w : ℕ) (groups rows columns buffer₀ buffer : List ℕ) (from a : ℕ) : Type 0 where
+record Amid (stage : ℕ) (cells arrows ends : List ℕ) (number : ℕ) (h w : ℕ) (groups rows columns buffer₀ buffer : List ℕ) (from a : ℕ) : Type 0 where
   high : a ≤ number
   rise : a < number → from ≤ getD ends a 0
   work : Work groups rows columns
   same : buffer ≡ buffer₀
   sub : (l : List ℕ) → List·Memᴰ l (linesFrom arrows ends number from a) → List·Memᴰ l (linesOf arrows ends number)
-  passed : restOf (reasonAt fourth (viewOn h w (linesOf arrows ends number) cells)) (take (h * w) cells) (linesOf arrows ends number)
-      ≡ restOf (reasonAt fourth (viewOn h w (linesOf arrows ends number) cells)) (take (h * w) cells) (linesFrom arrows ends number from a)
+  passed : restOf (reasonAt stage (viewOn h w (linesOf arrows ends number) cells)) (take (h * w) cells) (linesOf arrows ends number)
+      ≡ restOf (reasonAt stage (viewOn h w (linesOf arrows ends number) cells)) (take (h * w) cells) (linesFrom arrows ends number from a)
 
 abbrev Inv-loop : tie.InvT-loop
-Inv-loop fourth cells arrows ends number kinds owners head next sizes squares h w near₀ groups₀ rows₀ columns₀ buffer₀ from₀ a₀ near groups rows columns buffer from a =
-    Amid fourth cells arrows ends number h w groups rows columns buffer₀ buffer from a
+Inv-loop stage cells arrows ends number kinds owners head next sizes squares h w near₀ groups₀ rows₀ columns₀ buffer₀ from₀ a₀ near groups rows columns buffer from a =
+    Amid stage cells arrows ends number h w groups rows columns buffer₀ buffer from a
 
 abbrev μ-loop : tie.MeasureT-loop
-μ-loop fourth cells arrows ends number kinds owners head next sizes squares h w near₀ groups₀ rows₀ columns₀ buffer₀ from₀ a₀ near groups rows columns buffer from a = number - a
+μ-loop stage cells arrows ends number kinds owners head next sizes squares h w near₀ groups₀ rows₀ columns₀ buffer₀ from₀ a₀ near groups rows columns buffer from a = number - a
 
 -- the start, seen from inside the loop
 abbrev start : tie.In-loop Inv-loop μ-loop → tie.Start Inv-loop μ-loop
@@ -53,7 +52,7 @@ abbrev lines : tie.Start Inv-loop μ-loop → List (List ℕ)
 lines s = linesOf (s .args .arrows .now) (s .args .ends .now) (s .args .number)
 
 abbrev reason : tie.Start Inv-loop μ-loop → Pair → Found
-reason s = reasonAt (s .args .fourth) (viewOn (s .args .h) (s .args .w) (lines s) (s .args .cells .now))
+reason s = reasonAt (s .args .stage) (viewOn (s .args .h) (s .args .w) (lines s) (s .args .cells .now))
 
 -- the arrow as its search takes it
 scene : (c : tie.After-wide Inv-loop μ-loop)

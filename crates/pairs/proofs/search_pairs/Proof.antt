@@ -1,8 +1,13 @@
 -- `pairs::search_pairs` meets its contract: reason 3 for every pair, and only where none meets it reason 4.
 -- Assumes nothing.
-use mathlib.Core.Path.{refl, subst}
+use Prim.Native.Nat.{ℕ}
+use mathlib.Core.Path.{_≡_, refl, subst}
+use mathlib.Core.List.{List}
+use Rattle.literals.specs.declared.Finding.{Finding}
+use mathlib.Core.Bool.{cond}
+use borrow.Author.Tests.{ne-eqb}
 use Rattle.grid.specs.Lists.{flatMap}
-use Rattle.groups.specs.Arrows.{pairs}
+use Rattle.groups.specs.Arrows.{Pair, pairs}
 use Rattle.groups.specs.Arrays.{linesOf}
 use Rattle.kinds.specs.Kinds.{View, view, viewWith}
 use Rattle.growth.specs.Pairs.{reasonAt, viewOn}
@@ -13,6 +18,11 @@ use Rattle.literals.proofs.Findings.{found-first, found-next, not-refused}
 use borrow.Author.Needs.{needs}
 use Rattle.pairs.proofs.search_pairs.Statement.{statement}
 use Rattle.pairs.proofs.search_pairs.Tie as tie
+
+-- reason 4 of an edition, as the search for it has it
+fourth-found : (k : ℕ) (v : View) (ps : List Pair) {b a : List ℕ} {r : Finding} → (k ≡ 0 → ⊥) → FoundAs (firstOf (reasonAt k v) ps) b a r → FoundAs (firstOf (λ q. reason4At v q k) ps) b a r
+unfolding reasonAt
+fourth-found k v ps {b} {a} {r} h x = subst (λ t. FoundAs (firstOf (λ q. cond t (reason3At v q) (reason4At v q k)) ps) b a r) (ne-eqb k 0 h) x
 
 -- the start, seen from before the search for reason 3
 abbrev start : tie.After-search-arrows-arg → tie.Start
@@ -37,10 +47,10 @@ abbrev third : tie.Start → Found
 third s = firstOf (reason3At (board s)) (flatMap (pairs (board s .cells)) (board s .arrows))
 
 abbrev fourth : tie.Start → Found
-fourth s = firstOf (reason4At (board s)) (flatMap (pairs (board s .cells)) (board s .arrows))
+fourth s = firstOf (λ q. reason4At (board s) q (s .args .edition)) (flatMap (pairs (board s .cells)) (board s .arrows))
 
 search-arrows-requires : tie.Need-search-arrows-requires
-search-arrows-requires c κs = let p = start c .pre in (p .0, p .1, p .2, record { groups-long = refl; rows-long = refl; columns-long = refl })
+search-arrows-requires c κs = let p = start c .pre in (p .1, p .2, p .3, record { groups-long = refl; rows-long = refl; columns-long = refl })
 
 enum-told : tie.Need-enum-told
 enum-told c = search needs
@@ -49,7 +59,7 @@ search-arrows-requires-2 : tie.Need-search-arrows-requires-2
 search-arrows-requires-2 c κs =
     let found = searched (passed c .before .before) in
     let p = start (found .before) .pre in
-    (record { tall = p .0 .tall; wide = p .0 .wide; room = search needs }, p .1, p .2, found .search-arrows .ensures .1)
+    (record { tall = p .1 .tall; wide = p .1 .wide; room = search needs }, p .2, p .3, found .search-arrows .ensures .1)
 
 enum-known-finding : tie.Need-enum-known-finding
 enum-known-finding c = search needs
@@ -66,7 +76,7 @@ returns c =
     let none = passed (c .before .before .before) in
     let found = searched (none .before .before) in
     let s = start (found .before) in
-    found-next (third s) (fourth s) (subst (FoundAs _ _ _) (none .enum-told .given .1) (found .search-arrows .ensures .0)) (c .before .before .search-arrows2 .ensures .0)
+    found-next (third s) (fourth s) (subst (FoundAs _ _ _) (none .enum-told .given .1) (found .search-arrows .ensures .0)) (fourth-found (s .args .edition) (board s) (flatMap (pairs (board s .cells)) (board s .arrows)) (s .pre .0) (c .before .before .search-arrows2 .ensures .0))
 
 same-length-2 : tie.Need-same-length-2
 same-length-2 c = search needs

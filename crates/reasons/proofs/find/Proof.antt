@@ -8,7 +8,7 @@ use borrow.Author.Tests.{not-true, not-false}
 use Rattle.grid.proofs.SideLaws.{area}
 use Rattle.board.specs.Form.{wellFormed}
 use Rattle.board.specs.Hints.{withHints, hinted}
-use Rattle.reasons.proofs.BoardArrays.{board-sizes, board-arrays, find-ill, find-short, find-found}
+use Rattle.reasons.proofs.BoardArrays.{board-sizes, board-arrays, board-edition, find-ill, find-short, find-found}
 use borrow.Author.Needs.{needs}
 use Rattle.reasons.proofs.find.Statement.{statement}
 use Rattle.reasons.proofs.find.Tie as tie
@@ -55,7 +55,7 @@ find-inconsistency-requires c κs =
     let s = e .before .before .before .before in
     let h = formed (e .before) in
     let z = board-sizes (s .args .t1) h in
-    (record { tall = z .0; wide = z .1; room = e .if2 .left }, board-arrays (s .args .t1) h)
+    (record { tall = z .0; wide = z .1; room = e .if2 .left }, board-arrays (s .args .t1) h, board-edition (s .args .t1) h)
 
 -- the search, seen from behind the count
 abbrev searched : tie.After-raised → tie.After-find-inconsistency

@@ -9,8 +9,7 @@ use Rattle.grid.specs.Grid.{size}
 use Rattle.record.specs.Problem.{gridOf}
 use Rattle.board.specs.declared.Board.{Board}
 use Rattle.board.specs.Form.{wellFormed}
-use Rattle.board.specs.Decide.{refusedWith, decideAllOf, allPlaced}
-use Rattle.board.specs.Inside.{held}
+use Rattle.board.specs.Decide.{withDecisions, refusedWith, decideAllOf, allPlaced}
 use Rattle.board.proofs.BoardForm.{whole-is, whole-most}
 use Rattle.board.proofs.Fold.{all-6, all-placed, all-done, all-refused}
 use Rattle.board.proofs.Board.decide_all.Statement.{statement}
@@ -37,12 +36,12 @@ well c =
 
 -- the board with all decisions put
 abbrev result : tie.After-place-all → Board
-result c = held (board (c .before) .problem) (board (c .before) .hints) (c .place-all .last .0) (c .place-all .last .1 .0) (c .place-all .result .decided)
+result c = withDecisions (board (c .before)) (c .place-all .last .0) (c .place-all .last .1 .0) (c .place-all .result .decided)
 
 -- what `place_all` says of it
 placed : (c : tie.After-place-all) → allPlaced (board (c .before)) (record { answer = c .place-all .result .answer; board = result c }) ≡ decideAllOf (board (c .before)) (entry (c .before) .args .decisions .now)
 unfolding size gridOf
-placed c = all-placed (board (c .before)) (entry (c .before) .args .decisions .now) (well (c .before)) (c .place-all .ensures (board (c .before) .problem) (board (c .before) .hints) refl (well (c .before)))
+placed c = all-placed (board (c .before)) (entry (c .before) .args .decisions .now) (well (c .before)) (c .place-all .ensures (board (c .before)) refl (well (c .before)))
 
 returns : tie.Need-returns
 unfolding refusedWith
@@ -56,7 +55,7 @@ mul-place-all c = omega (arith, whole-most (board c) (whole-is (board c) (well c
 
 place-all-requires : tie.Need-place-all-requires
 unfolding size gridOf
-place-all-requires c κs = record { problem = board c .problem; hints = board c .hints; area = refl; well = well c }
+place-all-requires c κs = record { board = board c; area = refl; well = well c }
 
 enum-told : tie.Need-enum-told
 enum-told c = search needs

@@ -4,6 +4,7 @@ use Prim.Native.Nat.{_*_, _≤_}
 use native.Mathlib.Omega.{arith}
 use mathlib.Core.Path.{_≡_, sym, _∙_}
 use mathlib.Core.Bool.{true}
+use lib.ListN.{length}
 use borrow.Author.Needs.{needs}
 use borrow.Author.Tests.{not-true, not-false}
 use Rattle.grid.specs.Grid.{size}
@@ -12,15 +13,23 @@ use Rattle.record.specs.Problem.{gridOf}
 use Rattle.form.specs.Form.{problemFormed}
 use Rattle.form.proofs.ProblemForm.{formed-is}
 use Rattle.board.specs.declared.Board.{Board}
-use Rattle.board.proofs.Verdicts.{board-problem, board-decisions}
+use Rattle.board.proofs.Verdicts.{board-problem, board-edition, board-decisions}
 use Rattle.board.proofs.Board.well_formed.Statement.{statement}
 use Rattle.board.proofs.Board.well_formed.Tie as tie
 
 good-problem-requires : tie.Need-good-problem-requires
 good-problem-requires c κs = search needs
 
+-- the start, seen from behind the test of the problem
+abbrev start : tie.After-good-problem → tie.Start
+start c = c .before .before .before .before .before
+
 abbrev board : tie.After-good-problem → Board
-board c = c .before .before .before .before .before .args .t1
+board c = start c .args .t1
+
+-- what the types say of its arrays and its count
+typed : (s : tie.Start) → (length (s .args .t1 .cells) ≡ 1024) × (length (s .args .t1 .order) ≡ 1024) × (s .args .t1 .hints ≤ 65535)
+typed s = (search needs, search needs, search needs)
 
 -- the problem passed its test
 formed : (c : tie.Else1) → problemFormed (board (c .before) .problem) ≡ true
@@ -35,19 +44,36 @@ area c =
 returns : tie.Need-returns
 returns c = board-problem (board (c .before)) (sym (c .before .good-problem .ensures) ∙ not-true (c .before .good-problem .result) (c .if1 .taken))
 
-mul-good-decisions : tie.Need-mul-good-decisions
-mul-good-decisions c = omega (arith, area c)
-
-good-decisions-requires : tie.Need-good-decisions-requires
-good-decisions-requires c κs = (area (c .before .before .before), search needs, search needs)
+is-edition-requires : tie.Need-is-edition-requires
+is-edition-requires c κs = search needs
 
 returns-2 : tie.Need-returns-2
+returns-2 c = board-edition (board (c .before .before .before)) (sym (c .before .is-edition .ensures) ∙ not-true (c .before .is-edition .result) (c .if2 .taken))
+
+mul-good-decisions : tie.Need-mul-good-decisions
+mul-good-decisions c = omega (arith, area (c .before .before))
+
+good-decisions-requires : tie.Need-good-decisions-requires
+good-decisions-requires c κs = (area (c .before .before .before .before .before), search needs, search needs)
+
+returns-3 : tie.Need-returns-3
 unfolding size gridOf
-returns-2 c =
-    let e = c .before .before .before .before in
-    c .good-decisions .ensures ∙ board-decisions (board (e .before)) (formed e) (search needs) (search needs) (search needs)
+returns-3 c =
+    let f = c .before .before .before .before in
+    let t = f .before in
+    let e = t .before in
+    let y = typed (start (e .before)) in
+    c .good-decisions .ensures
+    ∙ board-decisions (board (e .before)) (formed e) (sym (t .is-edition .ensures) ∙ not-false (t .is-edition .result) (f .if2 .left)) (y .0) (y .1) (y .2)
 
 pub well-formed-spec : {M : Type 1} → statement M
 well-formed-spec =
     tie.close
-    (tie.spec good-problem-requires returns mul-good-decisions good-decisions-requires returns-2)
+    (tie.spec
+    good-problem-requires
+    returns
+    is-edition-requires
+    returns-2
+    mul-good-decisions
+    good-decisions-requires
+    returns-3)

@@ -14,11 +14,11 @@ use Rattle.calls_replay.proofs.boards.boards_differ.Statement.{statemen
 use Rattle.calls_replay.proofs.boards.boards_differ.Tie as tie
 
 -- the start of the code, where the puzzles and the counts were found equal
-abbrev start : tie.Else3 → tie.Start
-start c = c .before .before .before .before .before .before .before .before .before .before
+abbrev start : tie.Else4 → tie.Start
+start c = c .before .before .before .before .before .before .before .before .before .before .before .before .before
 
 -- the place where the puzzles and the counts were found equal, after the comparison of the cells
-abbrev counts : tie.After-cells-differ → tie.Else3
+abbrev counts : tie.After-cells-differ → tie.Else4
 counts c = c .before .before .before .before .before
 
 long-cells : (c : tie.Start) → (length (c .args .x .cells) ≡ 1024) × (length (c .args .y .cells) ≡ 1024)
@@ -36,14 +36,17 @@ problems-differ-requires : tie.Need-problems-differ-requires
 problems-differ-requires c κs = search needs
 
 returns : tie.Need-returns
-returns c = fails (λ e. c .if1 .taken (ap (λ (b : Board). b .hints) e))
+returns c = fails (λ e. c .if1 .taken (ap (λ (b : Board). b .edition) e))
 
 returns-2 : tie.Need-returns-2
-returns-2 c = fails (λ e.
+returns-2 c = fails (λ e. c .if2 .taken (ap (λ (b : Board). b .hints) e))
+
+returns-3 : tie.Need-returns-3
+returns-3 c = fails (λ e.
     ⊎-elim
     (λ w. c .before .problems-differ .ensures .1 (w .taken) (ap (λ (b : Board). b .problem) e))
     (λ w. eqb-false _ _ (not-true _ (w .3 .taken)) (ap (λ (b : Board). b .decided) e))
-    (c .if2 .came))
+    (c .if3 .came))
 
 slice-aggregate-cells-differ : tie.Need-slice-aggregate-cells-differ
 slice-aggregate-cells-differ c = sym (long-cells (start (c .before .before .before)) .0)
@@ -51,8 +54,8 @@ slice-aggregate-cells-differ c = sym (long-cells (start (c .before .before .befo
 cells-differ-requires : tie.Need-cells-differ-requires
 cells-differ-requires c κs = search needs
 
-returns-3 : tie.Need-returns-3
-returns-3 c = fails (λ e. told-cells (c .before) .1 (c .if4 .taken) (ap (λ (b : Board). b .cells) e))
+returns-4 : tie.Need-returns-4
+returns-4 c = fails (λ e. told-cells (c .before) .1 (c .if5 .taken) (ap (λ (b : Board). b .cells) e))
 
 slice-aggregate-words-differ : tie.Need-slice-aggregate-words-differ
 slice-aggregate-words-differ c = sym (long-order (start (counts (c .before .before .before .before))) .0)
@@ -63,19 +66,20 @@ slice-aggregate-words-differ-2 c = sym (long-order (start (counts (c .before .be
 words-differ-requires : tie.Need-words-differ-requires
 words-differ-requires c κs = search needs
 
-returns-4 : tie.Need-returns-4
-returns-4 c =
+returns-5 : tie.Need-returns-5
+returns-5 c =
     let w = c .before .before .before .before .before in
     let n = counts (w .before) in
     let s = start n in
     let orders = c .words-differ .ensures in (
       λ f. board-same
           {x = s .args .x} {y = s .args .y}
-          (n .before .before .before .before .problems-differ .ensures .0 (n .before .before .before .if2 .left))
-          (told-cells (w .before) .0 (w .if4 .left))
+          (n .before .before .before .before .problems-differ .ensures .0 (n .before .before .before .if3 .left))
+          (n .before .before .before .before .before .before .before .before .before .before .if1 .left)
+          (told-cells (w .before) .0 (w .if5 .left))
           (orders .0 f)
-          (eqb-true _ _ (not-false _ (n .if3 .left)))
-          (n .before .before .before .before .before .before .before .if1 .left),
+          (eqb-true _ _ (not-false _ (n .if4 .left)))
+          (n .before .before .before .before .before .before .before .if2 .left),
       λ t e. orders .1 t (ap (λ (b : Board). b .order) e),
     )
 
@@ -84,12 +88,13 @@ boards-differ-spec =
     tie.close
     (tie.spec
     returns
-    problems-differ-requires
     returns-2
+    problems-differ-requires
+    returns-3
     slice-aggregate-cells-differ
     cells-differ-requires
-    returns-3
+    returns-4
     slice-aggregate-words-differ
     slice-aggregate-words-differ-2
     words-differ-requires
-    returns-4)
+    returns-5)
