@@ -150,5 +150,11 @@ fn check_finished(finished: FinishedCall, input: &HostInput) -> Result<bool, Str
             "{facts}\nfinished: the call returns {returned} and not {expected}"
         ));
     }
+    if record[..] != input.record[..] || decisions[..] != input.decisions[..] {
+        let facts = host_facts(input);
+        return Err(format!(
+            "{facts}\nfinished: the record or the decisions are changed"
+        ));
+    }
     Ok(returned == 1)
 }
