@@ -10,7 +10,7 @@ ghost use Rattle.groups.specs.Arrows.{pairs};
 ghost use Rattle.groups.specs.Arrays.{CellArray, linesOf};
 ghost use Rattle.reach.specs.Chains.{Chains};
 ghost use Rattle.literals.specs.Inside.{FoundAs, Fit};
-ghost use Rattle.growth.specs.Pairs.{reasonAt, pairAt, NextSquare, viewOn, Scene, Grouped, Line, Squares, Whole};
+ghost use Rattle.growth.specs.Pairs.{reasonAt, pairAt, NextSquare, viewOn, Scene, Blocks, Grouped, Line, Squares, Whole};
 ghost use Rattle.growth.specs.Growth.{reason3At, reason34};
 ghost use Rattle.literals.specs.Literals.{firstOf};
 ghost use Rattle.shift.specs.Shift.{Work};
@@ -38,6 +38,7 @@ fn check_shift(
     owners: &[u16; 1024],
     head: &[u16; 1024],
     next: &[u16; 1024],
+    squares: &[u16; 1024],
     h: usize,
     w: usize,
     last: usize,
@@ -49,7 +50,7 @@ fn check_shift(
     buffer: &mut [u16],
 ) -> Finding
     requires { ⌜ Fit h w (now buffer) × Squares h w (now cells) (now arrows) (now kinds) (now owners) last cur
-        × Chains (now owners) (now head) (now next) (h * w) × Work (now groups) (now rows) (now columns) ⌝ }
+        × Chains (now owners) (now head) (now next) (h * w) × Blocks (now kinds) (now owners) (h * w) (now squares) × Work (now groups) (now rows) (now columns) ⌝ }
     ensures { λ r. ⌜ ((lines : List (List ℕ))
         → Scene h w lines (now (cells .entry)) (now (arrows .entry)) (now (kinds .entry)) (now (owners .entry)) last (cur + 1)
         → FoundAs (reason3At (viewOn h w lines (now (cells .entry))) (pairAt (now (arrows .entry)) last cur)) (now (buffer .entry)) (now (buffer .exit)) r) ⌝ }
@@ -63,6 +64,7 @@ fn check_shift(
         owners,
         head,
         next,
+        squares,
         h,
         w,
         last_block,
@@ -124,6 +126,7 @@ fn check_pair(
             owners,
             head,
             next,
+            squares,
             h,
             w,
             last,

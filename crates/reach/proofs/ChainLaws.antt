@@ -109,15 +109,20 @@ module _ (owners : List ℕ) (n f : ℕ) where
       ∙ ap (λ (m : ℕ). filter p (range 0 k) ++ filter p (range m (i - k))) z ∙ ap (λ (l : List ℕ). filter p (range 0 k) ++ l) (F .none-before) ∙ append-nil (filter p (range 0 k)) in
       ap (filter p) (upto-more i) ∙ filter-append p (upto i) (i ∷ []) ∙ rw (F .passes) (ap (λ (l : List ℕ). l ++ (i ∷ [])) before)
 
-  -- where there is no next cell, all are passed
-  pub passed-all : (k i : ℕ) → n ≤ 1024 → k ≤ n → i ≡ firstFrom owners n f k → 1024 ≤ i → cellsUpTo owners f k ≡ cellsFrom owners n f 0
+  -- the cells passed, and those from there on, are all
+  pub passed-rest : (k : ℕ) → k ≤ n → cellsFrom owners n f 0 ≡ cellsUpTo owners f k ++ cellsFrom owners n f k
   unfolding cellsUpTo upto cellsFrom
-  passed-all k i small le e h =
+  passed-rest k le =
       let p = ownedBy owners f in
       let s : n - 0 ≡ k + (n - k) = omega arith in
       let z : 0 + k ≡ k = omega arith in
-      sym (ap (λ (m : ℕ). filter p (range 0 m)) s ∙ ap (filter p) (range-split 0 k (n - k)) ∙ filter-append p (range 0 k) (range (0 + k) (n - k))
-      ∙ ap (λ (m : ℕ). filter p (range 0 k) ++ filter p (range m (n - k))) z ∙ ap (λ (l : List ℕ). filter p (range 0 k) ++ l) (from-none k i small e h) ∙ append-nil (filter p (range 0 k)))
+      ap (λ (m : ℕ). filter p (range 0 m)) s ∙ ap (filter p) (range-split 0 k (n - k)) ∙ filter-append p (range 0 k) (range (0 + k) (n - k))
+      ∙ ap (λ (m : ℕ). filter p (range 0 k) ++ filter p (range m (n - k))) z
+
+  -- where there is no next cell, all are passed
+  pub passed-all : (k i : ℕ) → n ≤ 1024 → k ≤ n → i ≡ firstFrom owners n f k → 1024 ≤ i → cellsUpTo owners f k ≡ cellsFrom owners n f 0
+  passed-all k i small le e h =
+      sym (passed-rest k le ∙ ap (λ (l : List ℕ). cellsUpTo owners f k ++ l) (from-none k i small e h) ∙ append-nil (cellsUpTo owners f k))
 
   -- the cells of the owner f that pass a test are those of the grid that pass it and have the owner f
   pub owned-both : (p : ℕ → Bool) → filter p (cellsFrom owners n f 0) ≡ filter (λ i. p i && eqb (getD owners i 0) f) (upto n)

@@ -11,7 +11,7 @@ use borrow.Author.Tests.{eq-eqb}
 use Rattle.grid.specs.Lists.{upto}
 use Rattle.grid.proofs.ListLaws.{filter-length, length-range, mem-filter, mem-upto}
 use Rattle.reach.specs.Chains.{ownedBy, cellsFrom, firstCell, firstFrom, Chains}
-use Rattle.reach.proofs.ChainLaws.{cellsUpTo, first-low, first-in, first-owned, from-none, passed-none, passed-first, passed-all, chain-head, chain-next}
+use Rattle.reach.proofs.ChainLaws.{cellsUpTo, first-low, first-in, first-owned, from-none, passed-none, passed-first, passed-rest, passed-all, chain-head, chain-next}
 
 -- i is the next cell of the chain of f, 1024 or more at its end, and `passed` are the cells before it
 pub record Walk (owners : List ℕ) (n f : ℕ) (passed : List ℕ) (i : ℕ) : Type 0 where
@@ -67,6 +67,10 @@ module _ {owners head next : List ℕ} {n : ℕ} (C : Chains owners head next n)
         go : Dec (getD next i 0 < 1024) → 1024 - getD next i 0 < 1024 - i
         go (yes l) = omega (arith, h, l, first-low owners n f (i + 1) (getD next i 0) (walk-more h .next) l)
         go (no l) = omega (arith, h, l)
+
+    -- the cells passed come first in the chain
+    pub walk-rest : cellsFrom owners n f 0 ≡ passed ++ cellsFrom owners n f (W .from)
+    walk-rest = rw (W .before) (passed-rest owners n f (W .from) (W .low))
 
     -- at the end all cells are passed
     pub walk-end : 1024 ≤ i → passed ≡ cellsFrom owners n f 0

@@ -17,11 +17,12 @@ use Rattle.reach.specs.Chains.{Chains}
 unfoldable pub blockIn : List ℕ → List ℕ → ℕ → ℕ → List ℕ
 blockIn kinds owners n f = filter (ofBlock kinds owners f) (upto n)
 
--- `head` and `next` link the cells of the owners of some grid
-pub record Chained (head next : List ℕ) : Type 0 where
+-- `head` and `next` link the cells of the owners of some grid, on which the arrow block named f has so many cells
+pub record Chained (kinds head next : List ℕ) (f count : ℕ) : Type 0 where
   pub owners : List ℕ
   pub size : ℕ
   pub chains : Chains owners head next size
+  pub many : count ≡ length (blockIn kinds owners size f)
 
 -- the rows and the columns of the cells b stand in the first places of two arrays, and nothing behind them changed
 pub record Gathered (w : ℕ) (b rows columns rows′ columns′ : List ℕ) (count : ℕ) : Type 0 where

@@ -13,7 +13,7 @@ ghost use Rattle.reach.specs.Chains.{Chains, cellsFrom};
 ghost use Rattle.kinds.specs.Inside.{Limits, puzzleWith, Held};
 ghost use Rattle.reach.specs.Inside.{reachesAt};
 ghost use Rattle.groups.specs.Arrays.{Names};
-ghost use Rattle.reach.specs.Near.{NearFloats};
+ghost use Rattle.reach.specs.Near.{SquaresOf, NearFloats};
 ghost use Rattle.shift.specs.Fits.{shiftFits};
 ghost use Rattle.shift.specs.Shift.{blockIn, Chained, Gathered, Places, BlockPlaces, landsIn, allLand, fitsAt, Work};
 
@@ -39,29 +39,29 @@ fn keep_place(
     count
 }
 
-// The rows and the columns of the cells of the arrow block named f, by rising index; how many they are. They are the cells of kind 1
-// of its chain.
+// The rows and the columns of the cells of the arrow block named f, by rising index. They are the cells of kind 1 of its chain, `count` of
+// them, so that the walk along the chain ends with the last of them.
 fn gather_block(
     kinds: &[u8; 1024],
     head: &[u16; 1024],
     next: &[u16; 1024],
     w: usize,
     f: u16,
+    count: usize,
     rows: &mut [u16; 1024],
     columns: &mut [u16; 1024],
-) -> usize
-    requires { ⌜ Chained (now head) (now next) × (f < 1024)
+)
+    requires { ⌜ Chained (now kinds) (now head) (now next) f count × (f < 1024)
         × (0 < w) × (length (now rows) ≡ 1024) × (length (now columns) ≡ 1024) ⌝ }
-    ensures { λ r. ⌜ ((owners : List ℕ) (n : ℕ) → Chains owners (now (head .entry)) (now (next .entry)) n
-        → Gathered w (blockIn (now (kinds .entry)) owners n f) (now (rows .entry)) (now (columns .entry)) (now (rows .exit)) (now (columns .exit)) r) ⌝ }
+    ensures { λ _. ⌜ ((owners : List ℕ) (n : ℕ) → Chains owners (now (head .entry)) (now (next .entry)) n → count ≡ length (blockIn (now (kinds .entry)) owners n f)
+        → Gathered w (blockIn (now (kinds .entry)) owners n f) (now (rows .entry)) (now (columns .entry)) (now (rows .exit)) (now (columns .exit)) count) ⌝ }
 {
-    let mut count = 0;
+    let mut k = 0;
     let mut i = head[f as usize] as usize;
-    while i < 1024 {
-        count = keep_place(rows, columns, count, w, i, kinds[i] == 1);
+    while k < count {
+        k = keep_place(rows, columns, k, w, i, kinds[i] == 1);
         i = next[i] as usize;
     }
-    count
 }
 
 // Whether the cell at row y, column x comes into the reach of the block named e by the offset. `near` marks the floating groups in it.
@@ -254,12 +254,13 @@ fn fits(
     false
 }
 
-// Whether some shift of the arrow block named f lies wholly in the reach of the arrow block named e.
+// Whether some shift of the arrow block named f lies wholly in the reach of the arrow block named e. `squares` has the size of the block f.
 pub fn shift_fits(
     kinds: &[u8; 1024],
     owners: &[u16; 1024],
     head: &[u16; 1024],
     next: &[u16; 1024],
+    squares: &[u16; 1024],
     h: usize,
     w: usize,
     f: u16,
@@ -270,14 +271,15 @@ pub fn shift_fits(
     columns: &mut [u16; 1024],
 ) -> bool
     requires { ⌜ Limits h w × Chains (now owners) (now head) (now next) (h * w)
-        × (f < h * w) × (e < 1024) × Work (now groups) (now rows) (now columns) ⌝ }
+        × (f < h * w) × (e < 1024) × Work (now groups) (now rows) (now columns) × SquaresOf (now kinds) (now owners) (h * w) (now squares) f ⌝ }
     ensures { λ r. ⌜ ((lines : List (List ℕ)) (cells : List ℕ)
         → Held (view (puzzleWith (sized h w) lines) cells) (now (kinds .entry)) (now (owners .entry)) → getD (now (kinds .entry)) e 0 ≡ 1
         → r ≡ shiftFits (view (puzzleWith (sized h w) lines) cells) f e) ⌝ }
     ensures { λ r. ⌜ Work (now (groups .exit)) (now (rows .exit)) (now (columns .exit)) ⌝ }
 {
     let total = near::near_floats(kinds, owners, head, next, h, w, e, near, groups);
-    let count = gather_block(kinds, head, next, w, f, rows, columns);
+    let count = grid::wide(squares[f as usize]);
+    gather_block(kinds, head, next, w, f, count, rows, columns);
     fits(
         rows,
         columns,

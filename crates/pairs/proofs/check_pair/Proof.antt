@@ -64,7 +64,7 @@ abbrev gap : tie.Start → List (List ℕ) → Found
 gap s lines = reason4bAt (board s lines) (both s)
 
 check-shift-requires : tie.Need-check-shift-requires
-check-shift-requires c κs = let p = asked-3 c .before .before .pre in (p .0, p .1, p .2 .chains, p .3)
+check-shift-requires c κs = let p = asked-3 c .before .before .pre in (p .0, p .1, p .2 .chains, p .2 .blocks, p .3)
 
 same-length : tie.Need-same-length
 same-length c = search needs

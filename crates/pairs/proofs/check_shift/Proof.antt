@@ -52,7 +52,15 @@ shift-fits-requires : tie.Need-shift-fits-requires
 shift-fits-requires c κs =
     let s = start c in
     let p = s .pre in
-    (record { tall = p .0 .tall; wide = p .0 .wide }, p .2, last-name (s .pre .1), omega (arith, cur-name (s .pre .1), small s), p .3)
+    let pair = p .1 in
+    let name = last-name pair in (
+      record { tall = p .0 .tall; wide = p .0 .wide },
+      p .2,
+      name,
+      omega (arith, cur-name pair, small s),
+      p .4,
+      p .3 _ (omega (arith, name, small s)) (scene-kind (pair .line .scene) (s .args .last) (omega arith) (omega (arith, pair .order)) (pair .first)),
+    )
 
 returns : tie.Need-returns
 returns c =
