@@ -5,6 +5,7 @@ ghost use Prim.Native.Nat.{ℕ, _+_, _*_, _≤_, _<_};
 ghost use mathlib.Core.List.{List};
 ghost use lib.ListN.{length, take};
 ghost use Rattle.grid.specs.Side.{sized};
+ghost use Rattle.groups.specs.Arrays.{Names};
 ghost use Rattle.kinds.specs.Kinds.{view};
 ghost use Rattle.kinds.specs.Inside.{puzzleWith, Held};
 ghost use Rattle.replay.specs.Comparisons.{DiffersUnless};
@@ -87,33 +88,37 @@ fn run_block(
     Run::of(differs || replay::number_at(list, at) != f, end)
 }
 
-// Goes through the arrow blocks, those whose count of arrow cells is not 0; the list has their number at `start`, and then the blocks.
+// Goes through the arrow blocks: of the first cells of all blocks, those whose count of arrow cells is not 0. The list has their number at `start`, and then
+// the blocks.
 pub fn run_blocks(
     list: &[u8],
     start: usize,
     cells: &[u8; 1024],
     kinds: &[u8; 1024],
     owners: &[u16; 1024],
+    firsts: &[u16; 1024],
+    number: usize,
     arrowed: &[u16; 1024],
     h: usize,
     w: usize,
 ) -> Run
-    requires { ⌜ (start + 2 ≤ length (now list)) × (h ≤ 32) × (w ≤ 32) ⌝ }
+    requires { ⌜ (start + 2 ≤ length (now list)) × (h ≤ 32) × (w ≤ 32) × Names (now firsts) number ⌝ }
 {
     let mut found = Run {
         parts: 0,
         differ: 0,
         end: start + 2,
     };
-    let mut f = 0;
-    while f < 1024 {
+    let mut k = 0;
+    while k < number {
+        let f = grid::wide(firsts[k]);
         if arrowed[f] != 0 {
             if list.len() < found.end {
                 return Run::broken();
             }
             found = found.then(run_block(list, found.end, cells, kinds, owners, h, w, f));
         }
-        f += 1;
+        k += 1;
     }
     found.also(replay::number_at(list, start) != found.parts)
 }

@@ -21,7 +21,7 @@ ghost use mathlib.Core.Path.{_≡_};
 ghost use Prim.Native.Nat.{_+_, _*_, _≤_, _<_};
 ghost use lib.ListN.{length, take};
 ghost use Rattle.grid.specs.Side.{sized};
-ghost use Rattle.groups.specs.Arrays.{marked};
+ghost use Rattle.groups.specs.Arrays.{marked, Names};
 ghost use Rattle.replay.specs.Comparisons.{DiffersUnless};
 ghost use Rattle.groups_replay.specs.Blocks.{KindsSo, GroupsSo, PotentialSo};
 
@@ -104,11 +104,13 @@ fn run_kinds(
     n: usize,
     cells: &[u8; 1024],
     blocks: &[u16; 1024],
+    firsts: &[u16; 1024],
+    number: usize,
     arrowed: &[u16; 1024],
     h: usize,
     w: usize,
 ) -> Run
-    requires { ⌜ (at + 3 * n + 2 ≤ length (now list)) × (n ≤ 1024) × (h ≤ 32) × (w ≤ 32) ⌝ }
+    requires { ⌜ (at + 3 * n + 2 ≤ length (now list)) × (n ≤ 1024) × (h ≤ 32) × (w ≤ 32) × Names (now firsts) number ⌝ }
 {
     let mut kinds = arrays::no_marks();
     let mut owners = arrays::no_names();
@@ -123,7 +125,18 @@ fn run_kinds(
         &mut owners,
     );
     let differs = kinds_differ(list, at, n, &kinds, &owners);
-    let found = blocks::run_blocks(list, at + 3 * n, cells, &kinds, &owners, arrowed, h, w);
+    let found = blocks::run_blocks(
+        list,
+        at + 3 * n,
+        cells,
+        &kinds,
+        &owners,
+        firsts,
+        number,
+        arrowed,
+        h,
+        w,
+    );
     found.also(differs)
 }
 
@@ -144,7 +157,7 @@ fn run_arrows(
     let mut firsts = arrays::no_names();
     let mut squares = arrays::no_names();
     let mut arrowed = arrays::no_names();
-    rounds::label_in_rounds(
+    let number = rounds::label_in_rounds(
         rounds.labels,
         cells,
         onarrow,
@@ -157,7 +170,19 @@ fn run_arrows(
         &mut arrowed,
     );
     let differs = groups_differ(list, at, n, &blocks, &squares[..n], &arrowed[..n]);
-    let found = run_kinds(list, rounds, at + 6 * n, n, cells, &blocks, &arrowed, h, w);
+    let found = run_kinds(
+        list,
+        rounds,
+        at + 6 * n,
+        n,
+        cells,
+        &blocks,
+        &firsts,
+        number,
+        &arrowed,
+        h,
+        w,
+    );
     found.also(differs)
 }
 
