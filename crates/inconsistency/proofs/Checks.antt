@@ -1,13 +1,13 @@
 -- What the searches for reasons 1 and 2 found, as an answer and a lent buffer.
 -- Assumes nothing.
 use Prim.Native.Nat.{ℕ, _*_, _≤_, _<_}
-use mathlib.Core.Bool.{true, false}
+use mathlib.Core.Bool.{Bool, true, false}
 use mathlib.Core.Path.{_≡_, sym, ap, _∙_, subst}
 use mathlib.Core.List.{List, List·Memᴰ}
 use lib.ListN.{length, take}
 use Rattle.grid.specs.Lists.{member}
 use Rattle.grid.specs.Marks.{Marks}
-use Rattle.grid.specs.Grid.{size}
+use Rattle.grid.specs.Grid.{Grid, size, cellsOf}
 use Rattle.grid.specs.Side.{sized}
 use Rattle.grid.proofs.SideLaws.{area, sized-size}
 use Rattle.grid.proofs.ListLaws.{flatMap-mem}
@@ -16,7 +16,8 @@ use Rattle.record.specs.Problem.{arrowCells}
 use Rattle.groups.specs.Arrows.{onArrow}
 use Rattle.grid.specs.Cells.{square}
 use Rattle.grid.proofs.GridLaws.{size-most}
-use Rattle.groups.specs.Arrays.{Line, linesOf, maskOf, counts, marked, Counted, GroupTable}
+use Rattle.grid.proofs.FilledLaws.{filled-length}
+use Rattle.groups.specs.Arrays.{noGroup, labelAt, labelArray, Line, linesOf, maskOf, counts, marked, Counted, GroupTable}
 use Rattle.groups.proofs.TableLaws.{table-on}
 use Rattle.groups.proofs.MarkLaws.{arrow-marks}
 use Rattle.kinds.specs.Inside.{puzzleWith, Held}
@@ -68,6 +69,11 @@ module _ (h w : ℕ) (tall : h ≤ 32) (wide : w ≤ 32) {arrows ends : List ℕ
       → BlockTable (puzzleWith (sized h w) (linesOf arrows ends number)) (take (h * w) cells) groups onarrow names squares arrowed count
   unfolding counts
   blocks-held cells t m = record { table = table-on (sized h w) _ (linesOf arrows ends number) (marks-are m) t; arrows-are = marks-are m }
+
+-- the array of names has a place for each cell of the largest grid
+pub table-long : {g : Grid} {p sq arrow : ℕ → Bool} {groups firsts squares arrowed : List ℕ} {number : ℕ} → GroupTable g p sq arrow groups firsts squares arrowed number → size g ≤ 1024 → length groups ≡ 1024
+unfolding labelArray cellsOf
+table-long {g} {p} T fits = ap length (T .groups-are) ∙ filled-length noGroup (labelAt g p) (size g) fits
 
 -- the sizes of the arrow blocks are the counts of their squares
 pub blocks-counted : (h w : ℕ) → h ≤ 32 → w ≤ 32 → (lines : List (List ℕ)) (cells : List ℕ) {kinds owners squares : List ℕ} → Held (viewOn h w lines cells) kinds owners

@@ -11,29 +11,32 @@ ghost use Rattle.groups.specs.Arrays.{linesOf};
 ghost use Rattle.inconsistency.specs.Arrays.{ArrowArrays, Ready};
 ghost use Rattle.literals.specs.Inside.{Fit, FoundAs};
 ghost use Rattle.growth.specs.Pairs.{viewOn};
+ghost use Rattle.shift.specs.Shift.{Work};
 ghost use Rattle.kinds.specs.Inside.{puzzleWith};
 ghost use Rattle.record.specs.Leaf.{inEdition};
 
-// Reasons 3 and 4, if one applies.
+// Reasons 3 and 4, if one applies. The search works in the arrays of the names, the blocks and their arrow cells, which nothing reads any more then.
 fn check_arrows(
     edition: u8,
     cells: &[u8; 1024],
     arrows: &[u16; 1024],
     ends: &[u16; 1024],
     number: usize,
-    blocks: &[u16; 1024],
+    blocks: &mut [u16; 1024],
+    names: &mut [u16; 1024],
     squares: &[u16; 1024],
-    arrowed: &[u16; 1024],
+    arrowed: &mut [u16; 1024],
     h: usize,
     w: usize,
     buffer: &mut [u16],
 ) -> Finding
-    requires { ⌜ Fit h w (now buffer) × Ready h w (now cells) (now arrows) (now ends) number (now blocks) (now squares) (now arrowed) × (edition ≡ 0 → ⊥) ⌝ }
+    requires { ⌜ Fit h w (now buffer) × Ready h w (now cells) (now arrows) (now ends) number (now blocks) (now squares) (now arrowed) × (edition ≡ 0 → ⊥)
+        × Work (now names) (now blocks) (now arrowed) ⌝ }
     ensures { λ r. ⌜ FoundAs (reason34 edition (viewOn h w (linesOf (now (arrows .entry)) (now (ends .entry)) number) (now (cells .entry)))) (now (buffer .entry)) (now (buffer .exit)) r ⌝ }
 {
     let mut kinds = [0u8; 1024];
     let mut owners = [1024u16; 1024];
-    kinds::compute_board_info_detailed(cells, blocks, arrowed, h, w, &mut kinds, &mut owners);
+    kinds::compute_board_info_detailed(cells, &*blocks, &*arrowed, h, w, &mut kinds, &mut owners);
     let mut head = [1024u16; 1024];
     let mut next = [1024u16; 1024];
     let mut sizes = [0u16; 1024];
@@ -53,6 +56,9 @@ fn check_arrows(
         squares,
         h,
         w,
+        names,
+        blocks,
+        arrowed,
         buffer,
     )
 }
@@ -139,9 +145,10 @@ pub fn find_inconsistency<'a>(
             arrows,
             ends,
             number,
-            &labels,
+            &mut labels,
+            &mut names,
             &squares,
-            &arrowed,
+            &mut arrowed,
             h,
             w,
             buffer,

@@ -316,7 +316,7 @@ fn search_arrows(
     Finding::Nothing
 }
 
-// Reason 3 for every pair of every arrow; only where none meets it, reason 4.
+// Reason 3 for every pair of every arrow; only where none meets it, reason 4. `groups`, `rows` and `columns` are lent to work in, whatever stands there.
 pub fn search_pairs(
     edition: u8,
     cells: &[u8; 1024],
@@ -331,16 +331,16 @@ pub fn search_pairs(
     squares: &[u16; 1024],
     h: usize,
     w: usize,
+    groups: &mut [u16; 1024],
+    rows: &mut [u16; 1024],
+    columns: &mut [u16; 1024],
     buffer: &mut [u16],
 ) -> Finding
     requires { ⌜ (edition ≡ 0 → ⊥) × Fit h w (now buffer) × Whole h w (now cells) (now arrows) (now ends) (now kinds) (now owners) number
-        × Grouped (now kinds) (now owners) (now head) (now next) (now sizes) (now squares) (h * w) ⌝ }
+        × Grouped (now kinds) (now owners) (now head) (now next) (now sizes) (now squares) (h * w) × Work (now groups) (now rows) (now columns) ⌝ }
     ensures { λ r. ⌜ FoundAs (reason34 edition (viewOn h w (linesOf (now (arrows .entry)) (now (ends .entry)) number) (now (cells .entry)))) (now (buffer .entry)) (now (buffer .exit)) r ⌝ }
 {
     let mut near = [0u8; 1024];
-    let mut groups = [0u16; 1024];
-    let mut rows = [0u16; 1024];
-    let mut columns = [0u16; 1024];
     let finding = search_arrows(
         0,
         cells,
@@ -356,9 +356,9 @@ pub fn search_pairs(
         h,
         w,
         &mut near,
-        &mut groups,
-        &mut rows,
-        &mut columns,
+        groups,
+        rows,
+        columns,
         buffer,
     );
     match finding {
@@ -377,9 +377,9 @@ pub fn search_pairs(
             h,
             w,
             &mut near,
-            &mut groups,
-            &mut rows,
-            &mut columns,
+            groups,
+            rows,
+            columns,
             buffer,
         ),
         Finding::Reason(literals) => Finding::Reason(literals),

@@ -11,7 +11,7 @@ use Rattle.inconsistency.proofs.check_arrows.Tie as tie
 
 -- the places passed: the start, seen from behind the kinds, the kinds from behind the chains, the chains from behind the counts
 abbrev start : tie.After-compute-board-info-detailed → tie.Start
-start c = c .before .before .before .before
+start c = c .before .before .before .before .before .before
 
 abbrev known : tie.After-chain-cells → tie.After-compute-board-info-detailed
 known c = c .before .before .before .before
@@ -24,7 +24,7 @@ few : (s : tie.Start) → s .args .h * s .args .w ≤ 1024
 few s = area (s .args .h) (s .args .w) (s .pre .0 .tall) (s .pre .0 .wide)
 
 compute-board-info-detailed-requires : tie.Need-compute-board-info-detailed-requires
-compute-board-info-detailed-requires c κs = let s = c .before .before .before in (record { tall = s .pre .0 .tall; wide = s .pre .0 .wide }, refl, refl)
+compute-board-info-detailed-requires c κs = let s = c .before .before .before .before .before in (record { tall = s .pre .0 .tall; wide = s .pre .0 .wide }, refl, refl)
 
 mul-chain-cells : tie.Need-mul-chain-cells
 mul-chain-cells c = search needs
@@ -40,7 +40,7 @@ count-cells-requires c κs = (few (start (known (c .before .before .before))), r
 
 search-pairs-requires : tie.Need-search-pairs-requires
 search-pairs-requires c κs =
-    let n = c .before .before .before .before .before .before in
+    let n = c .before .before .before .before .before .before .before .before .before in
     let l = chained n in
     let k = known l in
     let s = start k in
@@ -54,6 +54,7 @@ search-pairs-requires c κs =
         counts = n .count-cells .ensures;
         blocks = blocks-counted (s .args .h) (s .args .w) (s .pre .0 .tall) (s .pre .0 .wide) lines (s .args .cells .now) held (s .pre .1 .counted);
       },
+      s .pre .3,
     )
 
 same-length : tie.Need-same-length

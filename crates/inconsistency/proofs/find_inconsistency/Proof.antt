@@ -16,7 +16,7 @@ use Rattle.grid.proofs.GridLaws.{size-most}
 use Rattle.groups.proofs.TableLaws.{table-few}
 use Rattle.paths.specs.Ends.{BlockTable}
 use Rattle.inconsistency.specs.Arrays.{ArrowArrays}
-use Rattle.inconsistency.proofs.Checks.{line-is, potentials-held, blocks-held, fit-after, same-after, never-refused, first-found, second-found, rest-found}
+use Rattle.inconsistency.proofs.Checks.{line-is, table-long, potentials-held, blocks-held, fit-after, same-after, never-refused, first-found, second-found, rest-found}
 use borrow.Author.Needs.{needs}
 use Rattle.inconsistency.proofs.find_inconsistency.Statement.{statement}
 use Rattle.inconsistency.proofs.find_inconsistency.Tie as tie
@@ -161,7 +161,7 @@ enum-told-2 c = search needs
 
 check-arrows-requires : tie.Need-check-arrows-requires
 check-arrows-requires c κs =
-    let e = c .before .before .before .before in
+    let e = c .before .before .before .before .before in
     let b = searched-2 e in
     let p = passed (labelled b) in
     let s = start (searched p) in
@@ -169,6 +169,7 @@ check-arrows-requires c κs =
       fit-after (s .pre .0) (same-after (reason2 (puzzle s) (held s)) (two b) (e .enum-told2 .given .1) ∙ same-after (reason1 (puzzle s) (held s)) (one (searched p)) (none p)),
       record { drawn = s .pre .1 .drawn; held = record { named = t .groups-are; counted = t .arrowed-are }; counted = t .squares-are },
       s .pre .2,
+      record { groups-long = t .firsts-long; rows-long = table-long t (size-most (sized (s .args .h) (s .args .w)) (s .pre .0 .tall) (s .pre .0 .wide)); columns-long = t .arrowed-are .long },
     )
 
 enum-known-second : tie.Need-enum-known-second
@@ -180,15 +181,15 @@ enum-known-second-2 c = search needs
 same-length-3 : tie.Need-same-length-3
 same-length-3 c =
     let k = c .before .before in
-    let b = searched-2 (k .before .before .before .before .before) in
-    k .check-arrows .kept .1 .1 .1 .1 .1 .1 .1 .1 .1 .1 .0
+    let b = searched-2 (k .before .before .before .before .before .before) in
+    k .check-arrows .kept .1 .1 .1 .1 .1 .1 .1 .1 .1 .1 .1 .0
     ∙ b .check-blocks .kept .1 .1 .1 .1 .1 .1 .1 .1 .0
     ∙ searched (passed (labelled b)) .check-potential-groups .kept .1 .1 .1 .1 .1 .1 .1 .1 .0
 
 returns-3 : tie.Need-returns-3
 returns-3 c =
     let k = c .before .before in
-    let e = k .before .before .before .before .before in
+    let e = k .before .before .before .before .before .before in
     let b = searched-2 e in
     let p = passed (labelled b) in
     let s = start (searched p) in

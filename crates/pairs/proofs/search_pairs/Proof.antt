@@ -25,7 +25,7 @@ unfolding reasonAt
 fourth-found k v ps {b} {a} {r} h x = subst (λ t. FoundAs (firstOf (λ q. cond t (reason3At v q) (reason4At v q k)) ps) b a r) (ne-eqb k 0 h) x
 
 -- the start, seen from before the search for reason 3
-abbrev start : tie.After-search-arrows-arg → tie.Start
+abbrev start : tie.After-search-arrows-arg4 → tie.Start
 start c = c .before .before .before .before .before .before
 
 -- that search, seen from behind it
@@ -33,7 +33,7 @@ abbrev searched : tie.After-slice-known2 → tie.After-search-arrows
 searched c = c .before .before
 
 -- where it found nothing, seen from before the search for reason 4
-abbrev passed : tie.After-search-arrows-arg2 → tie.After-enum-told
+abbrev passed : tie.After-search-arrows-arg8 → tie.After-enum-told
 passed c = c .before .before .before .before .before
 
 -- the board that the arrays hold
@@ -50,7 +50,7 @@ abbrev fourth : tie.Start → Found
 fourth s = firstOf (λ q. reason4At (board s) q (s .args .edition)) (flatMap (pairs (board s .cells)) (board s .arrows))
 
 search-arrows-requires : tie.Need-search-arrows-requires
-search-arrows-requires c κs = let p = start c .pre in (p .1, p .2, p .3, record { groups-long = refl; rows-long = refl; columns-long = refl })
+search-arrows-requires c κs = let p = start c .pre in (p .1, p .2, p .3, p .4)
 
 enum-told : tie.Need-enum-told
 enum-told c = search needs
