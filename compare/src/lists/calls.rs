@@ -75,6 +75,10 @@ pub fn call_lists(seed: u64) -> Result<List, String> {
     for edition in Edition::BOTH {
         add_entry(&mut list, &largest, edition, 0, &there_and_back(&largest))?;
     }
+    for edition in Edition::BOTH {
+        let goal = too_large_later();
+        add_entry(&mut list, &goal, edition, 0, &last_again(&goal))?;
+    }
     Ok(list)
 }
 
@@ -111,15 +115,32 @@ fn hint_calls() -> Vec<Call> {
 
 /// All decisions in turn, the first once more, and all taken back, and once more.
 fn there_and_back(goal: &Decided) -> Vec<Call> {
-    let decide = |&(index, value): &Literal| Call::Decide { index, value };
-    let find = Call::Find {
-        buffer: most_literals(goal.puzzle.size),
-    };
-    let mut calls: Vec<Call> = goal.decisions.iter().map(decide).collect();
+    let find = long_find(goal);
+    let mut calls = in_turn(goal);
     calls.extend([calls[0], Call::Cells, find]);
     calls.extend([Call::Undo].repeat(goal.decisions.len() + 1));
     calls.extend([Call::Cells, find]);
     calls
+}
+
+/// All decisions in turn, the last taken back and made again: the find behind them tells whether undo
+/// keeps the edition.
+fn last_again(goal: &Decided) -> Vec<Call> {
+    let mut calls = in_turn(goal);
+    calls.extend([Call::Undo, calls[calls.len() - 1], long_find(goal)]);
+    calls
+}
+
+fn in_turn(goal: &Decided) -> Vec<Call> {
+    let decide = |&(index, value): &Literal| Call::Decide { index, value };
+    goal.decisions.iter().map(decide).collect()
+}
+
+/// A find whose buffer is long enough for every reason.
+fn long_find(goal: &Decided) -> Call {
+    Call::Find {
+        buffer: most_literals(goal.puzzle.size),
+    }
 }
 
 /// Boards of every kind of size; few of the largest.
