@@ -17,6 +17,9 @@
 /* The length in bytes of an output that is long enough for evolmino_shades and every record: 4 * 32 * 32. */
 #define EVOLMINO_SHADES 4096
 
+/* The length in bytes of an output that is long enough for evolmino_certain and every record: 8 + 32 * 32. */
+#define EVOLMINO_CERTAIN 1032
+
 /* The length in bytes of the longest record, so the same for evolmino_turn. */
 #define EVOLMINO_RECORD 2819
 
@@ -34,6 +37,13 @@ enum {
     EVOLMINO_SHEET_SHORT = 13,  /* the output is too short for the whole clause sheet */
     EVOLMINO_TURNING = 14,      /* the number of a turning is above 7 */
     EVOLMINO_RECORD_OUTPUT_SHORT = 15 /* the output is shorter than the record that is to be written */
+};
+
+/* What evolmino_certain returns where it does not refuse. */
+enum {
+    EVOLMINO_TOLD = 0,     /* each cell is told */
+    EVOLMINO_NO_BOARD = 1, /* no finished board agrees with the decisions */
+    EVOLMINO_SPENT = 2     /* the search has more steps than the budget */
 };
 
 #ifdef __cplusplus
@@ -86,6 +96,24 @@ int32_t evolmino_clauses(const uint8_t *record, size_t record_len,
 int32_t evolmino_shades(const uint8_t *record, size_t record_len,
                         const uint8_t *decisions, size_t decisions_len,
                         uint8_t *output, size_t output_len);
+
+/* Opens the record, decides in order and tells of each cell whether it is square in every finished board that agrees with the decisions, empty
+ * in every one, or open, which is square in some and empty in others. The search calls find once on each board that it reaches, the given one
+ * first, and each find is a step. It turns back on a reason; else it tries the lowest undecided cell, square, then empty; a full board counts if
+ * it is finished. It walks the whole tree, which grows fast with the cells that are undecided. Black and given cells do not bind it: a caller
+ * that decides them first, black ones as 0 and given ones as 1, is told the same, mostly in far fewer steps.
+ *
+ * Returns 0 where each cell is told, 1 where there is no such board, 2 where the search has more steps than the budget, or the negated number of
+ * a refusal, which changes no byte. Decisions and pointers are as for evolmino_find, and so is the order of the refusals; 11 is an output shorter
+ * than 8 + height * width bytes. Where it does not refuse, the output's first eight bytes are the number of steps, most significant first; after
+ * 2 that is the budget. After 0 one byte follows for each cell in row order: 0 for empty, 1 for square, 2 for open. Bytes behind those written
+ * are unchanged. A larger budget alters no answer but 2, and with a budget of 0 it is 2. It keeps nothing either, and takes up to about 300
+ * kilobytes of stack.
+ */
+int32_t evolmino_certain(const uint8_t *record, size_t record_len,
+                         const uint8_t *decisions, size_t decisions_len,
+                         uint64_t budget,
+                         uint8_t *output, size_t output_len);
 
 /* Turns a record for the page, by turning k, 0 to 7: it flips left and right first if k is 4 or more, then makes k modulo 4 quarter turns
  * clockwise. The turned record has its grid, its cells and its arrows turned; the arrows keep their order. Turning k is undone by turning k

@@ -1,5 +1,6 @@
 //! The port's exported calls, by the package that links them, with the feature `host`.
 
+use crate::reading::certain::Answer;
 use crate::reading::clauses::Clause;
 use crate::reading::Literal;
 
@@ -65,6 +66,31 @@ pub const TURN_CALL: Option<TurnCall> = Some(turn_call);
 #[cfg(not(feature = "host"))]
 pub const TURN_CALL: Option<TurnCall> = None;
 
+/// Record, decisions, budget, output; 0 where cells are told, 1 for no such board, 2 for a budget that
+/// is spent, or the negated refusal number.
+pub type CertainCall = fn(&[u8], &[u8], u64, &mut [u8]) -> i32;
+
+/// The call for cells that are certain, if this program was built with it.
+#[cfg(feature = "host")]
+pub const CERTAIN_CALL: Option<CertainCall> = Some(certain_call);
+#[cfg(not(feature = "host"))]
+pub const CERTAIN_CALL: Option<CertainCall> = None;
+
+/// Record, decisions, budget; the answer by the package, or the refusal number.
+pub type PackageCertain = fn(&[u8], &[Literal], u64) -> Result<Answer, u32>;
+
+/// The package's two ways, without and with black and given cells decided first, if this program was
+/// built with it.
+#[cfg(feature = "host")]
+pub const PACKAGE_CERTAIN: Option<[PackageCertain; 2]> = Some([
+    |record, decisions, budget| package_certain(evolmino::certain, record, decisions, budget),
+    |record, decisions, budget| {
+        package_certain(evolmino::certain_given_first, record, decisions, budget)
+    },
+]);
+#[cfg(not(feature = "host"))]
+pub const PACKAGE_CERTAIN: Option<[PackageCertain; 2]> = None;
+
 pub const MISSING: &str = "the host call is not linked: build with --features host, \
                            with libhost.a in the folder that EVOLMINO_HOST names";
 
@@ -113,11 +139,17 @@ fn package_blocks(
     record: &[u8],
     decisions: &[Literal],
 ) -> Result<Vec<(usize, usize, Vec<usize>)>, u32> {
-    let literal = |&(index, value): &Literal| (index, value == 1);
-    let decisions: Vec<_> = decisions.iter().map(literal).collect();
-    let blocks = evolmino::blocks(record, &decisions).map_err(|refusal| refusal.number())?;
+    let blocks = evolmino::blocks(record, &packaged(decisions));
+    let blocks = blocks.map_err(|refusal| refusal.number())?;
     let block = |block: evolmino::Block| (block.first, block.size, block.cells);
     Ok(blocks.map(block).collect())
+}
+
+/// Decisions as the package takes them.
+#[cfg(feature = "host")]
+fn packaged(decisions: &[Literal]) -> Vec<evolmino::Literal> {
+    let literal = |&(index, value): &Literal| (index, value == 1);
+    decisions.iter().map(literal).collect()
 }
 
 #[cfg(feature = "host")]
@@ -126,4 +158,41 @@ fn turn_call(record: &[u8], k: u32, output: &mut [u8]) -> i32 {
         Ok(count) => count as i32,
         Err(refusal) => -(refusal.number() as i32),
     }
+}
+
+#[cfg(feature = "host")]
+fn certain_call(record: &[u8], decisions: &[u8], budget: u64, output: &mut [u8]) -> i32 {
+    match evolmino::certain_bytes(record, decisions, budget, output) {
+        Ok(number) => number as i32,
+        Err(refusal) => -(refusal.number() as i32),
+    }
+}
+
+#[cfg(feature = "host")]
+type Way = fn(&[u8], &[evolmino::Literal], u64) -> Result<evolmino::Certain, evolmino::Refusal>;
+
+#[cfg(feature = "host")]
+fn package_certain(
+    way: Way,
+    record: &[u8],
+    decisions: &[Literal],
+    budget: u64,
+) -> Result<Answer, u32> {
+    use crate::reading::certain::{Certain, Fact};
+    let fact = |fact: evolmino::Fact| match fact {
+        evolmino::Fact::Empty => Fact::Empty,
+        evolmino::Fact::Square => Fact::Square,
+        evolmino::Fact::Open => Fact::Open,
+    };
+    let answer = way(record, &packaged(decisions), budget);
+    let answer = answer.map_err(|refusal| refusal.number())?;
+    let steps = answer.steps();
+    let certain = match answer {
+        evolmino::Certain::Cells { cells, .. } => {
+            Certain::Cells(cells.into_iter().map(fact).collect())
+        }
+        evolmino::Certain::NoBoard { .. } => Certain::NoBoard,
+        evolmino::Certain::Spent { .. } => Certain::Spent,
+    };
+    Ok(Answer { certain, steps })
 }

@@ -4,6 +4,7 @@
 mod answers;
 mod commands;
 mod generate;
+mod guarded;
 mod host;
 mod lists;
 mod options;
@@ -55,10 +56,10 @@ const USAGE: &str = "\
 compare records|finds|calls|groups|small|all [--seed N] [--count N]
 compare lists FOLDER [--seed N]
 compare program PATH [--seed N] [--count N]
-compare bench [--seed N] [--count ROUNDS]
+compare bench|steps [--seed N] [--count ROUNDS]
 compare host [--seed N] [--count N]
 compare constraint [--seed N] [--count N]
-compare fuzz|finished|clauses|shades|turn [--seed N] [--count N]
+compare fuzz|finished|clauses|shades|turn|certain [--seed N] [--count N]
 compare reason < INPUT
 compare original";
 
@@ -92,6 +93,8 @@ fn run(options: &Options) -> Outcome {
         "clauses" => commands::clauses::run(seed, count(2_000)),
         "shades" => commands::shades::run(seed, count(20_000)),
         "turn" => commands::turn::run(seed, count(10_000)),
+        "certain" => commands::certain::run(seed, count(1_000)),
+        "steps" => commands::steps::run(seed, count(20)),
         "finds" | "calls" | "groups" | "lists" | "bench" | "host" | "constraint" | "original"
             if !original::AT_HAND =>
         {

@@ -154,10 +154,24 @@ impl std::error::Error for Refusal {}
 ///
 /// It keeps nothing, takes nothing from the heap and up to about 115 kilobytes of stack.
 pub fn find_bytes(record: &[u8], decisions: &[u8], output: &mut [u8]) -> Result<usize, Refusal> {
-    // Safe: each pointer comes from a slice and goes with its length; the call reads the first two, writes only the third, and
-    // keeps none of them.
+    written(evolmino_find, record, decisions, output)
+}
+
+/// One of the archive's calls for a record, decisions and an output. It reads the first two, writes only the third, and keeps none of
+/// them.
+pub(crate) type Writing =
+    unsafe extern "C" fn(*const u8, usize, *const u8, usize, *mut u8, usize) -> i32;
+
+/// What such a call returns.
+pub(crate) fn written(
+    call: Writing,
+    record: &[u8],
+    decisions: &[u8],
+    output: &mut [u8],
+) -> Result<usize, Refusal> {
+    // Safe: each pointer comes from a slice and goes with its length.
     let answer = unsafe {
-        evolmino_find(
+        call(
             record.as_ptr(),
             record.len(),
             decisions.as_ptr(),

@@ -1,9 +1,10 @@
 //! The proved Evolmino constraint, for Rust.
 //!
-//! [`find`] asks the proved library why a board can't be finished, [`finished`] whether it is, [`blocks`] which blocks it has, [`clauses`]
-//! gives a puzzle's clauses for other solvers, and [`turn()`] turns a record for the page; [`Record`] writes a [`Problem`] in the form that they
-//! read; and [`Constraint`] has `notify`, `undo` and `find_inconsistency` with the signatures of cspuz_core's `SimpleCustomConstraint`, so that
-//! it can stand where `EvolminoConstraint` stood. All of them are for edition 1 of the rules (README, The puzzle).
+//! [`find`] asks the proved library why a board can't be finished, [`finished`] whether it is, [`certain()`] which of its cells are certain,
+//! [`blocks`] which blocks it has, [`clauses`] gives a puzzle's clauses for other solvers, and [`turn()`] turns a record for the page;
+//! [`Record`] writes a [`Problem`] in the form that they read; and [`Constraint`] has `notify`, `undo` and `find_inconsistency` with the
+//! signatures of cspuz_core's `SimpleCustomConstraint`, so that it can stand where `EvolminoConstraint` stood. All of them are for edition 1
+//! of the rules (README, The puzzle).
 //!
 //! What is proved are the library's exported calls. This package around them, which writes records, keeps decisions and reads the
 //! answer, is plain Rust: `compare constraint` holds it beside the original.
@@ -22,6 +23,7 @@
 //! assert_eq!(reason, Some(vec![(0, true), (1, true)]));
 //! ```
 
+mod certain;
 mod clauses;
 mod constraint;
 mod host;
@@ -29,6 +31,7 @@ mod record;
 mod shades;
 mod turn;
 
+pub use certain::{certain, certain_bytes, certain_given_first, Certain, Fact};
 pub use clauses::{clauses, clauses_bytes, dimacs, SHEET_LIMIT};
 pub use constraint::Constraint;
 pub use host::{find, find_bytes, finished, finished_bytes, Literal, Refusal};

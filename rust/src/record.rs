@@ -134,6 +134,26 @@ fn code(cell: ProblemCell) -> usize {
     }
 }
 
+/// The cells of a record that the library accepts, in row order. Of another one, those before the first that can't be read.
+pub(crate) fn cells_of(record: &[u8]) -> Vec<ProblemCell> {
+    let field = |start: usize, width: usize| -> Option<usize> {
+        (start..start + width).try_fold(0, |value, place| {
+            let byte = *record.get(place / 8)?;
+            Some(2 * value + usize::from(byte >> (7 - place % 8) & 1))
+        })
+    };
+    let (Some(height), Some(width)) = (field(0, 5), field(5, 5)) else {
+        return Vec::new();
+    };
+    let cell = |index: usize| match field(21 + 2 * index, 2)? {
+        0 => Some(ProblemCell::Empty),
+        1 => Some(ProblemCell::Black),
+        2 => Some(ProblemCell::Square),
+        _ => None,
+    };
+    (0..(height + 1) * (width + 1)).map_while(cell).collect()
+}
+
 /// An arrow: start row and column, length − 1, and a step for each further cell.
 fn put_arrow(
     bits: &mut Bits,

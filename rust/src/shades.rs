@@ -1,6 +1,6 @@
 //! The exported call for blocks, their first cells and their sizes, made safe.
 
-use crate::host::{counted, decided, Literal, Refusal};
+use crate::host::{decided, written, Literal, Refusal};
 
 extern "C" {
     fn evolmino_shades(
@@ -23,19 +23,7 @@ const OUTPUT_LIMIT: usize = 4 * 32 * 32;
 ///
 /// It keeps nothing, takes nothing from the heap and up to about 40 kilobytes of stack.
 pub fn shades_bytes(record: &[u8], decisions: &[u8], output: &mut [u8]) -> Result<usize, Refusal> {
-    // Safe: each pointer comes from a slice and goes with its length; the call reads the first two, writes only the third, and
-    // keeps none of them.
-    let answer = unsafe {
-        evolmino_shades(
-            record.as_ptr(),
-            record.len(),
-            decisions.as_ptr(),
-            decisions.len(),
-            output.as_mut_ptr(),
-            output.len(),
-        )
-    };
-    counted(answer)
+    written(evolmino_shades, record, decisions, output)
 }
 
 /// A block: a largest side-connected set of squares.

@@ -2,8 +2,9 @@
 //!
 //! Record, decisions and output lie in boxes of exactly their length, so that a checker sees every
 //! byte that is read or written beside them; in some calls the output has guard bytes about it in
-//! its box. The answers are compared with the reading's. No original is needed.
+//! its box (`guarded`). The answers are compared with the reading's. No original is needed.
 
+use super::certain::FuzzedCertain;
 use super::clauses::FuzzedSheets;
 use super::shades::FuzzedShades;
 use super::turn::FuzzedTurnings;
@@ -13,6 +14,7 @@ use crate::generate::hosts::{host_input, HostInput};
 use crate::generate::mutations::mutated;
 use crate::generate::puzzles::{any_size, size_up_to};
 use crate::generate::small::finished_leaves;
+use crate::guarded::{self, Due};
 use crate::host::{FinishedCall, HostCall, FINISHED_CALL, HOST_CALL, MISSING};
 use crate::progress::{Outcome, Progress};
 use crate::random::Random;
@@ -48,6 +50,7 @@ pub fn run(seed: u64, count: usize) -> Outcome {
     let mut sheets = FuzzedSheets::new(seed)?;
     let mut shades = FuzzedShades::new(seed)?;
     let mut turnings = FuzzedTurnings::new(seed)?;
+    let mut certain = FuzzedCertain::new(seed)?;
     let leaves = finished_leaves(&mut random, FINISHED);
     let mut done = 0;
     while done < count {
@@ -63,6 +66,7 @@ pub fn run(seed: u64, count: usize) -> Outcome {
             counts.finished += usize::from(check_finished(finished, &input)?);
             shades.check(&input)?;
             turnings.check(&input.record)?;
+            certain.check(&input)?;
             match check(&mut random, host_call, &input)? {
                 Ok(reason) => counts.found[Tally::column(reason.as_ref())] += 1,
                 Err(refusal) => counts.refused[usize::from(refusal.number())] += 1,
@@ -83,6 +87,7 @@ pub fn run(seed: u64, count: usize) -> Outcome {
     println!("{}", sheets.line());
     println!("{}", shades.line());
     println!("{}", turnings.line());
+    println!("{}", certain.line());
     Ok(())
 }
 
@@ -102,40 +107,19 @@ fn check(
     input: &HostInput,
 ) -> Result<Result<Option<Reason>, Refusal>, String> {
     let expected = opened_and_found(&input.record, &input.decisions, input.output);
-    let (number, literals) = match &expected {
-        Err(refusal) => (-i32::from(refusal.number()), Vec::new()),
-        Ok(None) => (0, Vec::new()),
-        Ok(Some(reason)) => {
-            let literals = literal_bytes(&reason.literals);
-            (reason.literals.len() as i32, literals)
-        }
+    let found = expected.as_ref().map(|reason| match reason {
+        None => Vec::new(),
+        Some(reason) => literal_bytes(&reason.literals),
+    });
+    let due = match &found {
+        Err(refusal) => Due::refused(**refusal),
+        Ok(bytes) => Due {
+            number: bytes.len() as i32 / 2,
+            bytes,
+        },
     };
-    let guard = random.pick(&[0, 0, 1, 64]);
-    let salt = random.below(256);
-    let before: Vec<u8> = (0..input.output + 2 * guard)
-        .map(|place| (37 * place + salt) as u8)
-        .collect();
-    let mut after = before.clone();
-    after[guard..guard + literals.len()].copy_from_slice(&literals);
-
-    let record: Box<[u8]> = input.record.as_slice().into();
-    let decisions: Box<[u8]> = input.decisions.as_slice().into();
-    let mut output: Box<[u8]> = before.into();
-    let returned = host_call(
-        &record,
-        &decisions,
-        &mut output[guard..guard + input.output],
-    );
-    let what = if returned != number {
-        format!("the host call returns {returned} and not {number}")
-    } else if *output != *after {
-        "the host call leaves other bytes in or about the output".to_string()
-    } else if *record != *input.record || *decisions != *input.decisions {
-        "the host call changes the record or the decisions".to_string()
-    } else {
-        return Ok(expected);
-    };
-    Err(format!("{}\n{what}", host_facts(input)))
+    guarded::check(random, "the host call", input, due, host_call)?;
+    Ok(expected)
 }
 
 /// Whether the leaf of the same input is finished, if the call that tells it says as the reading.

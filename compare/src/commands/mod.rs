@@ -2,6 +2,7 @@
 
 pub mod bench;
 pub mod calls;
+pub mod certain;
 pub mod clauses;
 #[cfg(feature = "host")]
 pub mod constraint;
@@ -16,5 +17,6 @@ pub mod records;
 pub mod shades;
 mod sheets;
 pub mod small;
+pub mod steps;
 pub mod turn;
 mod turnings;

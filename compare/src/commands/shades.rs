@@ -2,10 +2,10 @@
 //! reading and, where it is at hand, beside the original's blocks; and the package's iterator of
 //! blocks beside the same. `compare fuzz` makes these calls too.
 
-use crate::answers::host_facts;
 use crate::generate::boards::{any_board, Decided};
 use crate::generate::hosts::{host_input, HostInput};
 use crate::generate::mutations::mutated;
+use crate::guarded::{self, Due};
 use crate::host::{HostCall, PackageBlocks, MISSING, PACKAGE_BLOCKS, SHADES_CALL};
 use crate::original::{Original, AT_HAND};
 use crate::progress::{facts, repeatedly, Outcome};
@@ -117,8 +117,7 @@ impl Counts {
 }
 
 /// How many bytes are written, or the refusal, if the call says as the reading and leaves every byte
-/// as it should. Record, decisions and output lie in boxes of their length, about some outputs with
-/// guard bytes.
+/// as it should.
 fn check(
     random: &mut Random,
     call: HostCall,
@@ -126,37 +125,19 @@ fn check(
     counts: &mut Counts,
 ) -> Result<Result<usize, Refusal>, String> {
     let expected = opened_and_shaded(&input.record, &input.decisions, input.output);
-    let (number, bytes) = match &expected {
-        Err(refusal) => (-i32::from(refusal.number()), &[][..]),
-        Ok(bytes) => (bytes.len() as i32, &bytes[..]),
+    let due = match &expected {
+        Err(refusal) => Due::refused(*refusal),
+        Ok(bytes) => Due {
+            number: bytes.len() as i32,
+            bytes,
+        },
     };
-    let guard = random.pick(&[0, 0, 1, 64]);
-    let salt = random.below(256);
-    let before: Vec<u8> = (0..input.output + 2 * guard)
-        .map(|place| (37 * place + salt) as u8)
-        .collect();
-    let mut after = before.clone();
-    after[guard..guard + bytes.len()].copy_from_slice(bytes);
-
-    let record: Box<[u8]> = input.record.as_slice().into();
-    let decisions: Box<[u8]> = input.decisions.as_slice().into();
-    let mut output: Box<[u8]> = before.into();
-    let inside = guard..guard + input.output;
-    let returned = call(&record, &decisions, &mut output[inside]);
-    let what = if returned != number {
-        format!("the call for shades returns {returned} and not {number}")
-    } else if *output != *after {
-        "the call for shades leaves other bytes in or about the output".to_string()
-    } else if *record != *input.record || *decisions != *input.decisions {
-        "the call for shades changes the record or the decisions".to_string()
-    } else {
-        match &expected {
-            Ok(_) => counts.written += 1,
-            Err(refusal) => counts.refused[usize::from(refusal.number())] += 1,
-        }
-        return Ok(expected.map(|bytes| bytes.len()));
-    };
-    Err(format!("{}\n{what}", host_facts(input)))
+    guarded::check(random, "the call for shades", input, due, call)?;
+    match &expected {
+        Ok(_) => counts.written += 1,
+        Err(refusal) => counts.refused[usize::from(refusal.number())] += 1,
+    }
+    Ok(expected.map(|bytes| bytes.len()))
 }
 
 /// The calls for shades among those of `compare fuzz`, with random numbers of their own.

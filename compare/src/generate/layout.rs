@@ -17,6 +17,7 @@ pub struct Chain {
 }
 
 /// Blocks with one arrow cell each that don't touch each other.
+#[derive(Clone)]
 pub struct Layout {
     size: Size,
     on_arrow: Vec<bool>,
@@ -116,6 +117,15 @@ impl Layout {
             }
         }
         None
+    }
+
+    /// All cells decided, as they are laid out.
+    pub fn full(&self) -> Vec<Cell> {
+        let cell = |&is_square: &bool| match is_square {
+            true => Cell::Square,
+            false => Cell::Empty,
+        };
+        self.is_square.iter().map(cell).collect()
     }
 
     pub fn reveal_any(&self, random: &mut Random) -> Vec<Cell> {

@@ -12,3 +12,4 @@ pub mod patterns;
 pub mod puzzles;
 pub mod records;
 pub mod small;
+pub mod solved;

@@ -2,7 +2,7 @@
 
 use super::board::Cell;
 use super::host::literal_bytes;
-use super::record::{decode, Code, Puzzle};
+use super::record::{decode, Puzzle};
 use super::{Literal, Refusal};
 
 pub type Clause = Vec<Literal>;
@@ -14,23 +14,11 @@ const RIGHT: (i32, i32) = (0, 1);
 
 /// Four parts, one after another.
 pub fn clauses(puzzle: &Puzzle) -> Vec<Clause> {
-    let mut clauses = black_and_given(puzzle);
+    let black_and_given = puzzle.black_and_given().into_iter();
+    let mut clauses: Vec<Clause> = black_and_given.map(|literal| vec![literal]).collect();
     clauses.extend(touching(puzzle));
     clauses.extend(off_arrow(puzzle));
     clauses.extend(other_squares(puzzle));
-    clauses
-}
-
-/// Black cells as 0 and given cells as 1.
-fn black_and_given(puzzle: &Puzzle) -> Vec<Clause> {
-    let mut clauses = Vec::new();
-    for (cell, code) in puzzle.codes.iter().enumerate() {
-        match code {
-            Code::Plain => {}
-            Code::Black => clauses.push(vec![(cell, 0)]),
-            Code::Given => clauses.push(vec![(cell, 1)]),
-        }
-    }
     clauses
 }
 

@@ -5,6 +5,7 @@
 //! says "each" there is a loop, and nothing is clever.
 
 pub mod board;
+pub mod certain;
 pub mod clauses;
 pub mod finished;
 pub mod grid;

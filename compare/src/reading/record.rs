@@ -1,7 +1,7 @@
 //! "Record": the packed fields of a puzzle.
 
 use super::grid::{Size, OFFSETS};
-use super::Refusal;
+use super::{Literal, Refusal};
 
 /// The code of a cell; 3 is refused.
 #[derive(Clone, Copy, Debug, PartialEq, Eq)]
@@ -26,6 +26,19 @@ impl Puzzle {
             on_arrow[cell] = true;
         }
         on_arrow
+    }
+
+    /// Black cells as 0 and given cells as 1.
+    pub fn black_and_given(&self) -> Vec<Literal> {
+        let mut literals = Vec::new();
+        for (cell, code) in self.codes.iter().enumerate() {
+            match code {
+                Code::Plain => {}
+                Code::Black => literals.push((cell, 0)),
+                Code::Given => literals.push((cell, 1)),
+            }
+        }
+        literals
     }
 }
 

@@ -3,11 +3,14 @@
 use super::boards;
 use board::Board;
 use board::Decided;
+use certain::Certainty;
+use certain::Facts;
 use finds::Made;
 use finds::Way;
 use finished::Verdict;
 use libc::STDOUT_FILENO;
 use record::Problem;
+use shades::Shaded;
 
 // How many damages there are.
 const DAMAGES: usize = 35;
@@ -37,6 +40,23 @@ fn judged(verdict: Verdict) -> bool {
     }
 }
 
+// Whether what is told of certain cells is not refusal 6.
+fn told(facts: Facts) -> bool {
+    let answer = facts.answer;
+    match answer {
+        Certainty::Told => true,
+        Certainty::Impossible => true,
+        Certainty::Spent => true,
+        Certainty::Refused(k) => k != 6,
+    }
+}
+
+// Whether shades are not refusal 6.
+fn shaded(shaded: Shaded) -> bool {
+    let answer = shaded.answer;
+    replay::number(answer) != 6
+}
+
 // Whether some call on the board is not refused with 6, or changes the board or a lent buffer. A find whose buffer is too short is among
 // them: 6 comes before 11.
 fn accepted(b: Board) -> bool {
@@ -51,6 +71,9 @@ fn accepted(b: Board) -> bool {
         || found(finds::find_differs(b"", 0, 0, b, 0, 6, Way::Value(1)), b)
         || found(finds::find_differs(b"", 0, 0, b, 0, 6, Way::Lent), b)
         || judged(finished::finished(b))
+        || told(certain::certain(b, 0))
+        || told(certain::certain(b, 1000))
+        || shaded(shades::shades(b))
 }
 
 // The board with another problem.

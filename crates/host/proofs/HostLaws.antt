@@ -158,6 +158,18 @@ module _ (s : List ℕ) {p : Puzzle} (reads : readRecord s ≡ ok p) {b : Board}
   all-decided : (decisions : List ℕ) → allPlaced b (placedFrom b decisions) ≡ decidedBy b (inEdition 1 p) (decideBytes (p .grid) [] decisions)
   all-decided decisions = rw fresh (decided-bytes (inEdition 1 p) opens-leaf (boardOf (inEdition 1 p) [] 0) decisions none)
 
+  -- where all of them are accepted, the board that is left is the machine's
+  pub left-standing : (decisions : List ℕ) (a : Answer) (left : Board) → placedFrom b decisions ≡ record { answer = a; board = left } → a ≡ Done
+      → (ds : List Literal) × Standing (p .grid) ds × (left ≡ boardOf (inEdition 1 p) ds 0) × (decideBytes (p .grid) [] decisions ≡ ok ds)
+  unfolding onward decidedBy refusedWith
+  left-standing decisions a left e f =
+      go (decideBytes (p .grid) [] decisions) refl (sym (ap (λ (x : Answer). allPlaced b (record { answer = x; board = left })) f) ∙ sym (ap (allPlaced b) e) ∙ all-decided decisions)
+    where
+      go : (r : Outcome (List Literal)) → decideBytes (p .grid) [] decisions ≡ r → _≡_ {A = Decided} (record { answer = Done; board = left }) (decidedBy b (inEdition 1 p) r)
+          → (ds : List Literal) × Standing (p .grid) ds × (left ≡ boardOf (inEdition 1 p) ds 0) × (decideBytes (p .grid) [] decisions ≡ ok ds)
+      go (refused m) q g = let a = ap (λ (d : Decided). d .answer) g in let z : _≡_ {A = ℕ} 0 1 = cc in absurd (omega arith)
+      go (ok ds) q g = (ds, bytes-standing (p .grid) decisions none q, ap (λ (d : Decided). d .board) g, q)
+
 module _ {A : Type 0} (need : Grid → ℕ) (says : Puzzle → List Literal → A) where
   -- a refused record
   pub call-unread : (s : List ℕ) (o : Opened) {k : ℕ} → o ≡ openOf s 1 → o .answer ≡ Refused k → (decisions : List ℕ) (n : ℕ) → hostCall need says s decisions n ≡ refused k
@@ -189,14 +201,10 @@ module _ {A : Type 0} (need : Grid → ℕ) (says : Puzzle → List Literal → 
 
       -- all are accepted: the call says what it says of the board that is left
       pub call-done : a ≡ Done → (v : A) → ((ds : List Literal) → Standing (p .grid) ds → left ≡ boardOf (inEdition 1 p) ds 0 → says p ds ≡ v) → hostCall need says s decisions n ≡ ok v
-      unfolding onward decidedBy refusedWith _>>=_
+      unfolding _>>=_
       call-done f v said =
-          call-long h
-          ∙ go (decideBytes (p .grid) [] decisions) refl (sym (ap (λ (x : Answer). allPlaced b (record { answer = x; board = left })) f) ∙ sym (ap (allPlaced b) e) ∙ all-decided s reads fresh decisions)
-        where
-          go : (r : Outcome (List Literal)) → decideBytes (p .grid) [] decisions ≡ r → _≡_ {A = Decided} (record { answer = Done; board = left }) (decidedBy b (inEdition 1 p) r) → (r >>= λ ds. ok (says p ds)) ≡ ok v
-          go (refused m) q g = let a = ap (λ (d : Decided). d .answer) g in let z : _≡_ {A = ℕ} 0 1 = cc in absurd (omega arith)
-          go (ok ds) q g = ap ok (said ds (bytes-standing (p .grid) decisions none q) (ap (λ (d : Decided). d .board) g))
+          let x = left-standing s reads fresh decisions a left e f in
+          call-long h ∙ rw (x .3) (ap ok (said (x .0) (x .1) (x .2)))
 
 -- ---- the host call
 

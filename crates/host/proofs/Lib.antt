@@ -8,3 +8,5 @@ pub mod ShadedLaws
 pub mod ShadedLeaves
 pub mod Behind
 pub mod JudgedLaws
+pub mod ToldLaws
+pub mod ToldLeaves

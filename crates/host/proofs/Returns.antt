@@ -2,6 +2,7 @@
 -- Assumes nothing.
 use Prim.Native.Nat.{ℕ, zero, suc, _+_, _*_, _/_, _%_, _≤_, _<_}
 use native.Mathlib.Omega.{arith}
+use mathlib.Core.Logic.{_⊎_, inl, inr}
 use mathlib.Core.Path.{_≡_, refl, sym, _∙_}
 use mathlib.Core.Bool.{Bool, true, false, cond, _&&_, _||_, not, false≢true}
 use mathlib.Core.List.{List, [], _∷_, _++_, List·Memᴰ, List·Memᴰ·head, List·Memᴰ·tail, Memᴰ·append-left, Memᴰ·cast}
@@ -28,10 +29,16 @@ use Rattle.clauses.specs.Clauses.{sheetBytes, sheetWithin, sheetFor}
 use Rattle.clauses.proofs.LengthLaws.{sheet-most}
 use Rattle.shades.specs.Shades.{shadesOn}
 use Rattle.shades.proofs.ShadeLaws.{shades-length}
+use Rattle.certain.specs.Tree.{Reached, search}
+use Rattle.certain.specs.Facts.{certainty, untold, known, certainBy}
+use Rattle.certain.specs.declared.Certainty.the-variants.{Spent}
+use Rattle.certain.specs.declared.Facts.{Facts}
+use Rattle.exported.specs.Written.{bytesOf}
 use Rattle.exported.proofs.BytesLaws.{bytes-length}
-use Rattle.host.specs.Host.{acceptOr, decideBytes, hostFinds, returned}
+use Rattle.host.specs.Host.{acceptOr, decideBytes, hostCall, hostFinds, returned}
 use Rattle.host.specs.Judged.{hostFinished}
 use Rattle.host.specs.Shaded.{hostShades}
+use Rattle.host.specs.Told.{certaintyNumber, Said, saidOf, hostCertain}
 use Rattle.host.specs.Returns.{faults, refusals, Returns, negated-refusal, literal-count, Possible, refusal-of, value-of, FoundOn, no-reason, some-reason, FoundWith}
 
 -- ---- an outcome step by step
@@ -265,12 +272,37 @@ clauses-possible s n =
     then-possible (itself (possible-more (λ _ m. List·Memᴰ·tail m) (λ p _. tt {0}) (read-possible s))) λ p e.
     then-possible (unless-possible (leb (length (sheetBytes p)) n) 13 (λ _. List·Memᴰ·head refl)) λ _ _. value-of (sheet-most s p e)
 
--- the call for the shades: 4 × H × W bytes, or a refusal of the record or of a decision, or 11, and never 6, 8 or 10
+-- a call in the host call's order: what it says, or a refusal of the record or of a decision, or 11, and never 6, 8 or 10
+call-possible : {A : Type 0} {Q : A → Type 0} (need : Grid → ℕ) (says : Puzzle → List Literal → A) (s decisions : List ℕ) (k : ℕ) → Bytes decisions
+    → ((p : Puzzle) → readRecord s ≡ ok p → (ds : List Literal) → Q (says p ds)) → Possible (11 ∷ refusals) Q (hostCall need says s decisions k)
+call-possible need says s decisions k low q =
+    then-possible (itself (possible-more (λ x m. List·Memᴰ·tail (fault-refusal x m)) (λ p _. tt {0}) (read-possible s))) λ p e.
+    then-possible (unless-possible (leb (need (p .grid)) k) 11 (λ _. List·Memᴰ·head refl)) λ _ _.
+    then-possible (decide-possible (λ _ m. List·Memᴰ·tail m) (p .grid) decisions (λ a b m n h. absurd (byte-value low a b m n h)) none) λ ds _. value-of (q p e ds)
+
+-- the call for the shades: 4 × H × W bytes
 pub shades-possible : (s decisions : List ℕ) (k : ℕ) → Bytes decisions
     → Possible (11 ∷ refusals) (λ (l : List ℕ). (p : Puzzle) × (readRecord s ≡ ok p) × (length l ≡ 4 * size (p .grid))) (hostShades s decisions k)
 unfolding hostShades
 shades-possible s decisions k low =
-    then-possible (itself (possible-more (λ x m. List·Memᴰ·tail (fault-refusal x m)) (λ p _. tt {0}) (read-possible s))) λ p e.
-    then-possible (unless-possible (leb (4 * size (p .grid)) k) 11 (λ _. List·Memᴰ·head refl)) λ _ _.
-    then-possible (decide-possible (λ _ m. List·Memᴰ·tail m) (p .grid) decisions (λ a b m n h. absurd (byte-value low a b m n h)) none) λ ds _.
-    value-of (p, e, omega (arith, bytes-length (shadesOn (p .grid) (cellsAfter (p .grid) ds)), shades-length (p .grid) (cellsAfter (p .grid) ds)))
+    call-possible (λ g. 4 * size g) (λ p ds. bytesOf (shadesOn (p .grid) (cellsAfter (p .grid) ds))) s decisions k low
+    (λ p e ds. (p, e, omega (arith, bytes-length (shadesOn (p .grid) (cellsAfter (p .grid) ds)), shades-length (p .grid) (cellsAfter (p .grid) ds))))
+
+-- the call for the cells that are certain: 0, 1 or 2
+pub certain-possible : (s decisions : List ℕ) (budget k : ℕ) → Bytes decisions
+    → Possible (11 ∷ refusals) (λ (x : Said). (x .number ≡ pos 0) ⊎ (x .number ≡ pos 1) ⊎ (x .number ≡ pos 2)) (hostCertain s decisions budget k)
+unfolding hostCertain saidOf
+certain-possible s decisions budget k low = call-possible _ _ s decisions k low (λ p e ds. number-is (size (p .grid)) budget (search (inEdition 1 p) (cellsAfter (p .grid) ds)))
+  where
+    told : (boards : List (List ℕ)) → (certaintyNumber (certainty boards) ≡ pos 0) ⊎ (certaintyNumber (certainty boards) ≡ pos 1) ⊎ (certaintyNumber (certainty boards) ≡ pos 2)
+    told [] = unfold certainty certaintyNumber in inr (inl refl)
+    told (b ∷ bs) = unfold certainty certaintyNumber in inl refl
+
+    by : (t : Bool) (n budget : ℕ) (r : Reached) (f : Facts) → f ≡ cond t (known n r) (untold Spent budget)
+        → (certaintyNumber (f .answer) ≡ pos 0) ⊎ (certaintyNumber (f .answer) ≡ pos 1) ⊎ (certaintyNumber (f .answer) ≡ pos 2)
+    by true n budget r f e = rw e (unfold known in told (r .boards))
+    by false n budget r f e = rw e (unfold untold certaintyNumber in inr (inr refl))
+
+    number-is : (n budget : ℕ) (r : Reached)
+        → (certaintyNumber (certainBy n budget r .answer) ≡ pos 0) ⊎ (certaintyNumber (certainBy n budget r .answer) ≡ pos 1) ⊎ (certaintyNumber (certainBy n budget r .answer) ≡ pos 2)
+    number-is n budget r = by (leb (r .steps) budget) n budget r (certainBy n budget r) (unfold certainBy in refl)

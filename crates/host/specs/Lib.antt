@@ -3,3 +3,4 @@ pub mod Inside
 pub mod Judged
 pub mod Returns
 pub mod Shaded
+pub mod Told

@@ -1,0 +1,100 @@
+-- `certain::certain_cells` meets its contract: what the search leaves of the budget, and what it gathered, is the answer.
+-- Assumes nothing.
+use Prim.Native.Nat.{ℕ}
+use mathlib.Core.Path.{ap, _∙_}
+use lib.ListN.{length, length-replicate}
+use borrow.Author.Needs.{needs}
+use Rattle.record.specs.declared.Problem.{Problem}
+use Rattle.form.proofs.ProblemForm.{Formed, formed-is}
+use Rattle.reasons.proofs.Room.{room-length}
+use Rattle.finished.specs.Inside.{problemOn}
+use Rattle.certain.proofs.AnswerLaws.{answer-spent, rest-within, answer-none, answer-told}
+use Rattle.certain.proofs.certain_cells.Statement.{statement}
+use Rattle.certain.proofs.certain_cells.Tie as tie
+
+-- the problem that the arrays hold, which is that of an accepted record
+abbrev problem : tie.Start → Problem
+problem s = problemOn (s .args .h) (s .args .w) (s .args .codes .now) (s .args .arrows .now) (s .args .ends .now) (s .args .number)
+
+formed : (s : tie.Start) → Formed (problem s)
+formed s = formed-is (problem s) (s .pre .1)
+
+-- where nothing is known yet, seen from before the search and from behind it
+abbrev blank : tie.After-buffer → tie.After-nothing-known
+blank c = c .before .before .before .before
+
+abbrev begun : tie.After-search-from → tie.After-nothing-known
+begun c = blank (c .before)
+
+nothing-known-requires : tie.Need-nothing-known-requires
+nothing-known-requires c κs = search needs
+
+no-literals-requires : tie.Need-no-literals-requires
+no-literals-requires c κs = search needs
+
+search-from-requires : tie.Need-search-from-requires
+search-from-requires c κs =
+    let k = blank c in
+    let s = k .before in (
+      s .pre .0,
+      s .pre .1,
+      s .pre .2,
+      ap length (k .nothing-known .ensures) ∙ length-replicate {A = ℕ} 1024 3,
+      room-length (c .before .before .before .no-literals .ensures),
+    )
+
+enum-told : tie.Need-enum-told
+enum-told c = search needs
+
+nothing-known-requires-2 : tie.Need-nothing-known-requires-2
+nothing-known-requires-2 c κs = search needs
+
+enum-known-left : tie.Need-enum-known-left
+enum-known-left c = search needs
+
+sub-steps : tie.Need-sub-steps
+sub-steps c =
+    let f = c .before .before .before in
+    let k = begun f in
+    let s = k .before in
+    rest-within (problem s) (formed s) (s .args .edition) (s .pre .2) (s .args .budget) (k .nothing-known .ensures) (f .search-from .ensures .0) (c .before .left .given .1)
+
+array-read-if1 : tie.Need-array-read-if1
+array-read-if1 c = search needs
+
+returns : tie.Need-returns
+returns c =
+    let f = c .before .before .before .before in
+    let k = begun f in
+    let s = k .before in
+    (answer-none (problem s) (formed s) (s .args .edition) (s .pre .2) (s .args .budget) (k .nothing-known .ensures) (f .search-from .ensures .0) (c .before .before .left .given .1) (c .if1 .taken), f .search-from .ensures .0 .same)
+
+returns-2 : tie.Need-returns-2
+returns-2 c =
+    let f = c .before .before .before in
+    let k = begun f in
+    let s = k .before in
+    (answer-spent (problem s) (formed s) (s .args .edition) (s .pre .2) (s .args .budget) (k .nothing-known .ensures) (f .search-from .ensures .0) (c .before .enum-told .given .1) (c .nothing-known2 .ensures), f .search-from .ensures .0 .same)
+
+returns-3 : tie.Need-returns-3
+returns-3 c =
+    let f = c .before .before .before .before in
+    let k = begun f in
+    let s = k .before in
+    (answer-told (problem s) (formed s) (s .args .edition) (s .pre .2) (s .args .budget) (k .nothing-known .ensures) (f .search-from .ensures .0) (c .before .before .left .given .1) (c .if1 .left), f .search-from .ensures .0 .same)
+
+pub certain-cells-spec : {M : Type 1} → statement M
+certain-cells-spec =
+    tie.close
+    (tie.spec
+    nothing-known-requires
+    no-literals-requires
+    search-from-requires
+    enum-told
+    nothing-known-requires-2
+    enum-known-left
+    sub-steps
+    array-read-if1
+    returns
+    returns-2
+    returns-3)

@@ -1,0 +1,4 @@
+pub mod Tree
+pub mod Facts
+pub mod Meaning
+pub mod Inside
