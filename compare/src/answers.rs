@@ -29,7 +29,7 @@ pub fn by_reading(board: &mut Board, call: Call) -> Answer {
     match call {
         Call::Decide { index, value } => done_or_refused(board.decide(index, value)),
         Call::Undo => done_or_refused(board.undo()),
-        Call::Find { buffer } => match find(board, buffer) {
+        Call::Find { player, buffer } => match find(board, player, buffer) {
             Err(refusal) => Answer::Refused(refusal),
             Ok(reason) => Answer::Found(reason.map(|reason| reason.literals)),
         },
@@ -37,8 +37,8 @@ pub fn by_reading(board: &mut Board, call: Call) -> Answer {
     }
 }
 
-/// None where the original has no such answer: it takes no value above 1 and no buffer, and finds in
-/// edition 1 only. Its panics are refusals 7 and 9 of decide and 10 of undo.
+/// None where the original has no such answer: it takes no value above 1, no player and no buffer, and
+/// finds in edition 1 only. Its panics are refusals 7 and 9 of decide and 10 of undo.
 pub fn by_original(board: &Board, original: &mut Original, call: Call) -> Option<Answer> {
     let size = board.puzzle().size;
     let or_refused = |result: Result<(), Panicked>, refusal: Refusal| {
@@ -55,7 +55,7 @@ pub fn by_original(board: &Board, original: &mut Original, call: Call) -> Option
             Some(or_refused(original.decide(index, value == 1), refusal))
         }
         Call::Undo => Some(or_refused(original.undo(), Refusal::NothingDecided)),
-        Call::Find { buffer } if buffer < most_literals(size) => None,
+        Call::Find { player, buffer } if player > 3 || buffer < most_literals(size) => None,
         Call::Find { .. } if board.edition() != Edition::ExactlyOne => None,
         Call::Find { .. } => Some(original.find().map_or(Answer::Panicked, Answer::Found)),
         Call::Cells => Some(Answer::Cells(original.access.cells())),

@@ -27,8 +27,8 @@ pub type Literal = (usize, bool);
 const OUTPUT_LIMIT: usize = 2 * (3 * 32 * 32 + 1);
 
 /// Why there is no answer, by its number in README. The exported calls never give [`Refusal::Board`],
-/// [`Refusal::Value`], [`Refusal::NothingDecided`] and [`Refusal::Edition`]: their board is their own and opened in edition 1, and a
-/// decision has one bit of value.
+/// [`Refusal::Value`], [`Refusal::NothingDecided`], [`Refusal::Edition`] and [`Refusal::Player`]: their board is their own and opened
+/// in edition 1, a decision has one bit of value, and they find as player 0.
 ///
 /// The table grows, so a `match` needs an arm for the refusals that it doesn't name.
 #[derive(Clone, Copy, Debug, PartialEq, Eq, Hash)]
@@ -66,6 +66,8 @@ pub enum Refusal {
     RecordOutputShort,
     /// 16: an edition that is not 1 or 2.
     Edition,
+    /// 17: a player above 3.
+    Player,
     /// Another number: the linked library has refusals that this package doesn't know.
     Unknown(u32),
 }
@@ -90,6 +92,7 @@ impl Refusal {
             14 => Refusal::Turning,
             15 => Refusal::RecordOutputShort,
             16 => Refusal::Edition,
+            17 => Refusal::Player,
             _ => Refusal::Unknown(number),
         }
     }
@@ -113,6 +116,7 @@ impl Refusal {
             Refusal::Turning => 14,
             Refusal::RecordOutputShort => 15,
             Refusal::Edition => 16,
+            Refusal::Player => 17,
             Refusal::Unknown(number) => number,
         }
     }
@@ -141,6 +145,7 @@ impl fmt::Display for Refusal {
                 "the output is shorter than the record that is to be written"
             }
             Refusal::Edition => "the edition is not 1 or 2",
+            Refusal::Player => "the player is above 3",
             Refusal::Unknown(_) => "this package doesn't know why",
         };
         write!(f, "refused {}: {}", self.number(), what)

@@ -70,7 +70,7 @@ fn smallest(board: &Decided) -> Decided {
 /// From the board after the calls.
 fn by_reading(puzzle: &Puzzle, decisions: &[Literal]) -> Option<Reason> {
     let mut board = Board::after(puzzle, Edition::ExactlyOne, decisions);
-    find(&mut board, most_literals(puzzle.size)).expect("the buffer is long enough")
+    find(&mut board, 0, most_literals(puzzle.size)).expect("the buffer is long enough")
 }
 
 fn by_original(puzzle: &Puzzle, decisions: &[Literal]) -> Result<Option<Vec<Literal>>, Panicked> {

@@ -5,57 +5,67 @@ use super::strip::{records, strip};
 use super::List;
 use crate::answers::{by_original, by_reading, Answer};
 use crate::generate::boards::{any_board, board_of_size, full_board, Decided};
-use crate::generate::calls::{calls, Call};
+use crate::generate::calls::{by_players, calls, two_players, Call};
 use crate::generate::puzzles::square;
 use crate::original::Original;
 use crate::progress::facts;
 use crate::random::Random;
-use crate::reading::board::Board;
+use crate::reading::board::{Board, Hints};
 use crate::reading::grid::Size;
-use crate::reading::reasons::most_literals;
 use crate::reading::record::{encode, plain};
 use crate::reading::{Edition, Literal};
 
+const WHOSE: [&str; 3] = [
+    "Its panics are refusals 9 and 10, and 7; it has no counterpart to 8, 11 and 17, and none to",
+    "players, to counts of hints, to open and to find in edition 2: there the answers are the",
+    "literal reading's.",
+];
+
 const FORMAT: [&str; 10] = [
     "Entries to the end of the file: u16 record length, the record, u8 edition, u8 expected refusal",
-    "of open or 0, and where it is 0 u16 count of hints, u16 number of calls, the calls; after each",
-    "call u16, the expected count of hints on the board.",
-    "A call is u8 kind and:",
+    "of open or 0, and where it is 0 the counts of hints, u16 number of calls, the calls; after each",
+    "call the expected counts of hints on the board.",
+    "Counts of hints are four u16, those of players 0 to 3. A call is u8 kind and:",
     "  0 decide: u16 index, u8 value, u8 expected refusal or 0",
     "  1 undo: u8 expected refusal or 0",
-    "  2 find: u16 buffer length in literals, u8 expected refusal or 0; if 0, u16 count (0 for none)",
-    "    and that many u16 literals, value * 32768 + index",
+    "  2 find: u8 player, u16 buffer length in literals, u8 expected refusal or 0; if 0, u16 count",
+    "    (0 for none) and that many u16 literals, value * 32768 + index",
     "  3 cells: height * width bytes, the expected cells (0 empty, 1 square, 2 undecided)",
-    "Each entry starts on a fresh board of its record, handed in with that count of hints.",
+    "Each entry starts on a fresh board of its record, handed in with those counts of hints.",
 ];
 
 /// The calls on boards of at most so many cells stand there in edition 2 too.
 const IN_BOTH: usize = 20;
 
 /// The counts of hints that random boards are handed in with, in turn.
-const HANDED_IN: [u16; 8] = [0, 0, 0, 1, 255, 256, 65_530, 65_535];
+const HANDED_IN: [Hints; 8] = [
+    [0, 0, 0, 0],
+    [0, 1, 2, 3],
+    [0, 65_535, 65_534, 0],
+    [1, 0, 65_535, 256],
+    [255, 255, 255, 255],
+    [256, 40_000, 0, 65_534],
+    [65_530, 65_532, 65_533, 65_534],
+    [65_535, 65_535, 65_535, 65_535],
+];
 
 pub fn call_lists(seed: u64) -> Result<List, String> {
     let what = "Lists of decide, undo and find on one board.";
     let mut list = List::of_the_original("calls.list", 400_000, seed, what);
-    list.line("Its panics are refusals 9 and 10, and 7; it has no counterpart to 8 and 11,");
-    list.line(
-        "and none to the count of hints, to open and to find in edition 2: there the answers are",
-    );
-    list.line("the literal reading's.");
+    list.lines(&WHOSE);
     list.lines(&FORMAT);
     let fresh = Decided {
         puzzle: strip(),
         decisions: Vec::new(),
     };
     let [one, two] = Edition::BOTH;
-    add_entry(&mut list, &fresh, one, 0, &leaf_calls())?;
+    add_entry(&mut list, &fresh, one, [0; 4], &leaf_calls())?;
     for hints in [0, 65_533, 65_534, 65_535] {
-        add_entry(&mut list, &fresh, one, hints, &hint_calls())?;
+        add_entry(&mut list, &fresh, one, [hints, 0, 0, 0], &hint_calls())?;
     }
     for edition in Edition::BOTH {
         let goal = too_large_later();
-        add_entry(&mut list, &goal, edition, 0, &there_and_back(&goal))?;
+        add_entry(&mut list, &goal, edition, [0; 4], &there_and_back(&goal))?;
     }
     for record in records() {
         for edition in [0, 1, 2, 3, 255] {
@@ -63,23 +73,59 @@ pub fn call_lists(seed: u64) -> Result<List, String> {
         }
     }
     let mut random = Random::new(seed);
+    let mut players = Random::new(!seed);
     for (goal, hints) in goals(&mut random).iter().zip(HANDED_IN.iter().cycle()) {
         let wanted = length(&mut random, goal);
         let calls = calls(&mut random, goal, wanted);
+        let calls = shared_calls(&mut players, goal, &calls);
         add_entry(&mut list, goal, one, *hints, &calls)?;
         if goal.puzzle.size.cells() <= IN_BOTH {
             add_entry(&mut list, goal, two, *hints, &calls)?;
         }
     }
     let largest = full_board(&mut random, square(32));
+    let back = there_and_back(&largest);
     for edition in Edition::BOTH {
-        add_entry(&mut list, &largest, edition, 0, &there_and_back(&largest))?;
+        add_entry(&mut list, &largest, edition, [0; 4], &back)?;
     }
+    add_players(&mut list, &fresh)?;
     for edition in Edition::BOTH {
         let goal = too_large_later();
-        add_entry(&mut list, &goal, edition, 0, &last_again(&goal))?;
+        add_entry(&mut list, &goal, edition, [0; 4], &last_again(&goal))?;
     }
     Ok(list)
+}
+
+/// Lists of the four players and of others, and each player's count near the limit.
+fn add_players(list: &mut List, fresh: &Decided) -> Result<(), String> {
+    for edition in Edition::BOTH {
+        for hints in [[0; 4], [65_534, 1, 65_535, 300]] {
+            add_entry(list, fresh, edition, hints, &family_calls())?;
+            add_entry(list, fresh, edition, hints, &stranger_calls())?;
+        }
+    }
+    for player in 0..4 {
+        for count in [65_533, 65_534, 65_535] {
+            let mut hints = [0, 255, 256, 65_534];
+            hints[usize::from(player)] = count;
+            add_entry(
+                list,
+                fresh,
+                Edition::ExactlyOne,
+                hints,
+                &limit_calls(player),
+            )?;
+        }
+    }
+    Ok(())
+}
+
+/// The calls with each find by some player, and after them finds by two different ones.
+fn shared_calls(random: &mut Random, goal: &Decided, calls: &[Call]) -> Vec<Call> {
+    let mut shared = by_players(random, calls);
+    let find = |player| Call::long_find(player, goal.puzzle.size);
+    shared.extend(two_players(random).map(find));
+    shared
 }
 
 /// Document 01's leaf of 4 (b), a reason in edition 1 only.
@@ -90,10 +136,17 @@ fn too_large_later() -> Decided {
     }
 }
 
+fn decide(index: usize, value: u8) -> Call {
+    Call::Decide { index, value }
+}
+
+fn find_by(player: u8, buffer: usize) -> Call {
+    Call::Find { player, buffer }
+}
+
 /// The document's leaves on S: refusals 7 to 11, and its reasons.
 fn leaf_calls() -> Vec<Call> {
-    let decide = |index, value| Call::Decide { index, value };
-    let find = |buffer| Call::Find { buffer };
+    let find = |buffer| find_by(0, buffer);
     let mut calls = vec![decide(3, 1), decide(0, 1), decide(0, 0), decide(1, 2)];
     calls.extend([Call::Cells, find(9), find(10)]);
     calls.extend([decide(1, 1), find(10), Call::Undo]);
@@ -104,8 +157,7 @@ fn leaf_calls() -> Vec<Call> {
 
 /// Finds on S, refused ones among accepted ones, and decisions taken back after them.
 fn hint_calls() -> Vec<Call> {
-    let decide = |index, value| Call::Decide { index, value };
-    let find = |buffer| Call::Find { buffer };
+    let find = |buffer| find_by(0, buffer);
     let mut calls = vec![find(9), find(10), find(0), find(10), find(9)];
     calls.extend([decide(0, 1), find(10), decide(2, 1), find(9), find(10)]);
     calls.extend([Call::Undo, Call::Undo, Call::Undo, Call::Cells]);
@@ -113,9 +165,42 @@ fn hint_calls() -> Vec<Call> {
     calls
 }
 
+/// Finds on S by all four players, with a reason and without, refused ones and undo among them.
+fn family_calls() -> Vec<Call> {
+    let all = |buffer| [2, 0, 3, 1].map(|player| find_by(player, buffer));
+    let mut calls = Vec::from(all(10));
+    calls.extend([decide(0, 1), find_by(1, 9), decide(1, 1)]);
+    calls.extend(all(10));
+    calls.extend([find_by(3, 10), find_by(3, 0), Call::Undo, find_by(3, 11)]);
+    calls.extend([decide(0, 0), find_by(0, 4_096), Call::Undo, Call::Undo]);
+    calls.extend([Call::Cells, find_by(2, 10), find_by(0, 10)]);
+    calls
+}
+
+/// Finds on S by players that there are not, with buffers that are long enough, too short and empty.
+fn stranger_calls() -> Vec<Call> {
+    let mut calls = vec![find_by(3, 10), decide(0, 1), decide(1, 1)];
+    for player in [4, 5, 7, 127, 128, 254, 255] {
+        calls.extend([10, 9, 0, 4_096].map(|buffer| find_by(player, buffer)));
+    }
+    calls.extend([Call::Cells, find_by(3, 9), find_by(3, 10)]);
+    calls
+}
+
+/// Finds on S by one player, whose count is near the limit, by the others, and refused ones.
+fn limit_calls(player: u8) -> Vec<Call> {
+    let mut calls = vec![find_by(player, 10), find_by(player, 9)];
+    for other in 1..4 {
+        calls.extend([find_by((player + other) % 4, 10), find_by(player, 10)]);
+    }
+    calls.extend([decide(2, 0), find_by(player, 10), find_by(player + 4, 10)]);
+    calls.extend([Call::Undo, Call::Undo, find_by(player, 10)]);
+    calls
+}
+
 /// All decisions in turn, the first once more, and all taken back, and once more.
 fn there_and_back(goal: &Decided) -> Vec<Call> {
-    let find = long_find(goal);
+    let find = Call::long_find(0, goal.puzzle.size);
     let mut calls = in_turn(goal);
     calls.extend([calls[0], Call::Cells, find]);
     calls.extend([Call::Undo].repeat(goal.decisions.len() + 1));
@@ -127,20 +212,14 @@ fn there_and_back(goal: &Decided) -> Vec<Call> {
 /// keeps the edition.
 fn last_again(goal: &Decided) -> Vec<Call> {
     let mut calls = in_turn(goal);
-    calls.extend([Call::Undo, calls[calls.len() - 1], long_find(goal)]);
+    let find = Call::long_find(0, goal.puzzle.size);
+    calls.extend([Call::Undo, calls[calls.len() - 1], find]);
     calls
 }
 
 fn in_turn(goal: &Decided) -> Vec<Call> {
-    let decide = |&(index, value): &Literal| Call::Decide { index, value };
+    let decide = |&(index, value): &Literal| decide(index, value);
     goal.decisions.iter().map(decide).collect()
-}
-
-/// A find whose buffer is long enough for every reason.
-fn long_find(goal: &Decided) -> Call {
-    Call::Find {
-        buffer: most_literals(goal.puzzle.size),
-    }
 }
 
 /// Boards of every kind of size; few of the largest.
@@ -186,7 +265,7 @@ fn add_entry(
     list: &mut List,
     goal: &Decided,
     edition: Edition,
-    hints: u16,
+    hints: Hints,
     calls: &[Call],
 ) -> Result<(), String> {
     let mut board = Board::with_hints(goal.puzzle.clone(), edition, hints);
@@ -195,7 +274,7 @@ fn add_entry(
     list.long_bytes(&encode(&goal.puzzle));
     list.u8(edition.number());
     list.u8(0);
-    list.u16(hints.into());
+    list.numbers(&hints.map(usize::from));
     list.u16(calls.len());
     for &call in calls {
         let by_reading = by_reading(&mut board, call);
@@ -204,7 +283,7 @@ fn add_entry(
             return Err(format!("{}: {calls:?}", facts(&goal.puzzle, &[])));
         }
         add_call(list, call, &answer);
-        list.u16(board.hints().into());
+        list.numbers(&board.hints().map(usize::from));
     }
     Ok(())
 }
@@ -217,8 +296,9 @@ fn add_call(list: &mut List, call: Call, answer: &Answer) {
             list.u8(value);
         }
         Call::Undo => list.u8(1),
-        Call::Find { buffer } => {
+        Call::Find { player, buffer } => {
             list.u8(2);
+            list.u8(player);
             list.u16(buffer);
         }
         Call::Cells => list.u8(3),
@@ -236,5 +316,44 @@ fn add_call(list: &mut List, call: Call, answer: &Answer) {
             }
         }
         Answer::Panicked => unreachable!("the reading's answer is the same, and never this"),
+    }
+}
+
+#[cfg(test)]
+mod tests {
+    use super::{family_calls, limit_calls, stranger_calls, strip};
+    use crate::answers::{by_reading, Answer};
+    use crate::generate::calls::Call;
+    use crate::reading::board::{Board, Hints};
+    use crate::reading::{Edition, Refusal};
+
+    /// The counts that the calls leave on S, and how many of them 17 refuses.
+    fn left(hints: Hints, calls: &[Call]) -> (Hints, usize) {
+        let mut board = Board::with_hints(strip(), Edition::ExactlyOne, hints);
+        let stranger = Answer::Refused(Refusal::Player);
+        let strangers = calls
+            .iter()
+            .filter(|&&call| by_reading(&mut board, call) == stranger)
+            .count();
+        (board.hints(), strangers)
+    }
+
+    #[test]
+    fn counts_left() {
+        let full = 65_535;
+        assert_eq!(left([0; 4], &family_calls()), ([4, 2, 3, 4], 0));
+        assert_eq!(left([full; 4], &family_calls()), ([full; 4], 0));
+        assert_eq!(left([5; 4], &stranger_calls()), ([5, 5, 5, 7], 28));
+        assert_eq!(left([0, 9, 0, 0], &limit_calls(1)), ([1, 15, 1, 1], 1));
+        for player in 0..4 {
+            for count in [65_533, 65_534, 65_535] {
+                let mut hints = [7; 4];
+                hints[player] = count;
+                let mut expected = [8; 4];
+                expected[player] = full;
+                let calls = limit_calls(player as u8);
+                assert_eq!(left(hints, &calls), (expected, 1));
+            }
+        }
     }
 }

@@ -1,5 +1,5 @@
 //! "Board": the plain machine of document 01, a puzzle with its list of standing decisions; and
-//! beside it the count of hints of document 02, §2, and the edition of §7.
+//! beside it the counts of hints of document 02, §2 and §9, and the edition of §7.
 
 use super::record::{decode, Puzzle};
 use super::{Edition, Literal, Refusal};
@@ -11,13 +11,16 @@ pub enum Cell {
     Undecided,
 }
 
+/// A count of hints for each player, 0 to 3.
+pub type Hints = [u16; 4];
+
 #[derive(Clone, Debug)]
 pub struct Board {
     puzzle: Puzzle,
     edition: Edition,
     standing: Vec<Literal>,
-    /// The accepted find calls since open.
-    hints: u16,
+    /// The accepted find calls since open, of each player.
+    hints: Hints,
 }
 
 impl Board {
@@ -28,11 +31,12 @@ impl Board {
     }
 
     pub fn fresh(puzzle: Puzzle, edition: Edition) -> Board {
-        Board::with_hints(puzzle, edition, 0)
+        Board::with_hints(puzzle, edition, [0; 4])
     }
 
-    /// A board with nothing decided that was handed in with a count of hints.
-    pub fn with_hints(puzzle: Puzzle, edition: Edition, hints: u16) -> Board {
+    /// A board with nothing decided that was handed in with these counts of hints. There are no
+    /// counts that a board can't have.
+    pub fn with_hints(puzzle: Puzzle, edition: Edition, hints: Hints) -> Board {
         Board {
             puzzle,
             edition,
@@ -81,13 +85,14 @@ impl Board {
         }
     }
 
-    pub fn hints(&self) -> u16 {
+    pub fn hints(&self) -> Hints {
         self.hints
     }
 
-    /// Counts an accepted find; at 65,535 the count stops rising.
-    pub fn count_hint(&mut self) {
-        self.hints = self.hints.saturating_add(1);
+    /// Counts an accepted find of a player, 0 to 3; at 65,535 that player's count stops rising.
+    pub fn count_hint(&mut self, player: u8) {
+        let count = &mut self.hints[usize::from(player)];
+        *count = count.saturating_add(1);
     }
 
     pub fn cells(&self) -> Vec<Cell> {

@@ -1,5 +1,5 @@
 //! The exported calls: a record, decisions and, for find, an output as bytes, a number back. They stay
-//! with edition 1 (document 02 §7).
+//! with edition 1 and find as player 0 (document 02 §7, §9).
 
 use super::board::Board;
 use super::finished::finished;
@@ -39,7 +39,7 @@ pub fn opened_and_found(
         return Err(Refusal::OutputShort);
     }
     decide_all(&mut board, decisions)?;
-    find(&mut board, output_length / 2)
+    find(&mut board, 0, output_length / 2)
 }
 
 /// 1 for a finished leaf, 0 for another, or the negated refusal number (document 02 §1).

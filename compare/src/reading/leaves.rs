@@ -22,7 +22,7 @@ fn board(record: &[u8], decisions: &[Literal]) -> Board {
 }
 
 fn found_in(edition: Edition, record: &[u8], decisions: &[Literal]) -> Option<Vec<Literal>> {
-    let reason = find(&mut board_in(edition, record, decisions), 100).unwrap();
+    let reason = find(&mut board_in(edition, record, decisions), 0, 100).unwrap();
     reason.map(|reason| reason.literals)
 }
 
@@ -84,8 +84,8 @@ fn refused_calls() {
     assert_eq!(fresh.undo(), Err(Refusal::NothingDecided));
     assert_eq!(fresh.decide(0, 1), Ok(()));
     assert_eq!(fresh.decide(0, 1), Err(Refusal::Decided));
-    assert_eq!(find(&mut fresh, 9), Err(Refusal::OutputShort));
-    assert_eq!(find(&mut fresh, 10), Ok(None));
+    assert_eq!(find(&mut fresh, 0, 9), Err(Refusal::OutputShort));
+    assert_eq!(find(&mut fresh, 0, 10), Ok(None));
     assert_eq!(fresh.undo(), Ok(()));
     assert_eq!(fresh.cells(), [Cell::Undecided; 3]);
 }
@@ -93,17 +93,62 @@ fn refused_calls() {
 #[test]
 fn hints() {
     let mut leaf = board(&S, &[(0, 1)]);
-    let mut count_after = |buffer: usize| {
-        let _ = find(&mut leaf, buffer);
+    let mut counts_after = |(player, buffer): (u8, usize)| {
+        let _ = find(&mut leaf, player, buffer);
         leaf.hints()
     };
-    assert_eq!([9, 10, 0, 10].map(&mut count_after), [0, 1, 1, 2]);
+    assert_eq!(
+        [(0, 9), (0, 10), (3, 0), (3, 10), (1, 10), (4, 10), (0, 10)].map(&mut counts_after),
+        [
+            [0, 0, 0, 0],
+            [1, 0, 0, 0],
+            [1, 0, 0, 0],
+            [1, 0, 0, 1],
+            [1, 1, 0, 1],
+            [1, 1, 0, 1],
+            [2, 1, 0, 1]
+        ]
+    );
     assert_eq!(leaf.undo(), Ok(()));
-    assert_eq!(leaf.hints(), 2);
-    let mut long_used = Board::with_hints(decode(&S).unwrap(), Edition::ExactlyOne, 65_534);
-    for _ in 0..3 {
-        assert_eq!(find(&mut long_used, 10), Ok(None));
-        assert_eq!(long_used.hints(), 65_535);
+    assert_eq!(leaf.hints(), [2, 1, 0, 1]);
+}
+
+/// Each player's count stops rising by itself, and no other rises for it.
+#[test]
+fn hints_at_the_limit() {
+    for player in 0..4 {
+        for (handed_in, left) in [(65_534, 65_535), (65_535, 65_535)] {
+            let mut hints = [65_534, 0, 65_535, 7];
+            hints[usize::from(player)] = handed_in;
+            let puzzle = decode(&S).unwrap();
+            let mut long_used = Board::with_hints(puzzle, Edition::ExactlyOne, hints);
+            hints[usize::from(player)] = left;
+            for _ in 0..3 {
+                assert_eq!(find(&mut long_used, player, 10), Ok(None));
+                assert_eq!(long_used.hints(), hints);
+            }
+        }
+    }
+}
+
+/// Document 02 §9: above 3 is refused, before a short buffer, and the reason is every player's.
+#[test]
+fn players() {
+    for edition in Edition::BOTH {
+        let reason = found_in(edition, &S, &[(0, 1), (1, 1)]);
+        assert_eq!(reason, Some(vec![(0, 1), (1, 1)]));
+        let mut leaf = board_in(edition, &S, &[(0, 1), (1, 1)]);
+        for player in 0..=255 {
+            let short = find(&mut leaf, player, 9);
+            let long = find(&mut leaf, player, 10);
+            if player > 3 {
+                assert_eq!([short, long], [(); 2].map(|()| Err(Refusal::Player)));
+            } else {
+                assert_eq!(short, Err(Refusal::OutputShort));
+                assert_eq!(long.unwrap().map(|reason| reason.literals), reason);
+            }
+        }
+        assert_eq!(leaf.hints(), [1; 4]);
     }
 }
 
@@ -286,7 +331,7 @@ fn opened_in_an_edition() {
     for edition in Edition::BOTH {
         let mut leaf = Board::open(&S, edition.number()).unwrap();
         assert_eq!(leaf.decide(0, 1), Ok(()));
-        assert_eq!(find(&mut leaf, 10), Ok(None));
+        assert_eq!(find(&mut leaf, 0, 10), Ok(None));
         assert_eq!(leaf.undo(), Ok(()));
         assert_eq!(leaf.edition(), edition);
     }

@@ -43,6 +43,7 @@ pub enum Refusal {
     Turning = 14,
     RecordOutputShort = 15,
     Edition = 16,
+    Player = 17,
 }
 
 impl Refusal {

@@ -27,12 +27,16 @@ pub fn most_literals(size: Size) -> usize {
     3 * size.cells() + 1
 }
 
-/// `find` with a buffer of that many literals. It counts as a hint unless it is refused.
-pub fn find(board: &mut Board, buffer: usize) -> Result<Option<Reason>, Refusal> {
+/// `find` by a player, 0 to 3, with a buffer of that many literals. It counts as that player's hint
+/// unless it is refused. Refusals: 17, then 11.
+pub fn find(board: &mut Board, player: u8, buffer: usize) -> Result<Option<Reason>, Refusal> {
+    if player > 3 {
+        return Err(Refusal::Player);
+    }
     if buffer < most_literals(board.puzzle().size) {
         return Err(Refusal::OutputShort);
     }
-    board.count_hint();
+    board.count_hint(player);
     Ok(find_reason(board.puzzle(), board.edition(), &board.cells()))
 }
 

@@ -29,7 +29,8 @@ use Rattle.board.specs.declared.Board.{Board}
 use Rattle.grid.specs.Cells.{Literal}
 use Rattle.board.specs.Board.{valueAt, cellsAfter, decided}
 use Rattle.board.specs.Kept.{boardOf}
-use Rattle.board.specs.Form.{countFormed, wellFormed}
+use Rattle.board.specs.Form.{Counts, countsFormed, wellFormed}
+use Rattle.board.proofs.HintLaws.{counts-is, is-counts}
 use Rattle.board.proofs.Standing.{Standing, none, more, index, standing-low, standing-distinct, cell-value, cells-length}
 
 -- ---- decisions on listed cells
@@ -128,7 +129,7 @@ pub record Whole (b : Board) : Type 0 where
   pub problem : Formed (b .problem)
   pub cells-long : length (b .cells) ≡ 1024
   pub order-long : length (b .order) ≡ 1024
-  pub count-low : b .hints ≤ 65535
+  pub counts : Counts (b .hints)
   pub edition : isEdition (b .edition) ≡ true
   pub few : b .decided ≤ 1024
   pub once : fresh (size (gridOf (b .problem))) [] (listed b) ≡ true
@@ -137,13 +138,13 @@ pub record Whole (b : Board) : Type 0 where
   pub twos : behind 2 (size (gridOf (b .problem))) (b .cells) ≡ true
 
 pub whole-is : (b : Board) → wellFormed b ≡ true → Whole b
-unfolding wellFormed long countFormed ordered stated
+unfolding wellFormed long ordered stated
 whole-is b h =
     let n : ℕ = size (gridOf (b .problem)) in
-    let a = and-true (problemFormed (b .problem) && (long (b .cells) && long (b .order) && countFormed (b .hints) && isEdition (b .edition))) (ordered n (b .decided) (b .order) && stated n (listed b) (b .cells)) h in
-    let c = and-true (problemFormed (b .problem)) (long (b .cells) && long (b .order) && countFormed (b .hints) && isEdition (b .edition)) (a .0) in
-    let v = and-true (long (b .cells) && long (b .order) && countFormed (b .hints)) (isEdition (b .edition)) (c .1) in
-    let l = and-true (long (b .cells) && long (b .order)) (countFormed (b .hints)) (v .0) in
+    let a = and-true (problemFormed (b .problem) && (long (b .cells) && long (b .order) && countsFormed (b .hints) && isEdition (b .edition))) (ordered n (b .decided) (b .order) && stated n (listed b) (b .cells)) h in
+    let c = and-true (problemFormed (b .problem)) (long (b .cells) && long (b .order) && countsFormed (b .hints) && isEdition (b .edition)) (a .0) in
+    let v = and-true (long (b .cells) && long (b .order) && countsFormed (b .hints)) (isEdition (b .edition)) (c .1) in
+    let l = and-true (long (b .cells) && long (b .order)) (countsFormed (b .hints)) (v .0) in
     let d = and-true (long (b .cells)) (long (b .order)) (l .0) in
     let e = and-true (ordered n (b .decided) (b .order)) (stated n (listed b) (b .cells)) (a .1) in
     let f = and-true (leb (b .decided) 1024 && fresh n [] (listed b)) (behind 0 (b .decided) (b .order)) (e .0) in
@@ -153,7 +154,7 @@ whole-is b h =
       problem = formed-is (b .problem) (c .0);
       cells-long = eqb-true (length (b .cells)) 1024 (d .0);
       order-long = eqb-true (length (b .order)) 1024 (d .1);
-      count-low = leb-true (b .hints) 65535 (l .1);
+      counts = counts-is (b .hints) (l .1);
       edition = v .1;
       few = leb-true (b .decided) 1024 (k .0);
       once = k .1;
@@ -163,11 +164,11 @@ whole-is b h =
     }
 
 pub is-whole : (b : Board) → Whole b → wellFormed b ≡ true
-unfolding wellFormed long countFormed ordered stated
+unfolding wellFormed long ordered stated
 is-whole b w =
     true-and
     (true-and (is-formed (b .problem) (w .problem))
-    (true-and (true-and (true-and (eq-eqb (length (b .cells)) 1024 (w .cells-long)) (eq-eqb (length (b .order)) 1024 (w .order-long))) (le-leb (b .hints) 65535 (w .count-low))) (w .edition)))
+    (true-and (true-and (true-and (eq-eqb (length (b .cells)) 1024 (w .cells-long)) (eq-eqb (length (b .order)) 1024 (w .order-long))) (is-counts (b .hints) (w .counts))) (w .edition)))
     (true-and (true-and (true-and (le-leb (b .decided) 1024 (w .few)) (w .once)) (w .zeros)) (true-and (w .states) (w .twos)))
 
 -- the decisions that a board lists, with the values of their cells
@@ -229,7 +230,7 @@ module _ (b : Board) (w : Whole b) where
       sym (length-map (decisionsOf b) index) ∙ ap length (valued-index (λ i. getD (b .cells) i 0) (listed b))
       ∙ length-take-le (b .decided) (b .order) (omega (arith, w .few, w .order-long))
 
-  -- it is the board of its puzzle, its edition, its decisions and its count
+  -- it is the board of its puzzle, its edition, its decisions and its counts
   pub whole-again : boardOf (inEdition (b .edition) (puzzleOf (b .problem))) (decisionsOf b) (b .hints) ≡ b
   unfolding boardOf puzzleOf g
   whole-again =
@@ -279,17 +280,17 @@ module _ (l : Leaf) (v : ValidLeaf l) {ds : List Literal} (s : Standing (l .puzz
       go true e = le-leb (valueAt ds i) 1 (value-listed ds i (λ d m. standing-low s d m .1) e)
       go false e = eq-eqb (valueAt ds i) 2 (value-free ds i e)
 
-  -- the board of an accepted leaf with standing decisions passes the test, with any count
-  pub standing-whole : {n : ℕ} → n ≤ 65535 → Whole (boardOf l ds n)
+  -- the board of an accepted leaf with standing decisions passes the test, with any counts
+  pub standing-whole : {ns : List ℕ} → Counts ns → Whole (boardOf l ds ns)
   unfolding boardOf problemOf gridOf
-  standing-whole low =
+  standing-whole counts =
       let n : length ds ≤ 1024 = omega (arith, standing-length s, valid-size (v .puzzle)) in
       let f = standing-fresh s in
       record {
         problem = valid-formed (l .puzzle) (v .puzzle);
         cells-long = array-length 2 (cellsAfter (l .puzzle .grid) ds) (omega (arith, cells-length (l .puzzle .grid) ds, valid-size (v .puzzle)));
         order-long = array-length 0 (map index ds) (omega (arith, length-map ds index));
-        count-low = low;
+        counts = counts;
         edition = v .edition;
         few = n;
         once = rw order-taken (is-fresh (size (l .puzzle .grid)) (f .0) (f .1));

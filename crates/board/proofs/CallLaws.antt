@@ -30,12 +30,13 @@ use Rattle.form.proofs.ProblemForm.{formed-valid}
 use Rattle.board.specs.declared.Board.{Board}
 use Rattle.grid.specs.Cells.{Literal}
 use Rattle.board.specs.Board.{valueAt, cellsAfter, Call, decide, undo, find, decided, after, refusal, afterAll, SameCells, SameDecisions, enough, asks, howOften}
-use Rattle.board.specs.Kept.{boardOf, opening, openOf, blankBoard}
-use Rattle.board.specs.Form.{wellFormed}
+use Rattle.board.specs.Kept.{noHints, boardOf, opening, openOf, blankBoard}
+use Rattle.board.specs.Form.{Counts, wellFormed}
 use Rattle.board.specs.Decide.{area, decideRefusal, undoRefusal, placed, removed, answered, decideOf, undoOf}
-use Rattle.board.specs.Hints.{raised, withHints, hinted, findRefusal, hintedBy, afterFind}
-use Rattle.board.specs.Calls.{left, leftAll, Leaves, standing, hintsAfter, AfterCalls}
-use Rattle.board.proofs.HintLaws.{counted, counted-low, count-none, count-cons, often-append, calls-append, asking, asking-often, asking-same}
+use Rattle.board.specs.Hints.{countOf, withHints, hinted, findRefusal, hintedBy, afterFind}
+use Rattle.board.specs.Calls.{left, leftAll, Leaves, standing, countAfter, hintsAfter, AfterCalls}
+use Rattle.board.proofs.HintLaws.{each-at, each-is, each-counts, no-hints, counted, counted-counts, counted-find, counted-none, asks-not, countedAll, count-none, count-cons, count-fresh, often-append, calls-append, asking, asking-often, asking-same}
+use Rattle.board.proofs.CountLaws.{others-keep}
 use Rattle.board.proofs.Standing.{Standing, none, more, index, after-standing, standing-low, cell-value, cells-length, calls-standing, standing-calls, same-board}
 use Rattle.board.proofs.BoardForm.{whole-is, is-whole, decisionsOf, whole-standing, whole-again, standing-whole, standing-length, cell-shown, value-listed, value-free}
 
@@ -75,10 +76,10 @@ cells-more g ds i v l h =
 
 module _ (l : Leaf) (v : ValidLeaf l) where
   -- one more decision on the board
-  placed-more : (n : ℕ) {ds : List Literal} → Standing (l .puzzle .grid) ds → (i x : ℕ) → i < size (l .puzzle .grid) → x ≤ 1 → decided ds i ≡ false
-      → placed (boardOf l ds n) i x ≡ boardOf l (ds ++ ((i, x) ∷ [])) n
+  placed-more : (ns : List ℕ) {ds : List Literal} → Standing (l .puzzle .grid) ds → (i x : ℕ) → i < size (l .puzzle .grid) → x ≤ 1 → decided ds i ≡ false
+      → placed (boardOf l ds ns) i x ≡ boardOf l (ds ++ ((i, x) ∷ [])) ns
   unfolding placed boardOf
-  placed-more n {ds} s i x w k h =
+  placed-more ns {ds} s i x w k h =
       let room : length ds < 1024 = omega (arith, standing-length (more s w k h), length-append ds ((i, x) ∷ []), valid-size (v .puzzle)) in
       let c : set (arrayOf 2 (cellsAfter (l .puzzle .grid) ds)) i x ≡ arrayOf 2 (cellsAfter (l .puzzle .grid) (ds ++ ((i, x) ∷ []))) =
       array-set 2 (cellsAfter (l .puzzle .grid) ds) i x (omega (arith, cells-length (l .puzzle .grid) ds)) ∙ ap (arrayOf 2) (cells-more (l .puzzle .grid) ds i x w h) in
@@ -88,10 +89,10 @@ module _ (l : Leaf) (v : ValidLeaf l) where
       rw (c, o, m) refl
 
   -- the latest decision taken off the board
-  removed-less : (n : ℕ) {ds : List Literal} → Standing (l .puzzle .grid) ds → (i x : ℕ) → i < size (l .puzzle .grid) → x ≤ 1 → decided ds i ≡ false
-      → removed (boardOf l (ds ++ ((i, x) ∷ [])) n) ≡ boardOf l ds n
+  removed-less : (ns : List ℕ) {ds : List Literal} → Standing (l .puzzle .grid) ds → (i x : ℕ) → i < size (l .puzzle .grid) → x ≤ 1 → decided ds i ≡ false
+      → removed (boardOf l (ds ++ ((i, x) ∷ [])) ns) ≡ boardOf l ds ns
   unfolding removed boardOf
-  removed-less n {ds} s i x w k h =
+  removed-less ns {ds} s i x w k h =
       let room : length ds < 1024 = omega (arith, standing-length (more s w k h), length-append ds ((i, x) ∷ []), valid-size (v .puzzle)) in
       let one : length (ds ++ ((i, x) ∷ [])) - 1 ≡ length ds = omega (arith, length-append ds ((i, x) ∷ [])) in
       let m : map index (ds ++ ((i, x) ∷ [])) ≡ map index ds ++ (i ∷ []) = map-append index ds ((i, x) ∷ []) in
@@ -105,10 +106,10 @@ module _ (l : Leaf) (v : ValidLeaf l) where
       array-set 2 (cellsAfter (l .puzzle .grid) (ds ++ ((i, x) ∷ []))) i 2 (omega (arith, cells-length (l .puzzle .grid) (ds ++ ((i, x) ∷ [])))) ∙ ap (arrayOf 2) back in
       rw (one, m, at, c, o) refl
 
--- on a board with any count
-module _ (l : Leaf) (v : ValidLeaf l) {n : ℕ} (low : n ≤ 65535) where
+-- on a board with any counts
+module _ (l : Leaf) (v : ValidLeaf l) {ns : List ℕ} (low : Counts ns) where
   -- a cell of the grid is undecided on the board when no decision has its index
-  shown-free : {ds : List Literal} → Standing (l .puzzle .grid) ds → (i : ℕ) → i < size (l .puzzle .grid) → eqb (getD (boardOf l ds n .cells) i 0) 2 ≡ not (decided ds i)
+  shown-free : {ds : List Literal} → Standing (l .puzzle .grid) ds → (i : ℕ) → i < size (l .puzzle .grid) → eqb (getD (boardOf l ds ns .cells) i 0) 2 ≡ not (decided ds i)
   unfolding boardOf
   shown-free {ds} s i w = rw (cell-shown l v s i w) (go (decided ds i) refl)
     where
@@ -117,11 +118,11 @@ module _ (l : Leaf) (v : ValidLeaf l) {n : ℕ} (low : n ≤ 65535) where
       go false e = eq-eqb (valueAt ds i) 2 (value-free ds i e)
 
   -- the board of standing decisions passes the test
-  pub standing-well : {ds : List Literal} → Standing (l .puzzle .grid) ds → wellFormed (boardOf l ds n) ≡ true
-  standing-well {ds} s = is-whole (boardOf l ds n) (standing-whole l v s low)
+  pub standing-well : {ds : List Literal} → Standing (l .puzzle .grid) ds → wellFormed (boardOf l ds ns) ≡ true
+  standing-well {ds} s = is-whole (boardOf l ds ns) (standing-whole l v s low)
 
   -- the refusals of decide and undo are the machine's
-  pub decide-number : {ds : List Literal} → Standing (l .puzzle .grid) ds → (i x : ℕ) → decideRefusal (boardOf l ds n) i x ≡ refusal (l .puzzle .grid) (decide i x) ds
+  pub decide-number : {ds : List Literal} → Standing (l .puzzle .grid) ds → (i x : ℕ) → decideRefusal (boardOf l ds ns) i x ≡ refusal (l .puzzle .grid) (decide i x) ds
   unfolding decideRefusal refusal area problemOf gridOf
   decide-number {ds} s i x = rw (standing-well s) (go (dec-so (ltb i (size (l .puzzle .grid)))))
     where
@@ -130,11 +131,11 @@ module _ (l : Leaf) (v : ValidLeaf l) {n : ℕ} (low : n ≤ 65535) where
       last-test false = refl
 
       go : Dec (So (ltb i (size (l .puzzle .grid))))
-          → _≡_ {A = ℕ} (cond (ltb i (area (boardOf l ds n))) (cond (leb x 1) (cond (eqb (getD (boardOf l ds n .cells) i 0) 2) 0 9) 8) 7) (cond (ltb i (size (l .puzzle .grid))) (cond (leb x 1) (cond (decided ds i) 9 0) 8) 7)
+          → _≡_ {A = ℕ} (cond (ltb i (area (boardOf l ds ns))) (cond (leb x 1) (cond (eqb (getD (boardOf l ds ns .cells) i 0) 2) 0 9) 8) 7) (cond (ltb i (size (l .puzzle .grid))) (cond (leb x 1) (cond (decided ds i) 9 0) 8) 7)
       go (yes e) = rw (shown-free s i (ltb-true i (size (l .puzzle .grid)) e), last-test (decided ds i)) (unfold boardOf in refl)
       go (no n) = unfold boardOf in rw (so-false (ltb i (size (l .puzzle .grid))) n) refl
 
-  pub undo-number : {ds : List Literal} → Standing (l .puzzle .grid) ds → undoRefusal (boardOf l ds n) ≡ refusal (l .puzzle .grid) undo ds
+  pub undo-number : {ds : List Literal} → Standing (l .puzzle .grid) ds → undoRefusal (boardOf l ds ns) ≡ refusal (l .puzzle .grid) undo ds
   unfolding undoRefusal refusal boardOf
   undo-number none = rw (standing-well none) refl
   undo-number (more {ds} {i} {v = x} s w k h) = rw (standing-well (more s w k h)) (go ds)
@@ -144,55 +145,70 @@ module _ (l : Leaf) (v : ValidLeaf l) {n : ℕ} (low : n ≤ 65535) where
       go (e ∷ es) = rw (ne-eqb (suc (length (es ++ ((i, x) ∷ [])))) 0 (λ z. omega (arith, z))) refl
 
   -- the boards that decide and undo leave are those of the decisions that the machine keeps
-  pub decide-left : {ds : List Literal} → Standing (l .puzzle .grid) ds → (i x : ℕ) → decideOf (boardOf l ds n) i x .board ≡ boardOf l (after (l .puzzle .grid) (decide i x) ds) n
+  pub decide-left : {ds : List Literal} → Standing (l .puzzle .grid) ds → (i x : ℕ) → decideOf (boardOf l ds ns) i x .board ≡ boardOf l (after (l .puzzle .grid) (decide i x) ds) ns
   unfolding decideOf refusal after
   decide-left {ds} s i x = rw (decide-number s i x) (go (ltb i (size (l .puzzle .grid))) (leb x 1) (decided ds i) refl refl refl)
     where
       go : (a b c : Bool) → ltb i (size (l .puzzle .grid)) ≡ a → leb x 1 ≡ b → decided ds i ≡ c
-          → answered (cond a (cond b (cond c 9 0) 8) 7) (boardOf l ds n) (placed (boardOf l ds n) i x) .board ≡ boardOf l (cond (a && b && not c) (ds ++ ((i, x) ∷ [])) ds) n
+          → answered (cond a (cond b (cond c 9 0) 8) 7) (boardOf l ds ns) (placed (boardOf l ds ns) i x) .board ≡ boardOf l (cond (a && b && not c) (ds ++ ((i, x) ∷ [])) ds) ns
       go false b c ea eb ec = unfold answered in refl
       go true false c ea eb ec = unfold answered in refl
       go true true true ea eb ec = unfold answered in refl
-      go true true false ea eb ec = unfold answered in placed-more l v n s i x (ltb-true i (size (l .puzzle .grid)) ea) (leb-true x 1 eb) ec
+      go true true false ea eb ec = unfold answered in placed-more l v ns s i x (ltb-true i (size (l .puzzle .grid)) ea) (leb-true x 1 eb) ec
 
-  pub undo-left : {ds : List Literal} → Standing (l .puzzle .grid) ds → undoOf (boardOf l ds n) .board ≡ boardOf l (init ds) n
+  pub undo-left : {ds : List Literal} → Standing (l .puzzle .grid) ds → undoOf (boardOf l ds ns) .board ≡ boardOf l (init ds) ns
   unfolding undoOf
   undo-left none = rw (undo-number none) (unfold answered refusal init in refl)
-  undo-left (more {ds} {i} {v = x} s w k h) = rw (undo-number (more s w k h), init-more ds (i, x)) (go ds (removed-less l v n s i x w k h))
+  undo-left (more {ds} {i} {v = x} s w k h) = rw (undo-number (more s w k h), init-more ds (i, x)) (go ds (removed-less l v ns s i x w k h))
     where
-      go : (es : List Literal) → removed (boardOf l (es ++ ((i, x) ∷ [])) n) ≡ boardOf l es n
-          → answered (refusal (l .puzzle .grid) undo (es ++ ((i, x) ∷ []))) (boardOf l (es ++ ((i, x) ∷ [])) n) (removed (boardOf l (es ++ ((i, x) ∷ [])) n)) .board ≡ boardOf l es n
+      go : (es : List Literal) → removed (boardOf l (es ++ ((i, x) ∷ [])) ns) ≡ boardOf l es ns
+          → answered (refusal (l .puzzle .grid) undo (es ++ ((i, x) ∷ []))) (boardOf l (es ++ ((i, x) ∷ [])) ns) (removed (boardOf l (es ++ ((i, x) ∷ [])) ns)) .board ≡ boardOf l es ns
       go [] e = unfold answered refusal in e
       go (y ∷ es) e = unfold answered refusal in e
 
-  -- find's refusal is the machine's, and its count rises when the machine accepts
-  pub find-number : {ds : List Literal} → Standing (l .puzzle .grid) ds → (k : ℕ) → findRefusal (boardOf l ds n) k ≡ refusal (l .puzzle .grid) (find k) ds
+  -- find's refusal is the machine's, and its player's count rises when the machine accepts
+  pub find-number : {ds : List Literal} → Standing (l .puzzle .grid) ds → (q k : ℕ) → findRefusal (boardOf l ds ns) q k ≡ refusal (l .puzzle .grid) (find q k) ds
   unfolding findRefusal refusal boardOf problemOf gridOf
-  find-number s k = rw (standing-well s) refl
+  find-number s q k = rw (standing-well s) refl
 
-  pub find-left : {ds : List Literal} → Standing (l .puzzle .grid) ds → (k : ℕ) → afterFind (boardOf l ds n) k ≡ boardOf l ds (counted (l .puzzle .grid) (find k) n)
-  unfolding afterFind refusal asks
-  find-left {ds} s k = rw (find-number s k) (go (decLe (enough (l .puzzle .grid)) k))
+  pub find-left : {ds : List Literal} → Standing (l .puzzle .grid) ds → (q k : ℕ) → afterFind (boardOf l ds ns) q k ≡ boardOf l ds (counted (l .puzzle .grid) (find q k) ns)
+  unfolding afterFind refusal
+  find-left {ds} s q k = rw (find-number s q k) (go (decLe q 3) (decLe (enough g) k))
     where
-      go : Dec (enough (l .puzzle .grid) ≤ k) → hintedBy (cond (ltb k (enough (l .puzzle .grid))) 11 0) (boardOf l ds n) ≡ boardOf l ds (cond (leb (enough (l .puzzle .grid)) k) (raised n) n)
-      go (yes h) = unfold hintedBy hinted withHints boardOf in rw (le-ltb k (enough (l .puzzle .grid)) h, le-leb (enough (l .puzzle .grid)) k h) refl
-      go (no h) = unfold hintedBy in rw (lt-ltb k (enough (l .puzzle .grid)) (omega arith), lt-leb (enough (l .puzzle .grid)) k (omega arith)) refl
+      g : Grid
+      g = l .puzzle .grid
+
+      refused-left : (leb q 3 && leb (enough g) k) ≡ false → boardOf l ds ns ≡ boardOf l ds (counted g (find q k) ns)
+      refused-left e = ap (boardOf l ds) (counted-none g (find q k) ns (low .four) (λ r. asks-not g r q k e))
+
+      go : Dec (q ≤ 3) → Dec (enough g ≤ k) → hintedBy (cond (leb q 3) (cond (ltb k (enough g)) 11 0) 17) (boardOf l ds ns) q ≡ boardOf l ds (counted g (find q k) ns)
+      go (yes h) (yes m) =
+          unfold hintedBy hinted withHints boardOf in
+          rw (le-leb q 3 h, le-ltb k (enough g) m, counted-find g q k ns (low .four) h m) refl
+      go (yes h) (no m) =
+          unfold hintedBy in
+          rw (le-leb q 3 h, lt-ltb k (enough g) (omega arith)) (refused-left (rw (le-leb q 3 h, lt-leb (enough g) k (omega arith)) refl))
+      go (no h) m = unfold hintedBy in rw (lt-leb q 3 (omega arith)) (refused-left (rw (lt-leb q 3 (omega arith)) refl))
 
 module _ (l : Leaf) (v : ValidLeaf l) where
   -- so are those that a call leaves
-  call-left : (c : Call) {ds : List Literal} {n : ℕ} → n ≤ 65535 → Standing (l .puzzle .grid) ds → left (boardOf l ds n) c ≡ boardOf l (after (l .puzzle .grid) c ds) (counted (l .puzzle .grid) c n)
-  unfolding left asks
-  call-left (decide i x) low s = decide-left l v low s i x
-  call-left undo low s = undo-left l v low s ∙ unfold after in refl
-  call-left (find k) low s = find-left l v low s k ∙ unfold after in refl
+  call-left : (c : Call) {ds : List Literal} {ns : List ℕ} → Counts ns → Standing (l .puzzle .grid) ds
+      → left (boardOf l ds ns) c ≡ boardOf l (after (l .puzzle .grid) c ds) (counted (l .puzzle .grid) c ns)
+  unfolding left
+  call-left (decide i x) {ds} {ns} low s =
+      decide-left l v low s i x
+      ∙ ap (boardOf l (after (l .puzzle .grid) (decide i x) ds)) (counted-none (l .puzzle .grid) (decide i x) ns (low .four) (λ q. unfold asks in refl))
+  call-left undo {ds} {ns} low s =
+      undo-left l v low s ∙ unfold after in ap (boardOf l (init ds)) (counted-none (l .puzzle .grid) undo ns (low .four) (λ q. unfold asks in refl))
+  call-left (find q k) low s = find-left l v low s q k ∙ unfold after in refl
 
-  pub calls-left : (cs : List Call) {ds : List Literal} {n : ℕ} → n ≤ 65535 → Standing (l .puzzle .grid) ds
-      → leftAll (boardOf l ds n) cs ≡ boardOf l (afterAll (l .puzzle .grid) cs ds) (min (n + howOften (l .puzzle .grid) cs) 65535)
+  pub calls-left : (cs : List Call) {ds : List Literal} {ns : List ℕ} → Counts ns → Standing (l .puzzle .grid) ds
+      → leftAll (boardOf l ds ns) cs ≡ boardOf l (afterAll (l .puzzle .grid) cs ds) (countedAll (l .puzzle .grid) cs ns)
   unfolding leftAll afterAll
   calls-left [] {ds} low s = ap (boardOf l ds) (sym (count-none (l .puzzle .grid) low))
-  calls-left (c ∷ cs) {ds} {n} low s =
-      rw (call-left c low s) (calls-left cs (counted-low (l .puzzle .grid) c low) (after-standing (l .puzzle .grid) c s))
-      ∙ ap (boardOf l (afterAll (l .puzzle .grid) cs (after (l .puzzle .grid) c ds))) (count-cons (l .puzzle .grid) c cs n)
+  calls-left (c ∷ cs) {ds} {ns} low s =
+      rw (call-left c low s) (calls-left cs (counted-counts (l .puzzle .grid) c low) (after-standing (l .puzzle .grid) c s))
+      ∙ ap (boardOf l (afterAll (l .puzzle .grid) cs (after (l .puzzle .grid) c ds))) (count-cons (l .puzzle .grid) c cs ns)
 
 -- ---- the theorems
 
@@ -206,7 +222,7 @@ open-done : (s : List ℕ) (e : ℕ) (l : Leaf) → leafOf s e ≡ ok l → open
 unfolding openOf opening
 open-done s e l k = rw k refl
 
-open-fresh : (s : List ℕ) (e : ℕ) (l : Leaf) → leafOf s e ≡ ok l → openOf s e .board ≡ boardOf l [] 0
+open-fresh : (s : List ℕ) (e : ℕ) (l : Leaf) → leafOf s e ≡ ok l → openOf s e .board ≡ boardOf l [] noHints
 unfolding openOf opening
 open-fresh s e l k = rw k refl
 
@@ -214,12 +230,11 @@ open-fresh s e l k = rw k refl
 pub opened-left : (s : List ℕ) (e : ℕ) (l : Leaf) → leafOf s e ≡ ok l → (cs : List Call)
     → leftAll (openOf s e .board) cs ≡ boardOf l (standing (l .puzzle) cs) (hintsAfter (l .puzzle) cs)
 opened-left s e l k cs =
-    let z : 0 + howOften (l .puzzle .grid) cs ≡ howOften (l .puzzle .grid) cs = omega arith in
-    rw (open-fresh s e l k, ← z) (calls-left l (leaf-valid s e k) cs (omega arith) none)
+    rw (open-fresh s e l k) (calls-left l (leaf-valid s e k) cs no-hints none) ∙ ap (boardOf l (standing (l .puzzle) cs)) (count-fresh (l .puzzle .grid) cs)
 
--- its count is one that a board can have
-pub after-low : (p : Puzzle) (cs : List Call) → hintsAfter p cs ≤ 65535
-after-low p cs = min-le-right (howOften (p .grid) cs) 65535
+-- its counts are those that a board can have
+pub after-low : (p : Puzzle) (cs : List Call) → Counts (hintsAfter p cs)
+after-low p cs = each-counts (countAfter p cs) (λ q. min-le-right (howOften (p .grid) q cs) 65535)
 
 -- refusal 6 is exact: a board passes the test exactly when some accepted record, some edition and some list of calls leave it
 pub well-formed-exact : (b : Board) → (wellFormed b ≡ true) ↔ Leaves b
@@ -233,10 +248,13 @@ well-formed-exact b = (forth, back)
         let o : leafOf (writeRecord p) (b .edition) ≡ ok l = ok-leaf (writeRecord p) (b .edition) p (round-trip p (formed-valid (b .problem) (w .problem))) (w .edition) in
         let s : Standing (p .grid) (decisionsOf b) = unfold puzzleOf in whole-standing b w in
         let r = standing-calls (p .grid) s in
-        let cs : List Call = r .0 ++ asking (p .grid) (b .hints) in
-        let stands : standing p cs ≡ decisionsOf b = calls-append (p .grid) (r .0) (asking (p .grid) (b .hints)) [] ∙ asking-same (p .grid) (b .hints) (standing p (r .0)) ∙ r .1 in
-        let often : howOften (p .grid) cs ≡ b .hints = omega (arith, often-append (p .grid) (r .0) (asking (p .grid) (b .hints)), r .2, asking-often (p .grid) (b .hints)) in
-        let count : hintsAfter p cs ≡ b .hints = ap (λ (k : ℕ). min k 65535) often ∙ min-eq-left (w .count-low) in
+        let asked : List Call = asking (p .grid) 0 (b .hints) in
+        let cs : List Call = r .0 ++ asked in
+        let stands : standing p cs ≡ decisionsOf b = calls-append (p .grid) (r .0) asked [] ∙ asking-same (p .grid) 0 (b .hints) (standing p (r .0)) ∙ r .1 in
+        let often : (q : ℕ) → q ≤ 3 → howOften (p .grid) q cs ≡ countOf b q =
+        λ q l. omega (arith, often-append (p .grid) q (r .0) asked, r .2 q, asking-often (p .grid) (b .hints) q l) in
+        let count : hintsAfter p cs ≡ b .hints =
+        each-is (countAfter p cs) (b .hints) (w .counts .four) (λ q l. ap (λ (k : ℕ). min k 65535) (often q l) ∙ min-eq-left (w .counts .low q)) in
         record {
           bytes = writeRecord p;
           low = written-bytes p;
@@ -260,10 +278,10 @@ unfolding answered numberOf
 number-answered zero b next = refl
 number-answered (suc k) b next = refl
 
-same-shown : (l : Leaf) → ValidLeaf l → (m n : ℕ) {cs ds : List Literal} → Standing (l .puzzle .grid) cs → Standing (l .puzzle .grid) ds
-    → SameCells (l .puzzle .grid) (boardOf l cs m .cells) (boardOf l ds n .cells) ↔ SameDecisions cs ds
+same-shown : (l : Leaf) → ValidLeaf l → (ms ns : List ℕ) {cs ds : List Literal} → Standing (l .puzzle .grid) cs → Standing (l .puzzle .grid) ds
+    → SameCells (l .puzzle .grid) (boardOf l cs ms .cells) (boardOf l ds ns .cells) ↔ SameDecisions cs ds
 unfolding boardOf
-same-shown l v m n {cs} {ds} s t =
+same-shown l v ms ns {cs} {ds} s t =
     let g : Grid = l .puzzle .grid in
     let q = same-board s t in (
       λ same. q .0 (λ i w. cell-value g cs i w ∙ sym (cell-shown l v s i w) ∙ same i w ∙ cell-shown l v t i w ∙ sym (cell-value g ds i w)),
@@ -283,11 +301,12 @@ after-calls s e l k cs ds =
     let z : Board = boardOf l (standing p cs) (hintsAfter p cs) in
     record {
       board = a;
-      count = ap (λ (b : Board). b .hints) a ∙ unfold boardOf in refl;
+      count = λ q m. ap (λ (b : Board). countOf b q) a ∙ unfold boardOf in each-at (countAfter p cs) q m;
+      others = others-keep (leftAll (openOf s e .board) cs);
       edition = ap (λ (b : Board). b .edition) a ∙ unfold boardOf in ap (λ (x : Leaf). x .edition) (sym (leaf-ok s e k .3));
       decides = λ i x. rw a (unfold decideOf in number-answered (decideRefusal z i x) z (placed z i x) ∙ decide-number l v low f i x);
       undoes = rw a (unfold undoOf in number-answered (undoRefusal z) z (removed z) ∙ undo-number l v low f);
-      finds = λ k. rw a (find-number l v low f k);
+      finds = λ q k. rw a (find-number l v low f q k);
       cells = rw (a, b) (same-shown l v (hintsAfter p cs) (hintsAfter p ds) f h);
     }
 

@@ -1,37 +1,65 @@
--- The count of hints on any board: an accepted find raises it and changes nothing else, no other call changes it, and every count is well formed.
+-- The counts of hints on any board: an accepted find raises that of its player and changes nothing else, no other call changes it, and any counts are well formed.
 -- No call changes the edition.
 -- Assumes nothing.
-use Prim.Native.Nat.{ℕ, zero, suc, _*_, _+_, _/_, _%_, _≤_}
-use mathlib.Core.Path.{_≡_, refl, ap, _∙_}
+use Prim.Native.Nat.{ℕ, zero, suc, _*_, _+_, _/_, _%_, _≤_, _<_}
+use native.Mathlib.Omega.{arith}
+use native.Mathlib.Decide.{decLe}
+use mathlib.Core.Path.{_≡_, refl, sym, ap, _∙_}
 use mathlib.Core.Bool.{Bool, true, false, cond}
 use mathlib.Core.List.{List, [], _∷_}
-use lib.Dec.{eqb}
-use borrow.Author.Tests.{le-leb}
+use lib.Dec.{eqb, leb, ltb}
+use lib.ListN.{length, getD}
+use lib.Seq.{getD-set-same, getD-set-other}
+use borrow.Author.Tests.{lt-leb}
+use Rattle.record.specs.Problem.{gridOf}
 use Rattle.record.specs.declared.Answer.{Answer}
 use Rattle.record.specs.declared.Answer.the-variants.{Done, Refused}
 use Rattle.board.specs.declared.Board.{Board}
 use Rattle.board.specs.declared.Decided.{Decided}
-use Rattle.board.specs.Form.{countFormed, wellFormed}
+use Rattle.board.specs.Form.{Counts, wellFormed}
 use Rattle.board.specs.Decide.{withDecisions, decideRefusal, undoRefusal, placed, removed, answered, decideOf, undoOf, refusedWith, onward, placedFrom, decideAllOf}
-use Rattle.board.specs.Hints.{raised, withHints, hinted, findRefusal, hintedBy, afterFind}
+use Rattle.board.specs.Board.{decide, undo, find, enough}
+use Rattle.board.specs.Hints.{raised, countOf, withHints, hinted, findRefusal, hintedBy, afterFind}
+use Rattle.board.specs.Calls.{left, OthersKeep}
+use Rattle.board.proofs.HintLaws.{is-counts}
+use Rattle.board.proofs.BoardForm.{whole-is}
 
--- find changes nothing but the count
-pub find-only-count : (b : Board) (k : ℕ) → afterFind b k ≡ withHints b (afterFind b k .hints)
+-- find changes nothing but the counts
+pub find-only-count : (b : Board) (q k : ℕ) → afterFind b q k ≡ withHints b (afterFind b q k .hints)
 unfolding afterFind withHints
-find-only-count b k = go (findRefusal b k)
+find-only-count b q k = go (findRefusal b q k)
   where
-    go : (r : ℕ) → hintedBy r b ≡ withHints b (hintedBy r b .hints)
+    go : (r : ℕ) → hintedBy r b q ≡ withHints b (hintedBy r b q .hints)
     go zero = unfold hintedBy hinted in refl
     go (suc r) = unfold hintedBy in refl
 
--- an accepted find raises it by one, as far as 65,535; a refused one leaves it
-pub find-counts : (b : Board) (k : ℕ) → findRefusal b k ≡ 0 → afterFind b k .hints ≡ raised (b .hints)
-unfolding afterFind hintedBy hinted withHints
-find-counts b k e = rw e refl
+-- an accepted find is of one of the players
+accepted-player : (b : Board) (q k : ℕ) → findRefusal b q k ≡ 0 → q < length (b .hints)
+unfolding findRefusal
+accepted-player b q k = go (wellFormed b) refl (decLe q 3)
+  where
+    go : (t : Bool) → wellFormed b ≡ t → Dec (q ≤ 3) → _≡_ {A = ℕ} (cond t (cond (leb q 3) (cond (ltb k (enough (gridOf (b .problem)))) 11 0) 17) 6) 0 → q < length (b .hints)
+    go false w l e = absurd (omega (arith, e))
+    go true w (yes l) e = omega (arith, whole-is b w .counts .four)
+    go true w (no l) e = absurd (omega (arith, rw (lt-leb q 3 (omega arith)) at e))
 
-pub find-keeps : (b : Board) (k r : ℕ) → findRefusal b k ≡ suc r → afterFind b k ≡ b
+-- it raises that of its player by one, as far as 65,535; a refused one leaves the board
+pub find-counts : (b : Board) (q k : ℕ) → findRefusal b q k ≡ 0 → countOf (afterFind b q k) q ≡ raised (countOf b q)
+unfolding afterFind hintedBy hinted withHints
+find-counts b q k e = rw e (getD-set-same (b .hints) q (raised (countOf b q)) 0 (accepted-player b q k e))
+
+pub find-keeps : (b : Board) (q k r : ℕ) → findRefusal b q k ≡ suc r → afterFind b q k ≡ b
 unfolding afterFind hintedBy
-find-keeps b k r e = rw e refl
+find-keeps b q k r e = rw e refl
+
+-- it leaves that of another player
+pub find-others : (b : Board) (r k q : ℕ) → ¬ (r ≡ q) → countOf (afterFind b r k) q ≡ countOf b q
+unfolding afterFind
+find-others b r k q n = go (findRefusal b r k)
+  where
+    go : (m : ℕ) → countOf (hintedBy m b r) q ≡ countOf b q
+    go zero = unfold hintedBy hinted withHints in getD-set-other (b .hints) r q (raised (countOf b r)) 0 (λ e. n (sym e))
+    go (suc m) = unfold hintedBy in refl
 
 pub stops-rising : raised 65535 ≡ 65535
 unfolding raised
@@ -78,7 +106,7 @@ module _ {A : Type 0} (f : Board → A) (same : (b : Board) (cells order : List 
       let d : Decided = placedFrom b bytes in
       either-same (wellFormed b) b (onward (d .answer) b d) (refusedWith 6 b) (onward-same (d .answer) b d (placed-same b bytes)) refl
 
--- the count
+-- the counts
 pub decide-count : (b : Board) (i v : ℕ) → decideOf b i v .board .hints ≡ b .hints
 decide-count = decide-same (λ b. b .hints) (λ b cells order n. refl)
 
@@ -98,10 +126,17 @@ undo-edition = undo-same (λ b. b .edition) (λ b cells order n. refl)
 pub all-edition : (b : Board) (bytes : List ℕ) → decideAllOf b bytes .board .edition ≡ b .edition
 all-edition = all-same (λ b. b .edition) (λ b cells order n. refl)
 
-pub find-edition : (b : Board) (k : ℕ) → afterFind b k .edition ≡ b .edition
-find-edition b k = ap (λ (x : Board). x .edition) (find-only-count b k) ∙ unfold withHints in refl
+pub find-edition : (b : Board) (q k : ℕ) → afterFind b q k .edition ≡ b .edition
+find-edition b q k = ap (λ (x : Board). x .edition) (find-only-count b q k) ∙ unfold withHints in refl
 
--- no count from 0 to 65,535 makes a board ill formed
-pub any-count : (b : Board) (n : ℕ) → b .hints ≤ 65535 → n ≤ 65535 → wellFormed (withHints b n) ≡ wellFormed b
-unfolding wellFormed countFormed withHints
-any-count b n h k = rw (le-leb (b .hints) 65535 h, le-leb n 65535 k) refl
+-- no call but a find of player q changes the count of player q
+pub others-keep : (b : Board) → OthersKeep b
+unfolding left
+others-keep b (decide i v) q n = ap (λ (ns : List ℕ). getD ns q 0) (decide-count b i v)
+others-keep b undo q n = ap (λ (ns : List ℕ). getD ns q 0) (undo-count b)
+others-keep b (find r k) q n = find-others b r k q (λ e. n k (ap (λ (x : ℕ). find x k) e))
+
+-- no counts from 0 to 65,535 make a board ill formed
+pub any-counts : (b : Board) (ns : List ℕ) → Counts (b .hints) → Counts ns → wellFormed (withHints b ns) ≡ wellFormed b
+unfolding wellFormed withHints
+any-counts b ns h k = rw (is-counts (b .hints) h, is-counts ns k) refl

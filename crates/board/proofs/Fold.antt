@@ -35,7 +35,7 @@ decide-well b h i v =
     let ok : ValidLeaf l = record { puzzle = formed-valid (b .problem) (w .problem); edition = w .edition } in
     let s : Standing (l .puzzle .grid) (decisionsOf b) = unfold puzzleOf in whole-standing b w in
     subst (λ (z : Board). wellFormed (decideOf z i v .board) ≡ true) (whole-again b w)
-    (rw (decide-left l ok (w .count-low) s i v) (standing-well l ok (w .count-low) (after-standing (l .puzzle .grid) (decide i v) s)))
+    (rw (decide-left l ok (w .counts) s i v) (standing-well l ok (w .counts) (after-standing (l .puzzle .grid) (decide i v) s)))
 
 module _ (b₀ : Board) (cells order : List ℕ) (n count x y : ℕ) (rest : List ℕ)
     (e : size (gridOf (b₀ .problem)) ≡ n) (w : wellFormed (withDecisions b₀ cells order count) ≡ true) (low : x * 256 + y < 65536) where

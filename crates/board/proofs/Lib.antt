@@ -1,10 +1,10 @@
 pub mod HintLaws
 pub mod Standing
 pub mod BoardForm
+pub mod CountLaws
 pub mod CallLaws
 pub mod Verdicts
 pub mod Answers
 pub mod Fold
 pub mod OpenLaws
 pub mod Unchanged
-pub mod CountLaws

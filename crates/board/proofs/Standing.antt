@@ -36,7 +36,7 @@ after-standing g (decide i v) {ds} s = go (ltb i (size g) && leb v 1 && not (dec
     go false e = s
 after-standing g undo none = none
 after-standing g undo (more {ds} {i} {v} s h k d) = rw (init-more ds (i, v)) s
-after-standing g (find k) s = s
+after-standing g (find q k) s = s
 
 all-standing : (g : Grid) (cs : List Call) {ds : List Literal} → Standing g ds → Standing g (afterAll g cs ds)
 unfolding afterAll
@@ -48,14 +48,14 @@ pub calls-standing : (g : Grid) (cs : List Call) → Standing g (afterAll g cs [
 calls-standing g cs = all-standing g cs none
 
 -- and what stands is left by some list of calls without an accepted find
-pub standing-calls : (g : Grid) {ds : List Literal} → Standing g ds → (cs : List Call) × (afterAll g cs [] ≡ ds) × (howOften g cs ≡ 0)
+pub standing-calls : (g : Grid) {ds : List Literal} → Standing g ds → (cs : List Call) × (afterAll g cs [] ≡ ds) × ((q : ℕ) → howOften g q cs ≡ 0)
 unfolding afterAll after howOften filter asks
-standing-calls g none = ([], refl, refl)
+standing-calls g none = ([], refl, λ q. refl)
 standing-calls g (more {ds} {i} {v} s h k d) =
     let r = standing-calls g s in (
       r .0 ++ (decide i v ∷ []),
       calls-append g (r .0) (decide i v ∷ []) [] ∙ rw (r .1, lt-ltb i (size g) h, le-leb v 1 k, d) refl,
-      often-append g (r .0) (decide i v ∷ []) ∙ rw (r .2) refl,
+      λ q. often-append g q (r .0) (decide i v ∷ []) ∙ rw (r .2 q) refl,
     )
 
 -- the index of a decision

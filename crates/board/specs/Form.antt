@@ -1,22 +1,30 @@
 -- Which boards a list of calls could leave, as a test (refusal 6). That the test says just this is proved in proofs/.
 -- Assumes nothing.
-use Prim.Native.Nat.{ℕ}
+use Prim.Native.Nat.{ℕ, _≤_}
+use mathlib.Core.Path.{_≡_}
 use mathlib.Core.Bool.{Bool, _&&_}
-use lib.Dec.{leb}
-use lib.ListN.{take}
+use mathlib.Core.List.{List}
+use lib.Dec.{eqb, leb}
+use lib.ListN.{length, getD, take}
+use Rattle.grid.specs.Lists.{all}
 use Rattle.grid.specs.Grid.{size}
 use Rattle.record.specs.Problem.{gridOf}
 use Rattle.record.specs.Leaf.{isEdition}
 use Rattle.form.specs.Form.{long, problemFormed, stated, ordered}
 use Rattle.board.specs.declared.Board.{Board}
 
--- a count of hints: 0 to 65,535, any of them
-unfoldable pub countFormed : ℕ → Bool
-countFormed n = leb n 65535
+-- the counts of hints: one for each of four players, each from 0 to 65,535, any of them
+pub record Counts (ns : List ℕ) : Type 0 where
+  pub four : length ns ≡ 4
+  pub low : (q : ℕ) → getD ns q 0 ≤ 65535
+
+-- the same as a test
+unfoldable pub countsFormed : List ℕ → Bool
+countsFormed ns = eqb (length ns) 4 && all (λ n. leb n 65535) ns
 
 -- a board that some list of calls on some record's board leaves
 unfoldable pub wellFormed : Board → Bool
 wellFormed b =
-    (problemFormed (b .problem) && (long (b .cells) && long (b .order) && countFormed (b .hints) && isEdition (b .edition)))
+    (problemFormed (b .problem) && (long (b .cells) && long (b .order) && countsFormed (b .hints) && isEdition (b .edition)))
     && (ordered (size (gridOf (b .problem))) (b .decided) (b .order)
     && stated (size (gridOf (b .problem))) (take (b .decided) (b .order)) (b .cells))

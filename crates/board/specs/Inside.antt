@@ -11,6 +11,7 @@ use Rattle.record.specs.declared.Problem.{Problem}
 use Rattle.record.specs.declared.Answer.{Answer}
 use Rattle.record.specs.declared.Answer.the-variants.{Done, Refused}
 use Rattle.board.specs.declared.Board.{Board}
+use Rattle.board.specs.Kept.{noHints}
 use Rattle.board.specs.Form.{wellFormed}
 use Rattle.board.specs.Decide.{withDecisions}
 
@@ -23,7 +24,7 @@ pub data Placing (n count word : ℕ) (cells order : List ℕ) : Answer → List
 
 -- the board of a problem in an edition with nothing decided and no hint taken
 abbrev pub freshOf : Problem → ℕ → Board
-freshOf q e = record { problem = q; edition = e; cells = replicate 1024 2; order = replicate 1024 0; decided = 0; hints = 0 }
+freshOf q e = record { problem = q; edition = e; cells = replicate 1024 2; order = replicate 1024 0; decided = 0; hints = noHints }
 
 -- the arrays are those of a well-formed board of n cells
 pub record Held (n decided : ℕ) (cells order : List ℕ) : Type 0 where

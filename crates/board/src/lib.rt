@@ -1,4 +1,5 @@
-// A board: a problem in an edition, with its decided cells and a count of hints. It is opened from a record; decide adds a decision, undo removes the latest.
+// A board: a problem in an edition, with its decided cells and a count of hints for each of four players. It is opened from a record; decide
+// adds a decision, undo removes the latest.
 use record::Answer;
 use record::Problem;
 ghost use mathlib.Core.Path.{_≡_};
@@ -9,22 +10,22 @@ ghost use Rattle.grid.specs.Grid.{size};
 ghost use Rattle.record.specs.Problem.{gridOf};
 ghost use Rattle.record.specs.Record.{refused};
 ghost use Rattle.record.specs.Leaf.{isEdition};
-ghost use Rattle.board.specs.Kept.{opening, openOf};
+ghost use Rattle.board.specs.Kept.{noHints, opening, openOf};
 ghost use Rattle.board.specs.Form.{wellFormed};
 ghost use Rattle.board.specs.Decide.{withDecisions, decideOf, undoOf, decideAllOf, placedFrom};
 ghost use Rattle.board.specs.Hints.{raised};
 ghost use Rattle.board.specs.Inside.{Placing, freshOf, Held};
 
 // A problem with its decisions. `edition` is 1, or 2 for free growth; `cells` has the state of each cell (0 empty, 1 square, 2 undecided), with 2 behind the grid;
-// `order` has the decided cells in the order decided, `decided` of them, with 0 behind; `hints` counts the accepted
-// finds since open, up to 65,535.
+// `order` has the decided cells in the order decided, `decided` of them, with 0 behind; `hints` counts for each player, 0 to 3, that
+// player's accepted finds since open, up to 65,535.
 pub struct Board {
     pub problem: Problem,
     pub edition: u8,
     pub cells: [u8; 1024],
     pub order: [u16; 1024],
     pub decided: usize,
-    pub hints: u16,
+    pub hints: [u16; 4],
 }
 
 // The answer of `open`, with the board where it is Done, and a blank one of no cells where it is not.
@@ -131,6 +132,13 @@ fn no_order() -> [u16; Board::CELLS]
     [0u16; Board::CELLS]
 }
 
+// The counts of a fresh board: no hint taken.
+fn no_hints() -> [u16; Board::PLAYERS]
+    ensures { λ r. ⌜ r ≡ noHints ⌝ }
+{
+    [0u16; Board::PLAYERS]
+}
+
 // A board of the problem with nothing decided and no hint taken.
 fn fresh(problem: Problem, edition: u8) -> Board
     ensures { λ r. ⌜ r ≡ freshOf problem edition ⌝ }
@@ -141,7 +149,7 @@ fn fresh(problem: Problem, edition: u8) -> Board
         cells: undecided(),
         order: no_order(),
         decided: 0,
-        hints: 0,
+        hints: no_hints(),
     }
 }
 
@@ -166,7 +174,7 @@ pub fn is_edition(edition: u8) -> bool
     edition == 2
 }
 
-// The count of hints after one more; at 65,535 it stops rising.
+// A count of hints after one more; at 65,535 it stops rising.
 pub fn raised(count: u16) -> u16
     ensures { λ r. ⌜ r ≡ raised count ⌝ }
 {
@@ -179,6 +187,8 @@ pub fn raised(count: u16) -> u16
 impl Board {
     // The most cells that a grid has.
     pub const CELLS: usize = 32 * 32;
+    // The players that share a board.
+    pub const PLAYERS: usize = 4;
     // The most literals that a reason has.
     pub const LITERALS: usize = 3 * Board::CELLS + 1;
 
@@ -310,6 +320,7 @@ impl Board {
         let problem = self.problem;
         let mut cells = self.cells;
         let mut order = self.order;
+        let hints = self.hints;
         let placed = place_all(
             &mut cells,
             &mut order,
@@ -327,7 +338,7 @@ impl Board {
                     cells,
                     order,
                     decided: placed.decided,
-                    hints: self.hints,
+                    hints,
                 },
             },
             Answer::Refused(_) => Decided {

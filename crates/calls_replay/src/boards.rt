@@ -52,9 +52,6 @@ pub fn boards_differ(x: Board, y: Board) -> bool
     if x.edition != y.edition {
         return true;
     }
-    if x.hints != y.hints {
-        return true;
-    }
     let p = x.problem;
     let q = y.problem;
     if problems_differ(p, q) || x.decided != y.decided {
@@ -63,6 +60,11 @@ pub fn boards_differ(x: Board, y: Board) -> bool
     let a = x.cells;
     let b = y.cells;
     if replay::cells_differ(&a, 0, 1024, &b, 0) {
+        return true;
+    }
+    let a = x.hints;
+    let b = y.hints;
+    if words_differ(&a, &b) {
         return true;
     }
     let a = x.order;

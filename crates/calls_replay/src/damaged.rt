@@ -11,6 +11,7 @@ use finished::Verdict;
 use libc::STDOUT_FILENO;
 use record::Problem;
 use shades::Shaded;
+ghost use Prim.Native.Nat.{_≤_};
 
 // How many damages there are.
 const DAMAGES: usize = 35;
@@ -57,8 +58,22 @@ fn shaded(shaded: Shaded) -> bool {
     replay::number(answer) != 6
 }
 
-// Whether some call on the board is not refused with 6, or changes the board or a lent buffer. A find whose buffer is too short is among
-// them: 6 comes before 11.
+// Whether a find of the player on the board is not refused with 6, or changes the board or the lent buffer.
+fn asked(b: Board, player: u8, size: usize) -> bool
+    requires { ⌜ size ≤ 4096 ⌝ }
+{
+    found(
+        finds::find_differs(b"", 0, 0, b, player, size, 6, Way::Value(1)),
+        b,
+    )
+        || found(
+            finds::find_differs(b"", 0, 0, b, player, size, 6, Way::Lent),
+            b,
+        )
+}
+
+// Whether some call on the board is not refused with 6, or changes the board or a lent buffer. Finds of a player above 3 are among them, and
+// finds whose buffer is too short: 6 comes before 17 and before 11.
 fn accepted(b: Board) -> bool {
     taken(b.decide(1, 1), b)
         || taken(b.undo(), b)
@@ -66,10 +81,10 @@ fn accepted(b: Board) -> bool {
         || taken(boards::undo_lent(b), b)
         || taken(b.decide_all(b""), b)
         || taken(b.decide_all(b"\x80\x01"), b)
-        || found(finds::find_differs(b"", 0, 0, b, 4096, 6, Way::Value(1)), b)
-        || found(finds::find_differs(b"", 0, 0, b, 4096, 6, Way::Lent), b)
-        || found(finds::find_differs(b"", 0, 0, b, 0, 6, Way::Value(1)), b)
-        || found(finds::find_differs(b"", 0, 0, b, 0, 6, Way::Lent), b)
+        || asked(b, 0, 4096)
+        || asked(b, 3, 0)
+        || asked(b, 4, 4096)
+        || asked(b, 255, 0)
         || judged(finished::finished(b))
         || told(certain::certain(b, 0))
         || told(certain::certain(b, 1000))
@@ -80,13 +95,14 @@ fn accepted(b: Board) -> bool {
 fn with_problem(b: Board, problem: Problem) -> Board {
     let cells = b.cells;
     let order = b.order;
+    let hints = b.hints;
     Board {
         problem,
         edition: b.edition,
         cells,
         order,
         decided: b.decided,
-        hints: b.hints,
+        hints,
     }
 }
 

@@ -2,9 +2,9 @@
 // compared with what the list says. Then come boards that no list of calls could leave, which every call must refuse.
 //
 // A list has a head of lines that begin with `#`, an empty line, and entries to its end: u16 length, that many bytes of record, u8 edition, u8
-// refusal of open, and where that is 0 u16 count of hints that the fresh board is handed in with, u16 number of calls, and the calls, with a
-// u16 behind each, the count of hints that the board then has.
-// A call is u8 kind, and for 0 (decide) u16 index, u8 value, u8 refusal; for 1 (undo) u8 refusal; for 2 (find) u16 length of the
+// refusal of open, and where that is 0 the counts of hints that the fresh board is handed in with, u16 number of calls, and the calls, with the
+// counts of hints behind each that the board then has. Counts are four u16, that of player 0 first.
+// A call is u8 kind, and for 0 (decide) u16 index, u8 value, u8 refusal; for 1 (undo) u8 refusal; for 2 (find) u8 player, u16 length of the
 // buffer, u8 refusal, and where that is 0 u16 number of literals (0 for no reason) and the u16 literals; for 3 (cells) a state for
 // each cell. A u16 has its high byte first; a refusal is 0 for none.
 mod boards;
@@ -104,32 +104,33 @@ fn found(b: Board, m: Made, l: Made, expected: usize, end: usize) -> Step {
 fn make_find(list: &[u8], at: usize, b: Board) -> Step
     requires { ⌜ at < length (now list) ⌝ }
 {
-    if list.len() < at + 4 {
+    if list.len() < at + 5 {
         return broken(b);
     }
-    let size = replay::number_at(list, at + 1);
+    let player = list[at + 1];
+    let size = replay::number_at(list, at + 2);
     if 4096 < size {
         return broken(b);
     }
-    let refusal = grid::byte(list[at + 3]);
+    let refusal = grid::byte(list[at + 4]);
     if refusal != 0 {
         return found(
             b,
-            finds::find_differs(list, at + 4, 0, b, size, refusal, Way::Value(1)),
-            finds::find_differs(list, at + 4, 0, b, size, refusal, Way::Lent),
+            finds::find_differs(list, at + 5, 0, b, player, size, refusal, Way::Value(1)),
+            finds::find_differs(list, at + 5, 0, b, player, size, refusal, Way::Lent),
             refusal,
-            at + 4,
+            at + 5,
         );
     }
-    let count = replay::number_at(list, at + 4);
-    let end = at + 6 + 2 * count;
+    let count = replay::number_at(list, at + 5);
+    let end = at + 7 + 2 * count;
     if list.len() < end {
         return broken(b);
     }
     found(
         b,
-        finds::find_differs(list, at + 6, count, b, size, 0, Way::Value(1)),
-        finds::find_differs(list, at + 6, count, b, size, 0, Way::Lent),
+        finds::find_differs(list, at + 7, count, b, player, size, 0, Way::Value(1)),
+        finds::find_differs(list, at + 7, count, b, player, size, 0, Way::Lent),
         0,
         end,
     )
@@ -162,16 +163,18 @@ fn make_call(list: &[u8], at: usize, b: Board) -> Step
     }
 }
 
-// The step, held against the count of hints that stands behind the call in the list.
+// The step, held against the counts of hints that stand behind the call in the list.
 fn counted(list: &[u8], s: Step) -> Step {
     let board = s.board;
-    if list.len() <= s.end {
+    let end = s.end;
+    if list.len() <= end {
         return broken(board);
     }
+    let hints = board.hints;
     Step {
         board,
-        differs: s.differs || grid::wide(board.hints) != replay::number_at(list, s.end),
-        end: s.end + 2,
+        differs: s.differs || replay::numbers_differ(list, end, Board::PLAYERS, &hints, 0),
+        end: end + 2 * Board::PLAYERS,
     }
 }
 
@@ -197,7 +200,20 @@ fn run_calls(list: &[u8], start: usize, calls: usize, fresh: Board) -> Run {
     made
 }
 
-// Opens the record of the entry at `at`, and where it is accepted makes its calls on the board with the count of hints that it is handed in
+// The counts of hints at `at`.
+fn hints_at(list: &[u8], at: usize) -> [u16; Board::PLAYERS]
+    requires { ⌜ at < length (now list) ⌝ }
+{
+    let mut hints = [0u16; Board::PLAYERS];
+    let mut player = 0;
+    while player < Board::PLAYERS {
+        hints[player] = replay::number_at(list, at + 2 * player) as u16;
+        player += 1;
+    }
+    hints
+}
+
+// Opens the record of the entry at `at`, and where it is accepted makes its calls on the board with the counts of hints that it is handed in
 // with.
 fn run_entry(list: &[u8], at: usize) -> Run
     requires { ⌜ at < length (now list) ⌝ }
@@ -213,12 +229,13 @@ fn run_entry(list: &[u8], at: usize) -> Run
     if refusal != 0 {
         return Run::of(replay::number(answer) != refusal, edition + 2);
     }
-    let hints = edition + 2;
-    if list.len() < hints + 4 || replay::number(answer) != 0 {
+    let calls = edition + 2 + 2 * Board::PLAYERS;
+    if list.len() < calls + 2 || replay::number(answer) != 0 {
         return Run::broken();
     }
-    board.hints = replay::number_at(list, hints) as u16;
-    run_calls(list, hints + 4, replay::number_at(list, hints + 2), board)
+    let hints = hints_at(list, edition + 2);
+    board.hints = hints;
+    run_calls(list, calls + 2, replay::number_at(list, calls), board)
 }
 
 // Goes through the entries.

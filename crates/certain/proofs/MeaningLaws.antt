@@ -8,7 +8,7 @@ use mathlib.Core.Path.{_≡_, refl, sym, ap, _∙_, subst}
 use mathlib.Core.Bool.{Bool, true, false, cond}
 use mathlib.Core.List.{List, [], _∷_, List·Memᴰ, List·Memᴰ·head, List·Memᴰ·not-nil}
 use mathlib.Core.Option.{none, some}
-use lib.Dec.{ltb}
+use lib.Dec.{leb, ltb}
 use lib.ListN.{length, getD}
 use Rattle.grid.specs.Grid.{size}
 use Rattle.grid.specs.Cells.{Literal}
@@ -21,7 +21,7 @@ use Rattle.record.proofs.LeafLaws.{ValidLeaf, leaf-valid}
 use Rattle.record.proofs.ProblemLaws.{problem-puzzle}
 use Rattle.board.specs.Board.{Call, cellsAfter, enough}
 use Rattle.board.specs.Calls.{standing, hintsAfter}
-use Rattle.board.specs.Form.{wellFormed}
+use Rattle.board.specs.Form.{Counts, wellFormed}
 use Rattle.board.specs.Hints.{findRefusal}
 use Rattle.board.specs.Kept.{boardOf}
 use Rattle.board.specs.declared.Board.{Board}
@@ -142,7 +142,7 @@ module _ (n budget : ℕ) (r : Reached) where
 
 -- ---- on the board of standing decisions
 
-module _ (l : Leaf) (v : ValidLeaf l) (count : ℕ) (few : count ≤ 65535) {ds : List Literal} (s : Standing (l .puzzle .grid) ds) where
+module _ (l : Leaf) (v : ValidLeaf l) (counts : List ℕ) (few : Counts counts) {ds : List Literal} (s : Standing (l .puzzle .grid) ds) where
   -- the board's cells
   abbrev cells : List ℕ
   cells = cellsAfter (l .puzzle .grid) ds
@@ -164,13 +164,13 @@ module _ (l : Leaf) (v : ValidLeaf l) (count : ℕ) (few : count ≤ 65535) {ds 
   }
 
   -- what is answered is the search's
-  pub answer-is : (budget : ℕ) → certainOf (boardOf l ds count) budget ≡ certainBy (size (l .puzzle .grid)) budget (search l cells)
+  pub answer-is : (budget : ℕ) → certainOf (boardOf l ds counts) budget ≡ certainBy (size (l .puzzle .grid)) budget (search l cells)
   answer-is budget =
-      certain-well (boardOf l ds count) budget (standing-well l v few s)
+      certain-well (boardOf l ds counts) budget (standing-well l v few s)
       ∙ (unfold boardOf problemOf gridOf in ap (certainBy (size (l .puzzle .grid)) budget) search-is)
     where
-      search-is : search (leafOn (boardOf l ds count)) (cellsOn (boardOf l ds count)) ≡ search l cells
-      search-is = rw (cells-on l v count s) (unfold boardOf in rw (problem-puzzle (l .puzzle) (v .puzzle)) refl)
+      search-is : search (leafOn (boardOf l ds counts)) (cellsOn (boardOf l ds counts)) ≡ search l cells
+      search-is = rw (cells-on l v counts s) (unfold boardOf in rw (problem-puzzle (l .puzzle) (v .puzzle)) refl)
 
   true-of : (budget : ℕ) → search l cells .steps ≤ budget → TrueOf (size (l .puzzle .grid)) (Solution l ds) (certainBy (size (l .puzzle .grid)) budget (search l cells))
   true-of budget h =
@@ -181,7 +181,7 @@ module _ (l : Leaf) (v : ValidLeaf l) (count : ℕ) (few : count ≤ 65535) {ds 
       (λ b x i k. x .finished .decided .each i k))
 
   -- so it is answered, and so it is in every field
-  module _ (b : Board) (is : b ≡ boardOf l ds count) where
+  module _ (b : Board) (is : b ≡ boardOf l ds counts) where
     abbrev n : ℕ
     n = size (l .puzzle .grid)
 
@@ -217,7 +217,7 @@ module _ (l : Leaf) (v : ValidLeaf l) (count : ℕ) (few : count ≤ 65535) {ds 
 certain-cells : (s : List ℕ) (e : ℕ) (l : Leaf) → leafOf s e ≡ ok l → (cs : List Call) → CertainCells s e l cs
 certain-cells s e l k cs =
     let v = leaf-valid s e k in
-    let c : ℕ = hintsAfter (l .puzzle) cs in
+    let c : List ℕ = hintsAfter (l .puzzle) cs in
     let few = after-low (l .puzzle) cs in
     let t = calls-standing (l .puzzle .grid) cs in
     let b : Board = boardAfter s e cs in
@@ -241,25 +241,29 @@ module _ (b : Board) (h : wellFormed b ≡ false) where
   unfolding certainOf untold
   certain-6 budget = rw h (refl, refl)
 
-  find-6 : (buffer : List ℕ) → findOf b buffer ≡ finding.Refused 6
+  find-6 : (player : ℕ) (buffer : List ℕ) → findOf b player buffer ≡ finding.Refused 6
   unfolding findOf findRefusal findingBy
-  find-6 buffer = rw h refl
+  find-6 player buffer = rw h refl
 
--- a well-formed one: find refuses it with 11 at most
-find-not-6 : (b : Board) → wellFormed b ≡ true → (buffer : List ℕ) → findOf b buffer ≡ finding.Refused 6 → ⊥
+-- a well-formed one: find refuses it with 17 or 11 at most
+find-not-6 : (b : Board) → wellFormed b ≡ true → (player : ℕ) (buffer : List ℕ) → findOf b player buffer ≡ finding.Refused 6 → ⊥
 unfolding findOf findRefusal
-find-not-6 b h buffer e = go (ltb (length buffer) (enough (gridOf (b .problem)))) (reasonOn b) (rw h at e)
+find-not-6 b h player buffer e = go (leb player 3) (ltb (length buffer) (enough (gridOf (b .problem)))) (reasonOn b) (rw h at e)
   where
-    go : (t : Bool) (f : Found) → findingBy (cond t 11 0) f ≡ finding.Refused 6 → ⊥
-    go true f q = let z : _≡_ {A = ℕ} 11 6 = cc (eleven f q) in omega arith
+    go : (known t : Bool) (f : Found) → findingBy (cond known (cond t 11 0) 17) f ≡ finding.Refused 6 → ⊥
+    go false t f q = let z : _≡_ {A = ℕ} 17 6 = cc (seventeen f q) in omega arith
+      where
+        seventeen : (f : Found) → findingBy 17 f ≡ finding.Refused 6 → finding.Refused 17 ≡ finding.Refused 6
+        seventeen f q = unfold findingBy in q
+    go true true f q = let z : _≡_ {A = ℕ} 11 6 = cc (eleven f q) in omega arith
       where
         eleven : (f : Found) → findingBy 11 f ≡ finding.Refused 6 → finding.Refused 11 ≡ finding.Refused 6
         eleven f q = unfold findingBy in q
-    go false none q = let z : _≡_ {A = ℕ} 0 1 = cc (nothing q) in omega arith
+    go true false none q = let z : _≡_ {A = ℕ} 0 1 = cc (nothing q) in omega arith
       where
         nothing : findingBy 0 none ≡ finding.Refused 6 → finding.Nothing ≡ finding.Refused 6
         nothing q = unfold findingBy in q
-    go false (some r) q = let z : _≡_ {A = ℕ} 0 1 = cc (some-reason q) in omega arith
+    go true false (some r) q = let z : _≡_ {A = ℕ} 0 1 = cc (some-reason q) in omega arith
       where
         some-reason : findingBy 0 (some r) ≡ finding.Refused 6 → finding.Reason (length r) ≡ finding.Refused 6
         some-reason q = unfold findingBy in q
@@ -269,17 +273,17 @@ refused-as-find b = go (split (wellFormed b))
   where
     go : (wellFormed b ≡ true) ⊎ (wellFormed b ≡ false) → RefusedAsFind b
     go (inl h) = record {
-      six = λ budget buffer. (λ e. absurd (never budget 6 e), λ e. absurd (accepts buffer e));
+      six = λ budget player buffer. (λ e. absurd (never budget 6 e), λ e. absurd (accepts player buffer e));
       only = λ budget k e. absurd (never budget k e);
     }
       where
         never : (budget k : ℕ) → certainOf b budget .answer ≡ Refused k → ⊥
         never budget k e = not-refused (size (gridOf (b .problem))) budget (search (leafOn b) (cellsOn b)) k (sym (ap (λ (f : Facts). f .answer) (certain-well b budget h)) ∙ e)
 
-        accepts : (buffer : List ℕ) → findOf b buffer ≡ finding.Refused 6 → ⊥
-        accepts buffer e = find-not-6 b h buffer e
+        accepts : (player : ℕ) (buffer : List ℕ) → findOf b player buffer ≡ finding.Refused 6 → ⊥
+        accepts player buffer e = find-not-6 b h player buffer e
     go (inr h) = record {
-      six = λ budget buffer. (λ _. find-6 b h buffer, λ _. ill budget .0);
+      six = λ budget player buffer. (λ _. find-6 b h player buffer, λ _. ill budget .0);
       only = λ budget k e. (let a = ill budget .0 in cc, ill budget .1);
     }
       where

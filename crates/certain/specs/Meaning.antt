@@ -79,8 +79,8 @@ pub record CertainCells (s : List ℕ) (e : ℕ) (l : Leaf) (cs : List Call) : T
 
 -- any board: "An ill-formed board is refused as by find"
 pub record RefusedAsFind (b : Board) : Type 0 where
-  -- with 6 exactly when find is, whatever the budget and the buffer
-  pub six : (budget : ℕ) (buffer : List ℕ) → (certainOf b budget .answer ≡ Refused 6) ↔ (findOf b buffer ≡ finding.Refused 6)
+  -- with 6 exactly when find is, whatever the budget, the player and the buffer
+  pub six : (budget player : ℕ) (buffer : List ℕ) → (certainOf b budget .answer ≡ Refused 6) ↔ (findOf b player buffer ≡ finding.Refused 6)
   -- with no other number, and no step is counted
   pub only : (budget k : ℕ) → certainOf b budget .answer ≡ Refused k → (k ≡ 6) × (certainOf b budget .steps ≡ 0)
 

@@ -27,12 +27,12 @@ fn verdict_differs(verdict: Verdict, number: usize) -> bool
     }
 }
 
-// Whether find or finished on the board differs from the list from `at` on. The whole buffer is lent.
+// Whether find or finished on the board differs from the list from `at` on. Player 0 finds, and the whole buffer is lent.
 fn board_differs(list: &[u8], rounds: usize, at: usize, count: usize, board: Board) -> bool
     requires { ⌜ at + 2 * count < length (now list) ⌝ }
     ensures { λ r. ⌜ DiffersUnless r (BoardSo board (now (list .entry)) at count) ⌝ }
 {
-    finds::find_differs(list, at, count, board, 4096, 0, Way::Value(rounds)).differs
+    finds::find_differs(list, at, count, board, 0, 4096, 0, Way::Value(rounds)).differs
         || verdict_differs(
             finished::finished(board),
             replay::byte_at(list, at + 2 * count),

@@ -58,28 +58,28 @@ module _ {f : Finding} where
   )
 
 -- the board after a find that was lent so many first places
-pub left-board : (b : Board) (size : ℕ) (fresh : List ℕ) {r : Board} → size ≤ length fresh → r ≡ afterFind b (length (take size fresh)) → r ≡ afterFind b size
-left-board b size fresh h e = e ∙ ap (afterFind b) (length-take-le size fresh h)
+pub left-board : (b : Board) (q size : ℕ) (fresh : List ℕ) {r : Board} → size ≤ length fresh → r ≡ afterFind b q (length (take size fresh)) → r ≡ afterFind b q size
+left-board b q size fresh h e = e ∙ ap (afterFind b q) (length-take-le size fresh h)
 
-module _ (b : Board) (size refusal count : ℕ) (said : ℕ → ℕ) (fresh : List ℕ) (e : fresh ≡ replicate 4096 65535) (f : Finding) (g : f ≡ findOf b (take size fresh)) (t : Bool) (w : DiffersUnless t (f ≡ findingOf refusal count)) where
+module _ (b : Board) (q size refusal count : ℕ) (said : ℕ → ℕ) (fresh : List ℕ) (e : fresh ≡ replicate 4096 65535) (f : Finding) (g : f ≡ findOf b q (take size fresh)) (t : Bool) (w : DiffersUnless t (f ≡ findingOf refusal count)) where
   -- what find answered with the part of the fresh buffer
-  answered : f ≡ findOf b (lent size)
+  answered : f ≡ findOf b q (lent size)
   unfolding lent
   answered = rw e at g
 
   -- the answer alone, told apart from the one that is said
-  answer-told : DiffersUnless t (findOf b (lent size) ≡ findingOf refusal count)
+  answer-told : DiffersUnless t (findOf b q (lent size) ≡ findingOf refusal count)
   answer-told = same-differs (λ h. sym answered ∙ h) (λ h. answered ∙ h) t w
 
   -- another answer than the one that is said
-  pub other-answer : t ≡ true → FindsSo b size refusal count said → ⊥
-  other-answer q s = answer-told .1 q (s .0)
+  pub other-answer : t ≡ true → FindsSo b q size refusal count said → ⊥
+  other-answer h s = answer-told .1 h (s .0)
 
   -- the answer that is said: then the buffer decides
-  pub this-answer : t ≡ false → (r : Bool) → r ≡ differs (bufferAfter b (take size fresh) ++ drop size fresh) said 0 → DiffersUnless r (FindsSo b size refusal count said)
-  this-answer q r d =
-      let h : r ≡ differs (left b size) said 0 = unfold left lent in rw e at d in
-      then-differs (answer-told .0 q) r (test-told _ r h)
+  pub this-answer : t ≡ false → (r : Bool) → r ≡ differs (bufferAfter b q (take size fresh) ++ drop size fresh) said 0 → DiffersUnless r (FindsSo b q size refusal count said)
+  this-answer k r d =
+      let h : r ≡ differs (left b q size) said 0 = unfold left lent in rw e at d in
+      then-differs (answer-told .0 k) r (test-told _ r h)
 
 -- a buffer after the literals were written to it once more
 written-again : (k : ℕ) (f : Found) (buffer : List ℕ) → bufferBy k f (bufferBy k f buffer) ≡ bufferBy k f buffer
@@ -89,13 +89,13 @@ written-again zero (some r) buffer = rw (drop-at (map word r) (drop (length r) b
 written-again (suc k) f buffer = refl
 
 -- a find in a buffer that a find has left, which is as long as before
-module _ (b : Board) (buffer left : List ℕ) (e : left ≡ bufferAfter b buffer) (l : length left ≡ length buffer) where
+module _ (b : Board) (q : ℕ) (buffer left : List ℕ) (e : left ≡ bufferAfter b q buffer) (l : length left ≡ length buffer) where
   -- it answers the same
-  pub find-again : findOf b left ≡ findOf b buffer
+  pub find-again : findOf b q left ≡ findOf b q buffer
   unfolding findOf
   find-again = rw l
 
   -- it leaves the same
-  pub buffer-again : bufferAfter b left ≡ left
+  pub buffer-again : bufferAfter b q left ≡ left
   unfolding bufferAfter
-  buffer-again = rw (l, e) (written-again (findRefusal b (length buffer)) (reasonOn b) buffer)
+  buffer-again = rw (l, e) (written-again (findRefusal b q (length buffer)) (reasonOn b) buffer)

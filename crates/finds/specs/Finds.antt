@@ -21,10 +21,10 @@ findingOf (suc k) n = Refused (suc k)
 unfoldable pub lent : ℕ → List ℕ
 lent n = take n (replicate 4096 65535)
 
--- a fresh buffer after a find that was lent its first places
-unfoldable pub left : Board → ℕ → List ℕ
-left b n = bufferAfter b (lent n) ++ drop n (replicate 4096 65535)
+-- a fresh buffer after a find of player q that was lent its first places
+unfoldable pub left : Board → ℕ → ℕ → List ℕ
+left b q n = bufferAfter b q (lent n) ++ drop n (replicate 4096 65535)
 
--- find, lent so many first places of a fresh buffer, gives the answer for a refusal and a count, and leaves in each place of the buffer what is said for it
-abbrev pub FindsSo : Board → ℕ → ℕ → ℕ → (ℕ → ℕ) → Type 0
-FindsSo b size refusal count said = (findOf b (lent size) ≡ findingOf refusal count) × (differs (left b size) said 0 ≡ false)
+-- find of player q, lent so many first places of a fresh buffer, gives the answer for a refusal and a count, and leaves in each place of the buffer what is said for it
+abbrev pub FindsSo : Board → ℕ → ℕ → ℕ → ℕ → (ℕ → ℕ) → Type 0
+FindsSo b q size refusal count said = (findOf b q (lent size) ≡ findingOf refusal count) × (differs (left b q size) said 0 ≡ false)

@@ -25,16 +25,16 @@ fn finding_differs(found: Finding, refusal: usize, count: usize) -> bool
 
 // Finds this many times and at least once, each time on the same board and in the same buffer; the last answer, which is that of the first,
 // with the board that the first left.
-fn find_in_rounds(rounds: usize, board: Board, buffer: &mut [u16]) -> Asked
-    ensures { λ r. ⌜ (r .finding ≡ findOf board (now (buffer .entry))) × (r .board ≡ afterFind board (length (now (buffer .entry))))
-        × (now (buffer .exit) ≡ bufferAfter board (now (buffer .entry))) ⌝ }
+fn find_in_rounds(rounds: usize, board: Board, player: u8, buffer: &mut [u16]) -> Asked
+    ensures { λ r. ⌜ (r .finding ≡ findOf board player (now (buffer .entry))) × (r .board ≡ afterFind board player (length (now (buffer .entry))))
+        × (now (buffer .exit) ≡ bufferAfter board player (now (buffer .entry))) ⌝ }
 {
-    let first = reasons::find(board, buffer);
+    let first = reasons::find(board, player, buffer);
     let mut found = first.finding;
     let left = first.board;
     let mut i = 1;
     while i < rounds {
-        found = reasons::find(board, buffer).finding;
+        found = reasons::find(board, player, buffer).finding;
         i += 1;
     }
     Asked {
@@ -44,12 +44,12 @@ fn find_in_rounds(rounds: usize, board: Board, buffer: &mut [u16]) -> Asked
 }
 
 // `find` on a lent board: what it answers, with the board that it leaves.
-fn find_lent(board: Board, buffer: &mut [u16]) -> Asked
-    ensures { λ r. ⌜ (r .finding ≡ findOf board (now (buffer .entry))) × (r .board ≡ afterFind board (length (now (buffer .entry))))
-        × (now (buffer .exit) ≡ bufferAfter board (now (buffer .entry))) ⌝ }
+fn find_lent(board: Board, player: u8, buffer: &mut [u16]) -> Asked
+    ensures { λ r. ⌜ (r .finding ≡ findOf board player (now (buffer .entry))) × (r .board ≡ afterFind board player (length (now (buffer .entry))))
+        × (now (buffer .exit) ≡ bufferAfter board player (now (buffer .entry))) ⌝ }
 {
     let mut lent = board;
-    let finding = lent::find_in(&mut lent, buffer);
+    let finding = lent::find_in(&mut lent, player, buffer);
     Asked {
         finding,
         board: lent,
@@ -63,13 +63,13 @@ pub enum Way {
 }
 
 // Finds in this way.
-fn find(way: Way, board: Board, buffer: &mut [u16]) -> Asked
-    ensures { λ r. ⌜ (r .finding ≡ findOf board (now (buffer .entry))) × (r .board ≡ afterFind board (length (now (buffer .entry))))
-        × (now (buffer .exit) ≡ bufferAfter board (now (buffer .entry))) ⌝ }
+fn find(way: Way, board: Board, player: u8, buffer: &mut [u16]) -> Asked
+    ensures { λ r. ⌜ (r .finding ≡ findOf board player (now (buffer .entry))) × (r .board ≡ afterFind board player (length (now (buffer .entry))))
+        × (now (buffer .exit) ≡ bufferAfter board player (now (buffer .entry))) ⌝ }
 {
     match way {
-        Way::Value(rounds) => find_in_rounds(rounds, board, buffer),
-        Way::Lent => find_lent(board, buffer),
+        Way::Value(rounds) => find_in_rounds(rounds, board, player, buffer),
+        Way::Lent => find_lent(board, player, buffer),
     }
 }
 
@@ -79,23 +79,24 @@ pub struct Made {
     pub board: Board,
 }
 
-// Makes a find on the board, with `size` places lent: whether it differs from this refusal and the literals of the list from `at` on, and
+// Makes a find of the player on the board, with `size` places lent: whether it differs from this refusal and the literals of the list from `at` on, and
 // the board that it leaves.
 pub fn find_differs(
     list: &[u8],
     at: usize,
     count: usize,
     board: Board,
+    player: u8,
     size: usize,
     refusal: usize,
     way: Way,
 ) -> Made
     requires { ⌜ (at ≤ length (now list)) × (size ≤ 4096) ⌝ }
-    ensures { λ r. ⌜ (r .board ≡ afterFind board size)
-        × DiffersUnless (r .differs) (FindsSo board size refusal count (numberIn (now (list .entry)) at count 65535)) ⌝ }
+    ensures { λ r. ⌜ (r .board ≡ afterFind board player size)
+        × DiffersUnless (r .differs) (FindsSo board player size refusal count (numberIn (now (list .entry)) at count 65535)) ⌝ }
 {
     let mut buffer = replay::fresh_buffer();
-    let asked = find(way, board, &mut buffer[..size]);
+    let asked = find(way, board, player, &mut buffer[..size]);
     let found = asked.finding;
     let left = asked.board;
     if finding_differs(found, refusal, count) {

@@ -6,7 +6,7 @@ use mathlib.Core.Path.{_≡_, refl, sym, ap, _∙_}
 use mathlib.Core.Bool.{Bool, true, false, cond}
 use mathlib.Core.List.{List, [], _∷_}
 use lib.Dec.{eqb}
-use lib.ListN.{take}
+use lib.ListN.{length, take}
 use borrow.Author.Tests.{le-leb, lt-leb}
 use Rattle.grid.specs.Grid.{Grid, size}
 use Rattle.grid.specs.Side.{sized}
@@ -21,29 +21,26 @@ use Rattle.record.proofs.LeafLaws.{ValidLeaf}
 use Rattle.grid.specs.Cells.{Literal}
 use Rattle.board.specs.Board.{decide, after, refusal, enough}
 use Rattle.board.specs.Form.{wellFormed}
-use Rattle.board.specs.Kept.{boardOf, opening, openOf}
-use Rattle.board.specs.Decide.{withDecisions, decideRefusal, decideOf, answered, refusedWith, onward, placed, placedFrom, allPlaced}
+use Rattle.board.specs.Kept.{noHints, boardOf, opening, openOf}
+use Rattle.board.specs.Decide.{withDecisions, decideRefusal, decideOf, answered, refusedWith, onward, placed, placedFrom, allPlaced, decideAllOf}
 use Rattle.board.specs.declared.Board.{Board}
 use Rattle.board.specs.declared.Decided.{Decided}
 use Rattle.board.specs.declared.Opened.{Opened}
+use Rattle.board.proofs.HintLaws.{no-hints}
 use Rattle.board.proofs.Standing.{Standing, none, after-standing}
 use Rattle.board.proofs.CallLaws.{standing-well, decide-number, decide-left}
 use Rattle.kinds.specs.Inside.{puzzleWith}
 use Rattle.reasons.specs.Reasons.{findReason, findOn}
 use Rattle.groups.specs.Arrays.{linesOf}
-use Rattle.reasons.specs.Find.{cellsOn, reasonOn}
+use Rattle.reasons.specs.Find.{cellsOn, reasonOn, answerOn}
 use Rattle.reasons.proofs.BoardArrays.{codes-aside}
-use Rattle.reasons.proofs.Demand3.{reason-on}
+use Rattle.reasons.proofs.Demand3.{reason-on, long-answer}
 use Rattle.host.specs.Host.{acceptOr, decideBytes, hostCall, hostFinds, Opens}
-
--- the call's own board has no hint counted
-pub none-counted : 0 ≤ 65535
-none-counted = omega arith
 
 -- the board's answer to a list of decisions, by the machine's
 unfoldable pub decidedBy : Board → Leaf → Outcome (List Literal) → Decided
 decidedBy b₀ l (refused k) = refusedWith k b₀
-decidedBy b₀ l (ok ds) = record { answer = Done; board = boardOf l ds 0 }
+decidedBy b₀ l (ok ds) = record { answer = Done; board = boardOf l ds noHints }
 
 module _ (l : Leaf) (v : ValidLeaf l) (b₀ : Board) where
   -- one decision: a refusal ends the list, and otherwise it goes on with the next board
@@ -54,21 +51,21 @@ module _ (l : Leaf) (v : ValidLeaf l) (b₀ : Board) where
   one (suc k) b next rest onto e = refl
 
   -- a list of decisions on the machine's board
-  pub decided-bytes : (bytes : List ℕ) {ds : List Literal} → Standing (l .puzzle .grid) ds → allPlaced b₀ (placedFrom (boardOf l ds 0) bytes) ≡ decidedBy b₀ l (decideBytes (l .puzzle .grid) ds bytes)
+  pub decided-bytes : (bytes : List ℕ) {ds : List Literal} → Standing (l .puzzle .grid) ds → allPlaced b₀ (placedFrom (boardOf l ds noHints) bytes) ≡ decidedBy b₀ l (decideBytes (l .puzzle .grid) ds bytes)
   unfolding placedFrom decideBytes
   decided-bytes [] s = unfold decidedBy onward in refl
   decided-bytes (a ∷ []) s = unfold decidedBy onward refusedWith in refl
   decided-bytes (a ∷ b ∷ rest) {ds} s =
       go (eqb ((a * 256 + b) % 32768 / 1024) 0) ((a * 256 + b) % 1024) ((a * 256 + b) / 32768) (λ (es : List Literal) (t : Standing (l .puzzle .grid) es). decided-bytes rest t)
     where
-      go : (t : Bool) (i x : ℕ) → ((es : List Literal) → Standing (l .puzzle .grid) es → allPlaced b₀ (placedFrom (boardOf l es 0) rest) ≡ decidedBy b₀ l (decideBytes (l .puzzle .grid) es rest))
-          → allPlaced b₀ (cond t (onward (decideOf (boardOf l ds 0) i x .answer) (boardOf l ds 0) (placedFrom (decideOf (boardOf l ds 0) i x .board) rest)) (refusedWith 12 (boardOf l ds 0)))
+      go : (t : Bool) (i x : ℕ) → ((es : List Literal) → Standing (l .puzzle .grid) es → allPlaced b₀ (placedFrom (boardOf l es noHints) rest) ≡ decidedBy b₀ l (decideBytes (l .puzzle .grid) es rest))
+          → allPlaced b₀ (cond t (onward (decideOf (boardOf l ds noHints) i x .answer) (boardOf l ds noHints) (placedFrom (decideOf (boardOf l ds noHints) i x .board) rest)) (refusedWith 12 (boardOf l ds noHints)))
           ≡ decidedBy b₀ l (cond t (acceptOr (refusal (l .puzzle .grid) (decide i x) ds) (decideBytes (l .puzzle .grid) (after (l .puzzle .grid) (decide i x) ds) rest)) (refused 12))
       go false i x next = unfold decidedBy onward refusedWith in refl
       go true i x next =
-          rw (decide-left l v none-counted s i x, ← decide-number l v none-counted s i x)
-          (unfold decideOf in one (decideRefusal (boardOf l ds 0) i x) (boardOf l ds 0) (placed (boardOf l ds 0) i x) (decideBytes (l .puzzle .grid) (after (l .puzzle .grid) (decide i x) ds) rest)
-          (placedFrom (boardOf l (after (l .puzzle .grid) (decide i x) ds) 0) rest) (next (after (l .puzzle .grid) (decide i x) ds) (after-standing (l .puzzle .grid) (decide i x) s)))
+          rw (decide-left l v no-hints s i x, ← decide-number l v no-hints s i x)
+          (unfold decideOf in one (decideRefusal (boardOf l ds noHints) i x) (boardOf l ds noHints) (placed (boardOf l ds noHints) i x) (decideBytes (l .puzzle .grid) (after (l .puzzle .grid) (decide i x) ds) rest)
+          (placedFrom (boardOf l (after (l .puzzle .grid) (decide i x) ds) noHints) rest) (next (after (l .puzzle .grid) (decide i x) ds) (after-standing (l .puzzle .grid) (decide i x) s)))
 
 -- the decisions that are accepted stand
 pub bytes-standing : (g : Grid) (bytes : List ℕ) {ds es : List Literal} → Standing g ds → decideBytes g ds bytes ≡ ok es → Standing g es
@@ -118,7 +115,7 @@ open-done s o e f = sym e ∙ ap (λ (a : Answer). record { answer = a; board = 
 pub record OpensAs (s : List ℕ) (b : Board) : Type 0 where
   pub puzzle : Puzzle
   pub reads : readRecord s ≡ ok puzzle
-  pub fresh : b ≡ boardOf (inEdition 1 puzzle) [] 0
+  pub fresh : b ≡ boardOf (inEdition 1 puzzle) [] noHints
 
 pub opens-as : (s : List ℕ) (b : Board) → Opens s b → OpensAs s b
 unfolding openOf opening leafOf isEdition unless _>>=_
@@ -128,7 +125,7 @@ opens-as s b e = go (readRecord s) refl e
     go (refused m) q f = let g = ap (λ (o : Opened). o .answer) f in let z : _≡_ {A = ℕ} 0 1 = cc in absurd (omega arith)
     go (ok p) q f = record { puzzle = p; reads = q; fresh = sym (ap (λ (o : Opened). o .board) f) }
 
-module _ (s : List ℕ) {p : Puzzle} (reads : readRecord s ≡ ok p) {b : Board} (fresh : b ≡ boardOf (inEdition 1 p) [] 0) where
+module _ (s : List ℕ) {p : Puzzle} (reads : readRecord s ≡ ok p) {b : Board} (fresh : b ≡ boardOf (inEdition 1 p) [] noHints) where
   pub opens-valid : Valid p
   opens-valid = record-valid s reads
 
@@ -152,21 +149,21 @@ module _ (s : List ℕ) {p : Puzzle} (reads : readRecord s ≡ ok p) {b : Board}
 
   -- the board is well formed
   pub opens-well : wellFormed b ≡ true
-  opens-well = rw fresh (standing-well (inEdition 1 p) opens-leaf none-counted none)
+  opens-well = rw fresh (standing-well (inEdition 1 p) opens-leaf no-hints none)
 
   -- the board's list of decisions answers as the machine does
   all-decided : (decisions : List ℕ) → allPlaced b (placedFrom b decisions) ≡ decidedBy b (inEdition 1 p) (decideBytes (p .grid) [] decisions)
-  all-decided decisions = rw fresh (decided-bytes (inEdition 1 p) opens-leaf (boardOf (inEdition 1 p) [] 0) decisions none)
+  all-decided decisions = rw fresh (decided-bytes (inEdition 1 p) opens-leaf (boardOf (inEdition 1 p) [] noHints) decisions none)
 
   -- where all of them are accepted, the board that is left is the machine's
   pub left-standing : (decisions : List ℕ) (a : Answer) (left : Board) → placedFrom b decisions ≡ record { answer = a; board = left } → a ≡ Done
-      → (ds : List Literal) × Standing (p .grid) ds × (left ≡ boardOf (inEdition 1 p) ds 0) × (decideBytes (p .grid) [] decisions ≡ ok ds)
+      → (ds : List Literal) × Standing (p .grid) ds × (left ≡ boardOf (inEdition 1 p) ds noHints) × (decideBytes (p .grid) [] decisions ≡ ok ds)
   unfolding onward decidedBy refusedWith
   left-standing decisions a left e f =
       go (decideBytes (p .grid) [] decisions) refl (sym (ap (λ (x : Answer). allPlaced b (record { answer = x; board = left })) f) ∙ sym (ap (allPlaced b) e) ∙ all-decided decisions)
     where
       go : (r : Outcome (List Literal)) → decideBytes (p .grid) [] decisions ≡ r → _≡_ {A = Decided} (record { answer = Done; board = left }) (decidedBy b (inEdition 1 p) r)
-          → (ds : List Literal) × Standing (p .grid) ds × (left ≡ boardOf (inEdition 1 p) ds 0) × (decideBytes (p .grid) [] decisions ≡ ok ds)
+          → (ds : List Literal) × Standing (p .grid) ds × (left ≡ boardOf (inEdition 1 p) ds noHints) × (decideBytes (p .grid) [] decisions ≡ ok ds)
       go (refused m) q g = let a = ap (λ (d : Decided). d .answer) g in let z : _≡_ {A = ℕ} 0 1 = cc in absurd (omega arith)
       go (ok ds) q g = (ds, bytes-standing (p .grid) decisions none q, ap (λ (d : Decided). d .board) g, q)
 
@@ -176,7 +173,7 @@ module _ {A : Type 0} (need : Grid → ℕ) (says : Puzzle → List Literal → 
   unfolding _>>=_
   call-unread s o e f decisions n = rw (record-refused s o e f) refl
 
-  module _ (s : List ℕ) {p : Puzzle} (reads : readRecord s ≡ ok p) {b : Board} (fresh : b ≡ boardOf (inEdition 1 p) [] 0) (decisions : List ℕ) (n : ℕ) where
+  module _ (s : List ℕ) {p : Puzzle} (reads : readRecord s ≡ ok p) {b : Board} (fresh : b ≡ boardOf (inEdition 1 p) [] noHints) (decisions : List ℕ) (n : ℕ) where
     -- an output that is too short
     pub call-short : n < need (p .grid) → hostCall need says s decisions n ≡ refused 11
     unfolding _>>=_ unless
@@ -200,7 +197,7 @@ module _ {A : Type 0} (need : Grid → ℕ) (says : Puzzle → List Literal → 
           go (ok ds) q = let a = ap (λ (d : Decided). d .answer) q in let z : _≡_ {A = ℕ} 0 1 = cc in absurd (omega arith)
 
       -- all are accepted: the call says what it says of the board that is left
-      pub call-done : a ≡ Done → (v : A) → ((ds : List Literal) → Standing (p .grid) ds → left ≡ boardOf (inEdition 1 p) ds 0 → says p ds ≡ v) → hostCall need says s decisions n ≡ ok v
+      pub call-done : a ≡ Done → (v : A) → ((ds : List Literal) → Standing (p .grid) ds → left ≡ boardOf (inEdition 1 p) ds noHints → says p ds ≡ v) → hostCall need says s decisions n ≡ ok v
       unfolding _>>=_
       call-done f v said =
           let x = left-standing s reads fresh decisions a left e f in
@@ -213,7 +210,7 @@ pub open-refused : (s : List ℕ) (o : Opened) {k : ℕ} → o ≡ openOf s 1 �
 unfolding hostFinds
 open-refused s o e f decisions n = call-unread (λ g. 2 * enough g) (λ p. findOn (inEdition 1 p)) s o e f decisions n
 
-module _ (s : List ℕ) {p : Puzzle} (reads : readRecord s ≡ ok p) {b : Board} (fresh : b ≡ boardOf (inEdition 1 p) [] 0) (decisions : List ℕ) (n : ℕ) where
+module _ (s : List ℕ) {p : Puzzle} (reads : readRecord s ≡ ok p) {b : Board} (fresh : b ≡ boardOf (inEdition 1 p) [] noHints) (decisions : List ℕ) (n : ℕ) where
   -- an output that is too short
   pub output-short : n < 2 * (3 * (b .problem .height * b .problem .width) + 1) → hostFinds s decisions n ≡ refused 11
   unfolding hostFinds enough
@@ -231,4 +228,20 @@ module _ (s : List ℕ) {p : Puzzle} (reads : readRecord s ≡ ok p) {b : Board}
     unfolding hostFinds enough
     decisions-done f =
         call-done (λ g. 2 * enough g) (λ p. findOn (inEdition 1 p)) s reads fresh decisions n a left e (rw (opens-size s reads fresh) at h) f (reasonOn left)
-        (λ ds t z. rw z (sym (reason-on (inEdition 1 p) (opens-leaf s reads fresh) 0 t)))
+        (λ ds t z. rw z (sym (reason-on (inEdition 1 p) (opens-leaf s reads fresh) noHints t)))
+
+  -- the call finds as player 0: with its decisions accepted it says what find answers that player on the board that is left
+  module _ (buffer : List ℕ) (k : enough (p .grid) ≤ length buffer) (h : 2 * enough (p .grid) ≤ n) where
+    pub as-player-0 : decideAllOf b decisions .answer ≡ Done → hostFinds s decisions n ≡ answerOn (decideAllOf b decisions .board) 0 buffer
+    unfolding hostFinds decideAllOf decidedBy refusedWith
+    as-player-0 done = rw (opens-well s reads fresh, all-decided s reads fresh decisions) (go (decideBytes (p .grid) [] decisions) refl (rw (opens-well s reads fresh, all-decided s reads fresh decisions) at done))
+      where
+        l : Leaf
+        l = inEdition 1 p
+
+        go : (r : Outcome (List Literal)) → decideBytes (p .grid) [] decisions ≡ r → decidedBy b l r .answer ≡ Done
+            → hostCall (λ g. 2 * enough g) (λ p. findOn (inEdition 1 p)) s decisions n ≡ answerOn (decidedBy b l r .board) 0 buffer
+        go (refused m) q e = let z : _≡_ {A = ℕ} 0 1 = cc in absurd (omega arith)
+        go (ok ds) q e =
+            call-long (λ g. 2 * enough g) (λ p. findOn (inEdition 1 p)) s reads fresh decisions n h ∙ unfold _>>=_ in
+            rw q (sym (long-answer l (opens-leaf s reads fresh) no-hints (bytes-standing (p .grid) decisions none q) 0 (omega arith) buffer k))

@@ -16,11 +16,12 @@ use Rattle.record.proofs.ProblemLaws.{problem-puzzle}
 use Rattle.record.proofs.RecordLaws.{record-valid}
 use Rattle.record.proofs.LeafLaws.{ValidLeaf}
 use Rattle.board.specs.Board.{cellsAfter}
-use Rattle.board.specs.Kept.{boardOf, openOf}
+use Rattle.board.specs.Kept.{noHints, boardOf, openOf}
 use Rattle.board.specs.Decide.{refusedWith, decideAllOf}
 use Rattle.board.specs.declared.Board.{Board}
 use Rattle.board.specs.declared.Decided.{Decided}
 use Rattle.board.specs.declared.Opened.{Opened}
+use Rattle.board.proofs.HintLaws.{no-hints}
 use Rattle.board.proofs.Standing.{Standing, none, cells-valid}
 use Rattle.board.proofs.CallLaws.{standing-well}
 use Rattle.reasons.proofs.Demand3.{cells-on}
@@ -30,7 +31,7 @@ use Rattle.finished.proofs.FinishedLaws.{finished-means}
 use Rattle.host.specs.Host.{decideBytes, Opens}
 use Rattle.host.specs.Inside.{verdictNumber, judgedOn, judgedBy}
 use Rattle.host.specs.Judged.{hostFinished, judged, FinishedBy}
-use Rattle.host.proofs.HostLaws.{none-counted, decidedBy, decided-bytes, bytes-standing, record-refused, opens-as, opens-leaf}
+use Rattle.host.proofs.HostLaws.{decidedBy, decided-bytes, bytes-standing, record-refused, opens-as, opens-leaf}
 
 -- the decisions are accepted, or one is refused
 pub done-judged : (d : Decided) → d .answer ≡ Done → verdictNumber (finishedOf (d .board)) ≡ judgedBy d
@@ -47,23 +48,23 @@ verdict-number true = refl
 verdict-number false = refl
 
 -- on the board of standing decisions
-finished-on : (l : Leaf) → ValidLeaf l → {ds : List Literal} → Standing (l .puzzle .grid) ds → finishedOf (boardOf l ds 0) ≡ verdict (finishedTest l (cellsAfter (l .puzzle .grid) ds))
+finished-on : (l : Leaf) → ValidLeaf l → {ds : List Literal} → Standing (l .puzzle .grid) ds → finishedOf (boardOf l ds noHints) ≡ verdict (finishedTest l (cellsAfter (l .puzzle .grid) ds))
 unfolding finishedOf boardOf
-finished-on l v {ds} s = rw (standing-well l v none-counted s, cells-on l v 0 s, problem-puzzle (l .puzzle) (v .puzzle)) refl
+finished-on l v {ds} s = rw (standing-well l v no-hints s, cells-on l v noHints s, problem-puzzle (l .puzzle) (v .puzzle)) refl
 
 -- what the decisions leave, by the outcome of their bytes
 judged-decided : (l : Leaf) → ValidLeaf l → (decisions : List ℕ) (r : Outcome (List Literal)) → decideBytes (l .puzzle .grid) [] decisions ≡ r
-    → judgedBy (decidedBy (boardOf l [] 0) l r) ≡ judged (r >>= λ ds. ok (finishedTest l (cellsAfter (l .puzzle .grid) ds)))
+    → judgedBy (decidedBy (boardOf l [] noHints) l r) ≡ judged (r >>= λ ds. ok (finishedTest l (cellsAfter (l .puzzle .grid) ds)))
 unfolding decidedBy refusedWith judgedBy judgedOn judged _>>=_
 judged-decided l v decisions (refused k) q = refl
 judged-decided l v decisions (ok ds) q = rw (finished-on l v (bytes-standing (l .puzzle .grid) decisions none q)) (verdict-number (finishedTest l (cellsAfter (l .puzzle .grid) ds)))
 
 -- on a fresh board
 judged-fresh : (l : Leaf) → ValidLeaf l → (decisions : List ℕ)
-    → judgedBy (decideAllOf (boardOf l [] 0) decisions) ≡ judged (decideBytes (l .puzzle .grid) [] decisions >>= λ ds. ok (finishedTest l (cellsAfter (l .puzzle .grid) ds)))
+    → judgedBy (decideAllOf (boardOf l [] noHints) decisions) ≡ judged (decideBytes (l .puzzle .grid) [] decisions >>= λ ds. ok (finishedTest l (cellsAfter (l .puzzle .grid) ds)))
 unfolding decideAllOf
 judged-fresh l v decisions =
-    rw (standing-well l v none-counted none, decided-bytes l v (boardOf l [] 0) decisions none) (judged-decided l v decisions (decideBytes (l .puzzle .grid) [] decisions) refl)
+    rw (standing-well l v no-hints none, decided-bytes l v (boardOf l [] noHints) decisions none) (judged-decided l v decisions (decideBytes (l .puzzle .grid) [] decisions) refl)
 
 -- what comes after an accepted record
 pub judged-open : (s : List ℕ) (b : Board) → Opens s b → (decisions : List ℕ) → judgedBy (decideAllOf b decisions) ≡ judged (hostFinished s decisions)

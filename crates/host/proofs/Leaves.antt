@@ -83,15 +83,17 @@ pub starred :
 unfolding range upto filter any all last init tail flatMap member once size cellsOf row col only up down left right neighbours touches rename join joinAll edges labels group names _>>=_ unless bit number field cellCodes there stepFrom stepCells arrowAt filler arrowsAt readRecord valueAt cellsAfter empty square undecided potential decided after afterAll isFloating isIn isNeighbour kindTouching onArrow arrowBlock blocksTouched kindAt kindsOf has viewWith view block floatNear inReach reach disturbing fenceAt fence orElse reasonIf firstOf each reason1At reason1 appended breadthFirst parent path reason2At reason2 pairsFrom pairs fits mostApart blockName reasonGrow reason3At gap reasonShrink reason4At reason4aAt reason4bAt reason34 findReason
 starred = refl
 
--- S: index 3 gives 7, cell 0 twice 9; find with 9 literals gives 11, with 10 not
+-- S: index 3 gives 7, cell 0 twice 9; find with 9 literals gives 11, with 10 not, and player 4 is given 17 with either
 pub refusals :
     _≡_ {A = List (Outcome ℕ)}
     (refusalAfter (S 0xE0) [] (decide 3 1)
     ∷ refusalAfter (S 0xE0) (decide 0 1 ∷ []) (decide 0 1)
-    ∷ refusalAfter (S 0xE0) [] (find 9)
-    ∷ refusalAfter (S 0xE0) [] (find 10)
+    ∷ refusalAfter (S 0xE0) [] (find 0 9)
+    ∷ refusalAfter (S 0xE0) [] (find 3 10)
+    ∷ refusalAfter (S 0xE0) [] (find 4 9)
+    ∷ refusalAfter (S 0xE0) [] (find 4 10)
     ∷ [])
-    (ok 7 ∷ ok 9 ∷ ok 11 ∷ ok 0 ∷ [])
+    (ok 7 ∷ ok 9 ∷ ok 11 ∷ ok 0 ∷ ok 17 ∷ ok 17 ∷ [])
 unfolding any member size col only right _>>=_ unless bit number field cellCodes there stepFrom stepCells arrowAt filler arrowsAt readRecord decided after refusal afterAll enough
 refusals = refl
 

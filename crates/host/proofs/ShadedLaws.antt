@@ -17,7 +17,7 @@ use Rattle.record.specs.declared.Answer.{Answer}
 use Rattle.record.specs.declared.Answer.the-variants.{Done, Refused}
 use Rattle.record.proofs.LeafLaws.{ValidLeaf}
 use Rattle.board.specs.Board.{cellsAfter}
-use Rattle.board.specs.Kept.{boardOf, openOf}
+use Rattle.board.specs.Kept.{noHints, boardOf, openOf}
 use Rattle.board.specs.Decide.{withDecisions, placedFrom}
 use Rattle.board.specs.declared.Board.{Board}
 use Rattle.board.specs.declared.Opened.{Opened}
@@ -56,11 +56,11 @@ on-arrays : (b : Board) (cells order : List ℕ) (decided : ℕ) → shadedOn (w
 unfolding gridOf cellsOn size
 on-arrays b cells order decided = refl
 
-on-machine : (p : Puzzle) → ValidLeaf (inEdition 1 p) → {ds : List Literal} → Standing (p .grid) ds → says p ds ≡ shadedOn (boardOf (inEdition 1 p) ds 0)
+on-machine : (p : Puzzle) → ValidLeaf (inEdition 1 p) → {ds : List Literal} → Standing (p .grid) ds → says p ds ≡ shadedOn (boardOf (inEdition 1 p) ds noHints)
 unfolding boardOf problemOf gridOf
-on-machine p v {ds} t = rw (cells-on (inEdition 1 p) v 0 t) refl
+on-machine p v {ds} t = rw (cells-on (inEdition 1 p) v noHints t) refl
 
-module _ (s : List ℕ) {p : Puzzle} (reads : readRecord s ≡ ok p) {b : Board} (fresh : b ≡ boardOf (inEdition 1 p) [] 0) (decisions : List ℕ) (n : ℕ) where
+module _ (s : List ℕ) {p : Puzzle} (reads : readRecord s ≡ ok p) {b : Board} (fresh : b ≡ boardOf (inEdition 1 p) [] noHints) (decisions : List ℕ) (n : ℕ) where
   -- an output that is too short
   pub shades-short : n < 4 * (b .problem .height * b .problem .width) → hostShades s decisions n ≡ refused 11
   unfolding hostShades

@@ -19,7 +19,7 @@ use Rattle.record.proofs.LeafLaws.{ValidLeaf}
 use Rattle.record.proofs.ProblemLaws.{problem-puzzle}
 use Rattle.record.proofs.RecordLaws.{valid-size}
 use Rattle.board.specs.Board.{cellsAfter}
-use Rattle.board.specs.Kept.{boardOf, openOf}
+use Rattle.board.specs.Kept.{noHints, boardOf, openOf}
 use Rattle.board.specs.Decide.{withDecisions, placedFrom}
 use Rattle.board.specs.declared.Board.{Board}
 use Rattle.board.specs.declared.Opened.{Opened}
@@ -150,11 +150,11 @@ on-arrays b e cells order decided budget =
     let q = b .problem in
     ap (λ (k : ℕ). saidOf (q .height * q .width) (certainBy (q .height * q .width) budget (search (inEdition k (puzzleOf q)) (take (q .height * q .width) cells)))) e
 
-on-machine : (p : Puzzle) → ValidLeaf (inEdition 1 p) → {ds : List Literal} → Standing (p .grid) ds → (budget : ℕ) → says budget p ds ≡ certainOn (boardOf (inEdition 1 p) ds 0) budget
+on-machine : (p : Puzzle) → ValidLeaf (inEdition 1 p) → {ds : List Literal} → Standing (p .grid) ds → (budget : ℕ) → says budget p ds ≡ certainOn (boardOf (inEdition 1 p) ds noHints) budget
 unfolding boardOf problemOf gridOf
-on-machine p v {ds} t budget = rw (cells-on (inEdition 1 p) v 0 t, problem-puzzle p (v .puzzle)) refl
+on-machine p v {ds} t budget = rw (cells-on (inEdition 1 p) v noHints t, problem-puzzle p (v .puzzle)) refl
 
-module _ (s : List ℕ) {p : Puzzle} (reads : readRecord s ≡ ok p) {b : Board} (fresh : b ≡ boardOf (inEdition 1 p) [] 0) (decisions : List ℕ) (budget n : ℕ) where
+module _ (s : List ℕ) {p : Puzzle} (reads : readRecord s ≡ ok p) {b : Board} (fresh : b ≡ boardOf (inEdition 1 p) [] noHints) (decisions : List ℕ) (budget n : ℕ) where
   -- an output that is too short
   pub certain-short : n < 8 + b .problem .height * b .problem .width → hostCertain s decisions budget n ≡ refused 11
   unfolding hostCertain

@@ -27,12 +27,12 @@ pub fn undo_in(board: &mut Board) -> Answer
 }
 
 // `find` on a lent board.
-pub fn find_in(board: &mut Board, buffer: &mut [u16]) -> Finding
-    ensures { λ r. ⌜ (r ≡ findOf (now (board .entry)) (now (buffer .entry)))
-        × (now (board .exit) ≡ afterFind (now (board .entry)) (length (now (buffer .entry))))
-        × (now (buffer .exit) ≡ bufferAfter (now (board .entry)) (now (buffer .entry))) ⌝ }
+pub fn find_in(board: &mut Board, player: u8, buffer: &mut [u16]) -> Finding
+    ensures { λ r. ⌜ (r ≡ findOf (now (board .entry)) player (now (buffer .entry)))
+        × (now (board .exit) ≡ afterFind (now (board .entry)) player (length (now (buffer .entry))))
+        × (now (buffer .exit) ≡ bufferAfter (now (board .entry)) player (now (buffer .entry))) ⌝ }
 {
-    let a = reasons::find(*board, buffer);
+    let a = reasons::find(*board, player, buffer);
     *board = a.board;
     a.finding
 }

@@ -24,6 +24,6 @@ by-reason zero (some r) buffer n e =
 by-reason (suc k) f buffer n e = let z : _≡_ {A = ℕ} 0 1 = cc in absurd (omega arith)
 
 -- a reason of n literals
-pub behind-unchanged : (b : Board) (buffer : List ℕ) (n : ℕ) → findOf b buffer ≡ Reason n → drop n (bufferAfter b buffer) ≡ drop n buffer
+pub behind-unchanged : (b : Board) (q : ℕ) (buffer : List ℕ) (n : ℕ) → findOf b q buffer ≡ Reason n → drop n (bufferAfter b q buffer) ≡ drop n buffer
 unfolding findOf bufferAfter
-behind-unchanged b buffer n e = by-reason (findRefusal b (length buffer)) (reasonOn b) buffer n e
+behind-unchanged b q buffer n e = by-reason (findRefusal b q (length buffer)) (reasonOn b) buffer n e

@@ -10,7 +10,7 @@ use mathlib.Core.Bool.{true, false, _&&_}
 use mathlib.Core.List.{List, [], _∷_}
 use lib.Dec.{leb, ltb}
 use lib.ListN.{length, getD, take, List·getD-eq-default}
-use borrow.Author.Tests.{ltb-true, leb-true, lt-ltb, le-ltb}
+use borrow.Author.Tests.{ltb-true, leb-true, lt-ltb, le-ltb, le-leb, lt-leb}
 use Rattle.grid.specs.Lists.{last, arrayOf}
 use Rattle.grid.specs.Grid.{size}
 use Rattle.grid.specs.Side.{sized}
@@ -139,32 +139,38 @@ board-edition b h z = go (edition-is (b .edition) .0 (whole-is b h .edition))
     go (inl e) = omega (arith, e, z)
     go (inr e) = omega (arith, e, z)
 
--- find on the board b with this buffer: its answer, the board and the buffer after it
-abbrev pub Finds : Board → List ℕ → Finding → Board → List ℕ → Type 0
-Finds b buffer finding left after = (finding ≡ findOf b buffer) × (left ≡ afterFind b (length buffer)) × (after ≡ bufferAfter b buffer)
+-- find of player q on the board b with this buffer: its answer, the board and the buffer after it
+abbrev pub Finds : Board → ℕ → List ℕ → Finding → Board → List ℕ → Type 0
+Finds b q buffer finding left after = (finding ≡ findOf b q buffer) × (left ≡ afterFind b q (length buffer)) × (after ≡ bufferAfter b q buffer)
 
--- what find answers: 6, 11, or what was found
-pub find-ill : (b : Board) (buffer : List ℕ) → wellFormed b ≡ false → Finds b buffer (Refused 6) b buffer
+-- what find answers: 6, 17, 11, or what was found
+pub find-ill : (b : Board) (q : ℕ) (buffer : List ℕ) → wellFormed b ≡ false → Finds b q buffer (Refused 6) b buffer
 unfolding findOf afterFind bufferAfter findRefusal findingBy hintedBy bufferBy
-find-ill b buffer h = (rw h refl, rw h refl, rw h refl)
+find-ill b q buffer h = (rw h refl, rw h refl, rw h refl)
 
-pub find-short : (b : Board) (buffer : List ℕ) → wellFormed b ≡ true → length buffer < 3 * (b .problem .height * b .problem .width) + 1
-    → Finds b buffer (Refused 11) b buffer
+pub find-stranger : (b : Board) (q : ℕ) (buffer : List ℕ) → wellFormed b ≡ true → 3 < q → Finds b q buffer (Refused 17) b buffer
+unfolding findOf afterFind bufferAfter findRefusal findingBy hintedBy bufferBy
+find-stranger b q buffer h m = let p = lt-leb q 3 m in (rw (h, p) refl, rw (h, p) refl, rw (h, p) refl)
+
+pub find-short : (b : Board) (q : ℕ) (buffer : List ℕ) → wellFormed b ≡ true → q ≤ 3 → length buffer < 3 * (b .problem .height * b .problem .width) + 1
+    → Finds b q buffer (Refused 11) b buffer
 unfolding findOf afterFind bufferAfter findRefusal findingBy hintedBy bufferBy enough gridOf size
-find-short b buffer h l =
+find-short b q buffer h m l =
+    let p = le-leb q 3 m in
     let t = lt-ltb (length buffer) (3 * (b .problem .height * b .problem .width) + 1) l in
-    (rw (h, t) refl, rw (h, t) refl, rw (h, t) refl)
+    (rw (h, p, t) refl, rw (h, p, t) refl, rw (h, p, t) refl)
 
 -- a reason goes by the grid and the arrows alone
 pub codes-aside : (e : ℕ) (p : Puzzle) (cells : List ℕ) → findReason (inEdition e (puzzleWith (p .grid) (p .arrows))) cells ≡ findReason (inEdition e p) cells
 unfolding findReason reason1 reason1At reason2 view viewWith kindsOf kindAt blocksTouched arrowBlock
 codes-aside e p cells = refl
 
-pub find-found : (b : Board) (buffer : List ℕ) {after : List ℕ} {r : Finding} → wellFormed b ≡ true → 3 * (b .problem .height * b .problem .width) + 1 ≤ length buffer
+pub find-found : (b : Board) (q : ℕ) (buffer : List ℕ) {after : List ℕ} {r : Finding} → wellFormed b ≡ true → q ≤ 3 → 3 * (b .problem .height * b .problem .width) + 1 ≤ length buffer
     → FoundAs (findReason (inEdition (b .edition) (puzzleWith (sized (b .problem .height) (b .problem .width)) (linesOf (b .problem .arrows) (b .problem .ends) (b .problem .count)))) (take (b .problem .height * b .problem .width) (b .cells))) buffer after r
-    → Finds b buffer r (hinted b) after
+    → Finds b q buffer r (hinted b q) after
 unfolding findOf afterFind bufferAfter findRefusal hintedBy enough gridOf size reasonOn cellsOn puzzleOf
-find-found b buffer h l x =
+find-found b q buffer h m l x =
+    let p = le-leb q 3 m in
     let t = le-ltb (length buffer) (3 * (b .problem .height * b .problem .width) + 1) l in
     let same = codes-aside (b .edition) (puzzleOf (b .problem)) (cellsOn b) in
-    (x .answer ∙ ap (findingBy 0) same ∙ rw (h, t) refl, rw (h, t) refl, x .buffer ∙ ap (λ (f : Found). bufferBy 0 f buffer) same ∙ rw (h, t) refl)
+    (x .answer ∙ ap (findingBy 0) same ∙ rw (h, p, t) refl, rw (h, p, t) refl, x .buffer ∙ ap (λ (f : Found). bufferBy 0 f buffer) same ∙ rw (h, p, t) refl)

@@ -9,7 +9,7 @@ use mathlib.Core.List.{List, [], _∷_, map, List·Memᴰ, List·Memᴰ·head, L
 use mathlib.Core.Option.{none, some}
 use lib.ListN.{length, drop, length-map}
 use lib.Seq.{take-at}
-use borrow.Author.Tests.{le-ltb, lt-ltb}
+use borrow.Author.Tests.{le-ltb, lt-ltb, le-leb, lt-leb}
 use Rattle.grid.proofs.ArrayLaws.{array-take}
 use Rattle.record.specs.Record.{Puzzle, ok, refused}
 use Rattle.record.specs.Leaf.{Leaf}
@@ -18,15 +18,16 @@ use Rattle.record.proofs.RecordLaws.{valid-size}
 use Rattle.record.proofs.LeafLaws.{ValidLeaf, leaf-valid}
 use Rattle.record.proofs.ProblemLaws.{problem-puzzle}
 use Rattle.grid.specs.Cells.{Literal, word}
+use Rattle.board.specs.Form.{Counts}
 use Rattle.board.specs.Board.{Call, Full, cellsAfter, enough}
 use Rattle.groups.specs.Rules.{BlockRules}
 use Rattle.board.specs.Kept.{boardOf}
 use Rattle.board.specs.Calls.{standing, hintsAfter}
-use Rattle.board.proofs.Standing.{Standing, calls-standing, cells-valid, standing-low}
+use Rattle.board.proofs.Standing.{Standing, calls-standing, standing-calls, cells-valid, standing-low}
 use Rattle.board.proofs.CallLaws.{standing-well, after-low, opened-left, after-calls}
 use Rattle.literals.specs.Literals.{Found}
 use Rattle.reasons.specs.Reasons.{findOn}
-use Rattle.board.specs.Hints.{findRefusal}
+use Rattle.board.specs.Hints.{findRefusal, hintedBy, afterFind}
 use Rattle.reasons.specs.Find.{cellsOn, reasonOn, findOf, bufferAfter, literalOf, told, answerOn}
 use Rattle.literals.specs.Buffer.{findingBy, bufferBy}
 use Rattle.reasons.specs.Demand3.{boardAfter, Demand}
@@ -50,62 +51,77 @@ unfolding told findingBy bufferBy
 told-found none a h = refl
 told-found (some r) a h = rw (take-at (map word r) (drop (length r) a) (length r) (length-map r word), literals-words r (h r refl)) refl
 
--- on the board of standing decisions, with any count of hints
-module _ (l : Leaf) (v : ValidLeaf l) (n : ℕ) {ds : List Literal} (s : Standing (l .puzzle .grid) ds) where
+-- every index of a reason is below 32,768
+reason-low : (l : Leaf) → ValidLeaf l → {ds : List Literal} → Standing (l .puzzle .grid) ds → (r : List Literal) → findOn l ds ≡ some r → (x : Literal) → List·Memᴰ x r → x .0 < 32768
+reason-low l v {ds} s r e x m =
+    let c = standing-calls (l .puzzle .grid) s in
+    let stands : List·Memᴰ x ds = rw (c .1) at (on-machine l (v .puzzle) (c .0) (c .0) .stands r (rw (c .1) e) x m) in
+    omega (arith, standing-low s x stands .0, valid-size (v .puzzle))
+
+-- on the board of standing decisions, with any counts of hints
+module _ (l : Leaf) (v : ValidLeaf l) (ns : List ℕ) {ds : List Literal} (s : Standing (l .puzzle .grid) ds) where
   -- the cells are those of the machine
-  pub cells-on : cellsOn (boardOf l ds n) ≡ cellsAfter (l .puzzle .grid) ds
+  pub cells-on : cellsOn (boardOf l ds ns) ≡ cellsAfter (l .puzzle .grid) ds
   unfolding cellsOn boardOf problemOf gridOf
   cells-on = rw (← cells-valid s .long) (array-take 2 (cellsAfter (l .puzzle .grid) ds))
 
   -- and so is the reason that applies
-  pub reason-on : reasonOn (boardOf l ds n) ≡ findOn l ds
+  pub reason-on : reasonOn (boardOf l ds ns) ≡ findOn l ds
   unfolding reasonOn findOn boardOf
   reason-on = rw (cells-on, problem-puzzle (l .puzzle) (v .puzzle)) refl
 
-module _ (l : Leaf) (v : ValidLeaf l) {n : ℕ} (low : n ≤ 65535) {ds : List Literal} (s : Standing (l .puzzle .grid) ds) where
-  accepted : (k : ℕ) → enough (l .puzzle .grid) ≤ k → findRefusal (boardOf l ds n) k ≡ 0
-  unfolding findRefusal boardOf problemOf gridOf
-  accepted k h = rw (standing-well l v low s, le-ltb k (enough (l .puzzle .grid)) h) refl
+module _ (l : Leaf) (v : ValidLeaf l) {ns : List ℕ} (low : Counts ns) {ds : List Literal} (s : Standing (l .puzzle .grid) ds) where
+  -- a player above 3 is refused, whatever the buffer
+  strange : (q k : ℕ) → 3 < q → findRefusal (boardOf l ds ns) q k ≡ 17
+  unfolding findRefusal
+  strange q k m = rw (standing-well l v low s, lt-leb q 3 m) refl
 
-  short : (k : ℕ) → k < enough (l .puzzle .grid) → findRefusal (boardOf l ds n) k ≡ 11
-  unfolding findRefusal boardOf problemOf gridOf
-  short k h = rw (standing-well l v low s, lt-ltb k (enough (l .puzzle .grid)) h) refl
+  pub strange-find : (q : ℕ) → 3 < q → (a : List ℕ)
+      → (answerOn (boardOf l ds ns) q a ≡ refused 17) × (bufferAfter (boardOf l ds ns) q a ≡ a) × (afterFind (boardOf l ds ns) q (length a) ≡ boardOf l ds ns)
+  unfolding answerOn findOf bufferAfter afterFind told findingBy bufferBy hintedBy
+  strange-find q m a = rw (strange q (length a) m) (refl, refl, refl)
 
-  -- every index of a reason is below 32,768
-  module _ (small : (r : List Literal) → findOn l ds ≡ some r → (x : Literal) → List·Memᴰ x r → x .0 < 32768) where
-    -- a long enough buffer gets the reason that applies, a shorter one is refused
-    pub long-answer : (a : List ℕ) → enough (l .puzzle .grid) ≤ length a → answerOn (boardOf l ds n) a ≡ ok (findOn l ds)
-    unfolding answerOn findOf bufferAfter
-    long-answer a h = rw (accepted (length a) h, reason-on l v n s) (told-found (findOn l ds) a small)
+  module _ (q : ℕ) (m : q ≤ 3) where
+    accepted : (k : ℕ) → enough (l .puzzle .grid) ≤ k → findRefusal (boardOf l ds ns) q k ≡ 0
+    unfolding findRefusal boardOf problemOf gridOf
+    accepted k h = rw (standing-well l v low s, le-leb q 3 m, le-ltb k (enough (l .puzzle .grid)) h) refl
 
-    short-answer : (a : List ℕ) → length a < enough (l .puzzle .grid) → answerOn (boardOf l ds n) a ≡ refused 11
-    unfolding answerOn findOf bufferAfter told findingBy bufferBy
-    short-answer a h = rw (short (length a) h) refl
+    short : (k : ℕ) → k < enough (l .puzzle .grid) → findRefusal (boardOf l ds ns) q k ≡ 11
+    unfolding findRefusal boardOf problemOf gridOf
+    short k h = rw (standing-well l v low s, le-leb q 3 m, lt-ltb k (enough (l .puzzle .grid)) h) refl
 
-    short-buffer : (a : List ℕ) → length a < enough (l .puzzle .grid) → bufferAfter (boardOf l ds n) a ≡ a
-    unfolding bufferAfter bufferBy
-    short-buffer a h = rw (short (length a) h) refl
+    -- a shorter buffer is refused
+    pub short-find : (a : List ℕ) → length a < enough (l .puzzle .grid)
+        → (answerOn (boardOf l ds ns) q a ≡ refused 11) × (bufferAfter (boardOf l ds ns) q a ≡ a) × (afterFind (boardOf l ds ns) q (length a) ≡ boardOf l ds ns)
+    unfolding answerOn findOf bufferAfter afterFind told findingBy bufferBy hintedBy
+    short-find a h = rw (short (length a) h) (refl, refl, refl)
 
-    -- so a reason that is told is the one that applies
-    told-reason : (a : List ℕ) (r : List Literal) → answerOn (boardOf l ds n) a ≡ ok (some r) → findOn l ds ≡ some r
-    told-reason a r e = go (decLe (enough (l .puzzle .grid)) (length a))
-      where
-        go : Dec (enough (l .puzzle .grid) ≤ length a) → findOn l ds ≡ some r
-        go (yes h) = let q = long-answer a h in cc
-        go (no h) = let q = short-answer a (omega arith) in let z : _≡_ {A = ℕ} 0 1 = cc in absurd (omega arith)
+  -- a long enough buffer gets the reason that applies
+  pub long-answer : (q : ℕ) → q ≤ 3 → (a : List ℕ) → enough (l .puzzle .grid) ≤ length a → answerOn (boardOf l ds ns) q a ≡ ok (findOn l ds)
+  unfolding answerOn findOf bufferAfter
+  long-answer q m a h = rw (accepted q m (length a) h, reason-on l v ns s) (told-found (findOn l ds) a (reason-low l v s))
+
+  -- so a reason that is told is the one that applies
+  told-reason : (q : ℕ) (a : List ℕ) (r : List Literal) → answerOn (boardOf l ds ns) q a ≡ ok (some r) → findOn l ds ≡ some r
+  told-reason q a r e = go (decLe q 3) (decLe (enough (l .puzzle .grid)) (length a))
+    where
+      go : Dec (q ≤ 3) → Dec (enough (l .puzzle .grid) ≤ length a) → findOn l ds ≡ some r
+      go (yes m) (yes h) = let k = long-answer q m a h in cc
+      go (yes m) (no h) = let k = short-find q m a (omega arith) .0 in let z : _≡_ {A = ℕ} 0 1 = cc in absurd (omega arith)
+      go (no m) h = let k = strange-find q (omega arith) a .0 in let z : _≡_ {A = ℕ} 0 1 = cc in absurd (omega arith)
 
 -- demand 3, for every accepted record in either edition and all lists of calls
 pub demand-3 : Demand
 demand-3 s e l read cs ds = record {
   indexes = m .indexes;
   cells = after-calls s e l read cs ds .cells;
-  answer = λ same a b h k. reasons cs a h ∙ ap ok (m .answer same) ∙ sym (reasons ds b k);
+  answer = λ same q r u w a b h k. reasons cs q u a h ∙ ap ok (m .answer same) ∙ sym (reasons ds r w b k);
   reasons = reasons cs;
-  short = λ a h.
-      rw (board cs) (short-answer l v (after-low p cs) (calls-standing (p .grid) cs) (small cs) a h, short-buffer l v (after-low p cs) (calls-standing (p .grid) cs) (small cs) a h);
-  stands = λ a r k. m .stands r (reason cs a r k);
-  refutes = λ a r k. m .refutes r (reason cs a r k);
-  finds = λ full a h. full-board full a h;
+  short = λ q u a h. rw (board cs) (short-find l v (after-low p cs) (calls-standing (p .grid) cs) q u a h);
+  stranger = λ q u a. rw (board cs) (strange-find l v (after-low p cs) (calls-standing (p .grid) cs) q u a);
+  stands = λ q a r k. m .stands r (reason cs q a r k);
+  refutes = λ q a r k. m .refutes r (reason cs q a r k);
+  finds = full-board;
 }
   where
     p : Puzzle
@@ -120,20 +136,16 @@ demand-3 s e l read cs ds = record {
     board : (cs : List Call) → boardAfter s e cs ≡ boardOf l (standing p cs) (hintsAfter p cs)
     board cs = opened-left s e l read cs
 
-    small : (cs : List Call) (r : List Literal) → findOn l (standing p cs) ≡ some r → (x : Literal) → List·Memᴰ x r → x .0 < 32768
-    small cs r k x q =
-        omega (arith, standing-low (calls-standing (p .grid) cs) x (on-machine l (v .puzzle) cs cs .stands r k x q) .0, valid-size (v .puzzle))
+    reasons : (cs : List Call) (q : ℕ) → q ≤ 3 → (a : List ℕ) → enough (p .grid) ≤ length a → answerOn (boardAfter s e cs) q a ≡ ok (findOn l (standing p cs))
+    reasons cs q u a h = rw (board cs) (long-answer l v (after-low p cs) (calls-standing (p .grid) cs) q u a h)
 
-    reasons : (cs : List Call) (a : List ℕ) → enough (p .grid) ≤ length a → answerOn (boardAfter s e cs) a ≡ ok (findOn l (standing p cs))
-    reasons cs a h = rw (board cs) (long-answer l v (after-low p cs) (calls-standing (p .grid) cs) (small cs) a h)
+    reason : (cs : List Call) (q : ℕ) (a : List ℕ) (r : List Literal) → answerOn (boardAfter s e cs) q a ≡ ok (some r) → findOn l (standing p cs) ≡ some r
+    reason cs q a r k = told-reason l v (after-low p cs) (calls-standing (p .grid) cs) q a r (rw (board cs) at k)
 
-    reason : (cs : List Call) (a : List ℕ) (r : List Literal) → answerOn (boardAfter s e cs) a ≡ ok (some r) → findOn l (standing p cs) ≡ some r
-    reason cs a r k = told-reason l v (after-low p cs) (calls-standing (p .grid) cs) (small cs) a r (rw (board cs) at k)
-
-    full-board : Full (p .grid) (cellsOn (boardAfter s e cs)) → (a : List ℕ) → enough (p .grid) ≤ length a
-        → (answerOn (boardAfter s e cs) a ≡ ok none) ↔ BlockRules l (cellsOn (boardAfter s e cs))
-    full-board full a h =
+    full-board : Full (p .grid) (cellsOn (boardAfter s e cs)) → (q : ℕ) → q ≤ 3 → (a : List ℕ) → enough (p .grid) ≤ length a
+        → (answerOn (boardAfter s e cs) q a ≡ ok none) ↔ BlockRules l (cellsOn (boardAfter s e cs))
+    full-board full q u a h =
         let shown : cellsOn (boardAfter s e cs) ≡ cellsAfter (p .grid) (standing p cs) = rw (board cs) (cells-on l v (hintsAfter p cs) (calls-standing (p .grid) cs)) in
-        let q = m .finds (rw shown at full) in
-        let k = reasons cs a h in
-        (λ none. rw shown (q .0 (cc)), λ rules. let f = q .1 (rw shown at rules) in cc)
+        let f = m .finds (rw shown at full) in
+        let k = reasons cs q u a h in
+        (λ none. rw shown (f .0 (cc)), λ rules. let g = f .1 (rw shown at rules) in cc)

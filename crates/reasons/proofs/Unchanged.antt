@@ -6,11 +6,13 @@ use mathlib.Core.Path.{_≡_, refl}
 use mathlib.Core.List.{List}
 use mathlib.Core.Option.{none, some}
 use lib.ListN.{length}
+use borrow.Author.Tests.{le-leb}
+use Rattle.board.specs.Form.{Counts}
 use Rattle.board.specs.declared.Board.{Board}
 use Rattle.literals.specs.Literals.{Found}
 use Rattle.literals.specs.declared.Finding.the-variants.{Nothing, Refused}
 use Rattle.board.specs.Hints.{withHints, findRefusal, afterFind, hintedBy}
-use Rattle.board.proofs.CountLaws.{any-count}
+use Rattle.board.proofs.CountLaws.{any-counts}
 use Rattle.reasons.specs.Find.{cellsOn, reasonOn, findOf, bufferAfter}
 use Rattle.literals.specs.Buffer.{findingBy, bufferBy}
 
@@ -26,29 +28,34 @@ by-none zero none buffer e = refl
 by-none zero (some l) buffer e = let z : _≡_ {A = ℕ} 0 1 = cc in absurd (omega arith)
 by-none (suc k) f buffer e = refl
 
--- 6 or 11
-pub find-unchanged : (b : Board) (buffer : List ℕ) (k : ℕ) → findOf b buffer ≡ Refused k → bufferAfter b buffer ≡ buffer
+-- 6, 17 or 11
+pub find-unchanged : (b : Board) (q : ℕ) (buffer : List ℕ) (k : ℕ) → findOf b q buffer ≡ Refused k → bufferAfter b q buffer ≡ buffer
 unfolding findOf bufferAfter
-find-unchanged b buffer k e = by-refusal (findRefusal b (length buffer)) (reasonOn b) buffer k e
+find-unchanged b q buffer k e = by-refusal (findRefusal b q (length buffer)) (reasonOn b) buffer k e
 
-board-by-refusal : (k : ℕ) (f : Found) (b : Board) (r : ℕ) → findingBy k f ≡ Refused r → hintedBy k b ≡ b
+board-by-refusal : (k : ℕ) (f : Found) (b : Board) (q r : ℕ) → findingBy k f ≡ Refused r → hintedBy k b q ≡ b
 unfolding findingBy hintedBy
-board-by-refusal zero none b r e = let z : _≡_ {A = ℕ} 0 1 = cc in absurd (omega arith)
-board-by-refusal zero (some l) b r e = let z : _≡_ {A = ℕ} 0 1 = cc in absurd (omega arith)
-board-by-refusal (suc k) f b r e = refl
+board-by-refusal zero none b q r e = let z : _≡_ {A = ℕ} 0 1 = cc in absurd (omega arith)
+board-by-refusal zero (some l) b q r e = let z : _≡_ {A = ℕ} 0 1 = cc in absurd (omega arith)
+board-by-refusal (suc k) f b q r e = refl
 
--- and the board: its count doesn't rise
-pub board-unchanged : (b : Board) (buffer : List ℕ) (k : ℕ) → findOf b buffer ≡ Refused k → afterFind b (length buffer) ≡ b
+-- and the board: no count rises
+pub board-unchanged : (b : Board) (q : ℕ) (buffer : List ℕ) (k : ℕ) → findOf b q buffer ≡ Refused k → afterFind b q (length buffer) ≡ b
 unfolding findOf afterFind
-board-unchanged b buffer k e = board-by-refusal (findRefusal b (length buffer)) (reasonOn b) b k e
+board-unchanged b q buffer k e = board-by-refusal (findRefusal b q (length buffer)) (reasonOn b) b q k e
 
 -- none
-pub none-unchanged : (b : Board) (buffer : List ℕ) → findOf b buffer ≡ Nothing → bufferAfter b buffer ≡ buffer
+pub none-unchanged : (b : Board) (q : ℕ) (buffer : List ℕ) → findOf b q buffer ≡ Nothing → bufferAfter b q buffer ≡ buffer
 unfolding findOf bufferAfter
-none-unchanged b buffer e = by-none (findRefusal b (length buffer)) (reasonOn b) buffer e
+none-unchanged b q buffer e = by-none (findRefusal b q (length buffer)) (reasonOn b) buffer e
 
--- what find answers and writes doesn't depend on the count
-pub count-aside : (b : Board) (n : ℕ) → b .hints ≤ 65535 → n ≤ 65535 → (buffer : List ℕ)
-    → (findOf (withHints b n) buffer ≡ findOf b buffer) × (bufferAfter (withHints b n) buffer ≡ bufferAfter b buffer)
+-- what find answers and writes doesn't depend on the counts
+pub counts-aside : (b : Board) (ns : List ℕ) → Counts (b .hints) → Counts ns → (q : ℕ) (buffer : List ℕ)
+    → (findOf (withHints b ns) q buffer ≡ findOf b q buffer) × (bufferAfter (withHints b ns) q buffer ≡ bufferAfter b q buffer)
 unfolding findOf bufferAfter findRefusal reasonOn cellsOn
-count-aside b n h k buffer = rw (any-count b n h k) (unfold withHints in (refl, refl))
+counts-aside b ns h k q buffer = rw (any-counts b ns h k) (unfold withHints in (refl, refl))
+
+-- nor on the player
+pub player-aside : (b : Board) (q r : ℕ) → q ≤ 3 → r ≤ 3 → (buffer : List ℕ) → (findOf b q buffer ≡ findOf b r buffer) × (bufferAfter b q buffer ≡ bufferAfter b r buffer)
+unfolding findOf bufferAfter findRefusal
+player-aside b q r l m buffer = rw (le-leb q 3 l, le-leb r 3 m) (refl, refl)

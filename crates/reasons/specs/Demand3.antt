@@ -1,7 +1,8 @@
 -- Demand 3: what holds after any two lists of calls on boards of one accepted record in one edition.
--- A list may hold finds with buffers of any length, and calls that are refused. The boards are those that `openOf`, `decideOf`, `undoOf` and `afterFind`
--- leave, which the contracts cite. The plain machine stands on the other side and sees only the calls. Two boards may differ in their counts of hints:
--- equal cells means cells only.
+-- A list may hold finds of any player with buffers of any length, and calls that are refused. The find after it is of any player
+-- from 0 to 3; one above 3 is refused. The boards are those that `openOf`, `decideOf`, `undoOf` and `afterFind` leave, which the
+-- contracts cite. The plain machine stands on the other side and sees only the calls. Two boards may differ in their counts of hints: equal cells
+-- means cells only.
 -- Assumes nothing.
 use Prim.Native.Nat.{ℕ, _≤_, _<_}
 use mathlib.Core.Logic.{_↔_}
@@ -15,6 +16,7 @@ use Rattle.record.specs.Leaf.{Leaf, leafOf}
 use Rattle.grid.specs.Cells.{Literal, Agrees}
 use Rattle.board.specs.Board.{Call, SameCells, SameDecisions, Full, enough}
 use Rattle.board.specs.Kept.{openOf}
+use Rattle.board.specs.Hints.{afterFind}
 use Rattle.board.specs.Calls.{leftAll, standing}
 use Rattle.board.specs.declared.Board.{Board}
 use Rattle.groups.specs.Rules.{BlockRules}
@@ -31,21 +33,24 @@ pub record Demand3 (s : List ℕ) (e : ℕ) (l : Leaf) (cs ds : List Call) : Typ
   pub indexes : Distinct (map (λ (d : Literal). d .0) (standing (l .puzzle) cs))
   -- equal cells exactly when the same decisions stand, in whatever order
   pub cells : SameCells (l .puzzle .grid) (boardAfter s e cs .cells) (boardAfter s e ds .cells) ↔ SameDecisions (standing (l .puzzle) cs) (standing (l .puzzle) ds)
-  -- if so, find lent a long enough buffer gives the same answer on both
-  pub answer : SameDecisions (standing (l .puzzle) cs) (standing (l .puzzle) ds) → (a b : List ℕ) → enough (l .puzzle .grid) ≤ length a → enough (l .puzzle .grid) ≤ length b
-      → answerOn (boardAfter s e cs) a ≡ answerOn (boardAfter s e ds) b
+  -- if so, find lent a long enough buffer gives the same answer on both, to any two players from 0 to 3
+  pub answer : SameDecisions (standing (l .puzzle) cs) (standing (l .puzzle) ds) → (q r : ℕ) → q ≤ 3 → r ≤ 3 → (a b : List ℕ) → enough (l .puzzle .grid) ≤ length a → enough (l .puzzle .grid) ≤ length b
+      → answerOn (boardAfter s e cs) q a ≡ answerOn (boardAfter s e ds) r b
   -- and it is the one of Reasons
-  pub reasons : (a : List ℕ) → enough (l .puzzle .grid) ≤ length a → answerOn (boardAfter s e cs) a ≡ ok (findOn l (standing (l .puzzle) cs))
-  -- a shorter buffer is refused with 11, and is unchanged
-  pub short : (a : List ℕ) → length a < enough (l .puzzle .grid) → (answerOn (boardAfter s e cs) a ≡ refused 11) × (bufferAfter (boardAfter s e cs) a ≡ a)
+  pub reasons : (q : ℕ) → q ≤ 3 → (a : List ℕ) → enough (l .puzzle .grid) ≤ length a → answerOn (boardAfter s e cs) q a ≡ ok (findOn l (standing (l .puzzle) cs))
+  -- a shorter buffer is refused with 11, and nothing is changed
+  pub short : (q : ℕ) → q ≤ 3 → (a : List ℕ) → length a < enough (l .puzzle .grid)
+      → (answerOn (boardAfter s e cs) q a ≡ refused 11) × (bufferAfter (boardAfter s e cs) q a ≡ a) × (afterFind (boardAfter s e cs) q (length a) ≡ boardAfter s e cs)
+  -- a player above 3 is refused with 17, whatever the buffer, and nothing is changed
+  pub stranger : (q : ℕ) → 3 < q → (a : List ℕ) → (answerOn (boardAfter s e cs) q a ≡ refused 17) × (bufferAfter (boardAfter s e cs) q a ≡ a) × (afterFind (boardAfter s e cs) q (length a) ≡ boardAfter s e cs)
   -- each literal of a reason is a standing decision
-  pub stands : (a : List ℕ) (r : List Literal) → answerOn (boardAfter s e cs) a ≡ ok (some r) → (x : Literal) → List·Memᴰ x r → List·Memᴰ x (standing (l .puzzle) cs)
+  pub stands : (q : ℕ) (a : List ℕ) (r : List Literal) → answerOn (boardAfter s e cs) q a ≡ ok (some r) → (x : Literal) → List·Memᴰ x r → List·Memᴰ x (standing (l .puzzle) cs)
   -- no fully decided board that agrees with all of them meets the block rules
-  pub refutes : (a : List ℕ) (r : List Literal) → answerOn (boardAfter s e cs) a ≡ ok (some r) → (full : List ℕ) → Full (l .puzzle .grid) full → Agrees full r
+  pub refutes : (q : ℕ) (a : List ℕ) (r : List Literal) → answerOn (boardAfter s e cs) q a ≡ ok (some r) → (full : List ℕ) → Full (l .puzzle .grid) full → Agrees full r
       → BlockRules l full → ⊥
   -- if every cell is decided, find gives none exactly when the block rules are met
-  pub finds : Full (l .puzzle .grid) (cellsOn (boardAfter s e cs)) → (a : List ℕ) → enough (l .puzzle .grid) ≤ length a
-      → (answerOn (boardAfter s e cs) a ≡ ok none) ↔ BlockRules l (cellsOn (boardAfter s e cs))
+  pub finds : Full (l .puzzle .grid) (cellsOn (boardAfter s e cs)) → (q : ℕ) → q ≤ 3 → (a : List ℕ) → enough (l .puzzle .grid) ≤ length a
+      → (answerOn (boardAfter s e cs) q a ≡ ok none) ↔ BlockRules l (cellsOn (boardAfter s e cs))
 
 -- the demand: it holds for every accepted record in either edition and all lists of calls
 abbrev pub Demand : Type 0

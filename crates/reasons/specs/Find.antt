@@ -25,13 +25,13 @@ leafOn b = inEdition (b .edition) (puzzleOf (b .problem))
 unfoldable pub reasonOn : Board → Found
 reasonOn b = findReason (leafOn b) (cellsOn b)
 
--- what find answers
-unfoldable pub findOf : Board → List ℕ → Finding
-findOf b buffer = findingBy (findRefusal b (length buffer)) (reasonOn b)
+-- what find answers player q
+unfoldable pub findOf : Board → ℕ → List ℕ → Finding
+findOf b q buffer = findingBy (findRefusal b q (length buffer)) (reasonOn b)
 
--- what find leaves in the buffer
-unfoldable pub bufferAfter : Board → List ℕ → List ℕ
-bufferAfter b buffer = bufferBy (findRefusal b (length buffer)) (reasonOn b) buffer
+-- what find of player q leaves in the buffer
+unfoldable pub bufferAfter : Board → ℕ → List ℕ → List ℕ
+bufferAfter b q buffer = bufferBy (findRefusal b q (length buffer)) (reasonOn b) buffer
 
 -- a number of the buffer as a literal
 unfoldable pub literalOf : ℕ → Literal
@@ -43,6 +43,6 @@ told Nothing buffer = ok none
 told (Reason k) buffer = ok (some (map literalOf (take k buffer)))
 told (Refused k) buffer = refused k
 
--- find on a board with a lent buffer, as its caller sees it
-unfoldable pub answerOn : Board → List ℕ → Outcome Found
-answerOn b buffer = told (findOf b buffer) (bufferAfter b buffer)
+-- find of player q on a board with a lent buffer, as its caller sees it
+unfoldable pub answerOn : Board → ℕ → List ℕ → Outcome Found
+answerOn b q buffer = told (findOf b q buffer) (bufferAfter b q buffer)

@@ -1,9 +1,11 @@
-// Find: the first reason that applies to a board, written as literals into a lent buffer, and counted on the board as a hint.
+// Find: the first reason that applies to a board, written as literals into a lent buffer, and counted on the board as a hint of the player
+// who asks.
 use board::Board;
 use literals::Finding;
 ghost use mathlib.Core.Path.{_≡_};
+ghost use Prim.Native.Nat.{_≤_};
 ghost use lib.ListN.{length, replicate};
-ghost use Rattle.board.specs.Hints.{afterFind};
+ghost use Rattle.board.specs.Hints.{hinted, afterFind};
 ghost use Rattle.reasons.specs.Find.{findOf, bufferAfter};
 
 // The answer of `find`, with the board as find leaves it.
@@ -19,16 +21,34 @@ pub fn no_literals() -> [u16; Board::LITERALS]
     [0u16; Board::LITERALS]
 }
 
+// The board with one more hint counted for the player, and for no other.
+fn hinted(board: Board, player: u8) -> Board
+    requires { ⌜ player ≤ 3 ⌝ }
+    ensures { λ r. ⌜ r ≡ hinted board player ⌝ }
+{
+    let at = grid::byte(player);
+    let count = board.hints[at];
+    let mut left = board;
+    left.hints[at] = board::raised(count);
+    left
+}
+
 // Why the board can't be finished: the first reason that applies, its literals written to the buffer's first places. Refused: 6 a
-// board that no list of calls could leave, 11 a buffer shorter than 3 × H × W + 1 literals. A find that is not refused raises the board's
-// count of hints, and changes nothing else on it.
-pub fn find(board: Board, buffer: &mut [u16]) -> Asked
-    ensures { λ r. ⌜ (r .finding ≡ findOf board (now (buffer .entry))) × (r .board ≡ afterFind board (length (now (buffer .entry))))
-        × (now (buffer .exit) ≡ bufferAfter board (now (buffer .entry))) ⌝ }
+// board that no list of calls could leave, 17 a player above 3, 11 a buffer shorter than 3 × H × W + 1 literals. A find that is not refused
+// raises its player's count of hints, and changes nothing else on the board; the reason doesn't depend on the player.
+pub fn find(board: Board, player: u8, buffer: &mut [u16]) -> Asked
+    ensures { λ r. ⌜ (r .finding ≡ findOf board player (now (buffer .entry))) × (r .board ≡ afterFind board player (length (now (buffer .entry))))
+        × (now (buffer .exit) ≡ bufferAfter board player (now (buffer .entry))) ⌝ }
 {
     if !board.well_formed() {
         return Asked {
             finding: Finding::Refused(6),
+            board,
+        };
+    }
+    if 3 < player {
+        return Asked {
+            finding: Finding::Refused(17),
             board,
         };
     }
@@ -51,10 +71,8 @@ pub fn find(board: Board, buffer: &mut [u16]) -> Asked
         w,
         buffer,
     );
-    let mut left = board;
-    left.hints = board::raised(left.hints);
     Asked {
         finding,
-        board: left,
+        board: hinted(board, player),
     }
 }

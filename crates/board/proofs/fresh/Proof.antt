@@ -11,8 +11,11 @@ undecided-requires c κs = search needs
 no-order-requires : tie.Need-no-order-requires
 no-order-requires c κs = search needs
 
+no-hints-requires : tie.Need-no-hints-requires
+no-hints-requires c κs = search needs
+
 returns : tie.Need-returns
-returns c = rw (c .before .undecided .ensures, c .no-order .ensures) refl
+returns c = rw (c .before .before .undecided .ensures, c .before .no-order .ensures, c .no-hints .ensures) refl
 
 pub fresh-spec : {M : Type 1} → statement M
-fresh-spec = tie.close (tie.spec undecided-requires no-order-requires returns)
+fresh-spec = tie.close (tie.spec undecided-requires no-order-requires no-hints-requires returns)

@@ -34,10 +34,10 @@ literals-differ-requires : tie.Need-literals-differ-requires
 literals-differ-requires c κs = search needs
 
 -- the board that find left
-board-left : (c : tie.After-find) → let a = c .before .before .before .before .args in c .find .result .board ≡ afterFind (a .board) (a .size)
+board-left : (c : tie.After-find) → let a = c .before .before .before .before .args in c .find .result .board ≡ afterFind (a .board) (a .player) (a .size)
 board-left c =
     let a = c .before .before .before .before .args in
-    left-board (a .board) (a .size) (c .before .before .fresh-buffer .result) (omega arith) (c .find .ensures .1)
+    left-board (a .board) (a .player) (a .size) (c .before .before .fresh-buffer .result) (omega arith) (c .find .ensures .1)
 
 returns : tie.Need-returns
 returns c =
@@ -47,7 +47,7 @@ returns c =
     let n = p .before .before .fresh-buffer in
     let a = p .before .before .before .before .args in (
       board-left p,
-      fails (other-answer (a .board) (a .size) (a .refusal) (a .count) (numberIn (a .list .now) (a .at) (a .count) 65535)
+      fails (other-answer (a .board) (a .player) (a .size) (a .refusal) (a .count) (numberIn (a .list .now) (a .at) (a .count) 65535)
           (n .result) (n .ensures) (f .result .finding) (f .ensures .0) (d .result) (d .ensures) (c .if1 .taken)),
     )
 
@@ -60,7 +60,7 @@ returns-2 c =
     let a = p .before .before .before .before .args in
     let said = numberIn (a .list .now) (a .at) (a .count) 65535 in (
       board-left p,
-      this-answer (a .board) (a .size) (a .refusal) (a .count) said (n .result) (n .ensures) (f .result .finding) (f .ensures .0) (d .result) (d .ensures) (c .before .before .if1 .left) (c .literals-differ .result)
+      this-answer (a .board) (a .player) (a .size) (a .refusal) (a .count) said (n .result) (n .ensures) (f .result .finding) (f .ensures .0) (d .result) (d .ensures) (c .before .before .if1 .left) (c .literals-differ .result)
           (c .literals-differ .ensures ∙ ap (λ (l : List ℕ). differs (l ++ drop (a .size) (n .result)) said 0) (f .ensures .2)),
     )
 

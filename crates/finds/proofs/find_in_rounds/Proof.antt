@@ -10,17 +10,17 @@ use Rattle.finds.proofs.find_in_rounds.Statement.{statement}
 use Rattle.finds.proofs.find_in_rounds.Tie as tie
 
 abbrev Inv-loop : tie.InvT-loop
-Inv-loop rounds board buffer₀ found₀ left i₀ buffer found i = (buffer ≡ buffer₀) × (found ≡ found₀)
+Inv-loop rounds board player buffer₀ found₀ left i₀ buffer found i = (buffer ≡ buffer₀) × (found ≡ found₀)
 
 abbrev μ-loop : tie.MeasureT-loop
-μ-loop rounds board buffer₀ found₀ left i₀ buffer found i = rounds - i
+μ-loop rounds board player buffer₀ found₀ left i₀ buffer found i = rounds - i
 
 -- the start, seen from the loop
 abbrev start : tie.At-loop Inv-loop μ-loop → tie.Start Inv-loop μ-loop
 start c = c .before .before .before .before .before .before .before
 
 -- the first find leaves a buffer that is as long as before
-long : (c : tie.At-loop Inv-loop μ-loop) → length (c .before .before .before .before .find .last .1 .0) ≡ length (start c .args .buffer .now)
+long : (c : tie.At-loop Inv-loop μ-loop) → length (c .before .before .before .before .find .last .1 .1 .0) ≡ length (start c .args .buffer .now)
 long c = search needs
 
 find-requires : tie.Need-find-requires Inv-loop μ-loop
@@ -44,10 +44,10 @@ loop-again c =
     let a = start t .args in
     let f = t .before .before .before .before .find in
     let g = c .before .before .find2 in
-    let left = f .last .1 .0 in
+    let left = f .last .1 .1 .0 in
     let same = t .loop .inv .0 in (
-      g .ensures .2 ∙ (ap (bufferAfter (a .board)) same ∙ buffer-again (a .board) (a .buffer .now) left (f .ensures .2) (long t)),
-      g .ensures .0 ∙ (ap (findOf (a .board)) same ∙ (find-again (a .board) (a .buffer .now) left (f .ensures .2) (long t) ∙ sym (f .ensures .0))),
+      g .ensures .2 ∙ (ap (bufferAfter (a .board) (a .player)) same ∙ buffer-again (a .board) (a .player) (a .buffer .now) left (f .ensures .2) (long t)),
+      g .ensures .0 ∙ (ap (findOf (a .board) (a .player)) same ∙ (find-again (a .board) (a .player) (a .buffer .now) left (f .ensures .2) (long t) ∙ sym (f .ensures .0))),
     )
 
 same-length : tie.Need-same-length Inv-loop μ-loop

@@ -1,4 +1,4 @@
--- `reasons::find` meets its contract: the board and the buffer are tested, then the first reason is looked for, and the find is counted.
+-- `reasons::find` meets its contract: the board, the player and the buffer are tested, then the first reason is looked for, and the find is counted.
 -- Assumes nothing.
 use Prim.Native.Nat.{_*_, _≤_}
 use native.Mathlib.Omega.{arith}
@@ -7,8 +7,7 @@ use mathlib.Core.Bool.{true}
 use borrow.Author.Tests.{not-true, not-false}
 use Rattle.grid.proofs.SideLaws.{area}
 use Rattle.board.specs.Form.{wellFormed}
-use Rattle.board.specs.Hints.{withHints, hinted}
-use Rattle.reasons.proofs.BoardArrays.{board-sizes, board-arrays, board-edition, find-ill, find-short, find-found}
+use Rattle.reasons.proofs.BoardArrays.{board-sizes, board-arrays, board-edition, find-ill, find-stranger, find-short, find-found}
 use borrow.Author.Needs.{needs}
 use Rattle.reasons.proofs.find.Statement.{statement}
 use Rattle.reasons.proofs.find.Tie as tie
@@ -29,50 +28,54 @@ cells-few c =
 returns : tie.Need-returns
 returns c =
     let s = c .before .before .before in
-    find-ill (s .args .t1) (s .args .buffer .now) (sym (c .before .well-formed .ensures) ∙ not-true _ (c .if1 .taken))
-
-mul-if2 : tie.Need-mul-if2
-mul-if2 c = omega (arith, cells-few c)
-
-mul-if2-2 : tie.Need-mul-if2-2
-mul-if2-2 c = omega (arith, cells-few c)
-
-add-if2 : tie.Need-add-if2
-add-if2 c = omega (arith, cells-few c)
+    find-ill (s .args .t1) (s .args .player) (s .args .buffer .now) (sym (c .before .well-formed .ensures) ∙ not-true _ (c .if1 .taken))
 
 returns-2 : tie.Need-returns-2
 returns-2 c =
     let s = c .before .before .before .before in
-    find-short (s .args .t1) (s .args .buffer .now) (formed (c .before)) (c .if2 .taken)
+    find-stranger (s .args .t1) (s .args .player) (s .args .buffer .now) (formed (c .before)) (c .if2 .taken)
 
--- where board and buffer have passed their tests, seen from before the search
-abbrev tested : tie.After-find-inconsistency-arg4 → tie.Else2
+mul-if3 : tie.Need-mul-if3
+mul-if3 c = omega (arith, cells-few (c .before))
+
+mul-if3-2 : tie.Need-mul-if3-2
+mul-if3-2 c = omega (arith, cells-few (c .before))
+
+add-if3 : tie.Need-add-if3
+add-if3 c = omega (arith, cells-few (c .before))
+
+returns-3 : tie.Need-returns-3
+returns-3 c =
+    let s = c .before .before .before .before .before in
+    find-short (s .args .t1) (s .args .player) (s .args .buffer .now) (formed (c .before .before)) (c .before .if2 .left) (c .if3 .taken)
+
+-- where board, player and buffer have passed their tests, seen from before the search
+abbrev tested : tie.After-find-inconsistency-arg4 → tie.Else3
 tested c = c .before .before .before .before .before
 
 find-inconsistency-requires : tie.Need-find-inconsistency-requires
 find-inconsistency-requires c κs =
     let e = tested c in
-    let s = e .before .before .before .before in
-    let h = formed (e .before) in
+    let s = e .before .before .before .before .before in
+    let h = formed (e .before .before) in
     let z = board-sizes (s .args .t1) h in
-    (record { tall = z .0; wide = z .1; room = e .if2 .left }, board-arrays (s .args .t1) h, board-edition (s .args .t1) h)
+    (record { tall = z .0; wide = z .1; room = e .if3 .left }, board-arrays (s .args .t1) h, board-edition (s .args .t1) h)
 
--- the search, seen from behind the count
-abbrev searched : tie.After-raised → tie.After-find-inconsistency
-searched c = c .before .before .before
+-- the search, seen from where the find is to be counted
+abbrev searched : tie.After-slice-known2 → tie.After-find-inconsistency
+searched c = c .before .before
 
 same-length : tie.Need-same-length
 same-length c = search needs
 
-raised-requires : tie.Need-raised-requires
-raised-requires c κs = search needs
+hinted-requires : tie.Need-hinted-requires
+hinted-requires c κs = tested (searched c .before) .before .if2 .left
 
-returns-3 : tie.Need-returns-3
-unfolding hinted withHints
-returns-3 c =
-    let e = tested (searched c .before) in
-    let s = e .before .before .before .before in
-    rw (c .raised .ensures) (find-found (s .args .t1) (s .args .buffer .now) (formed (e .before)) (e .if2 .left) (searched c .find-inconsistency .ensures))
+returns-4 : tie.Need-returns-4
+returns-4 c =
+    let e = tested (searched (c .before) .before) in
+    let s = e .before .before .before .before .before in
+    rw (c .hinted .ensures) (find-found (s .args .t1) (s .args .player) (s .args .buffer .now) (formed (e .before .before)) (e .before .if2 .left) (e .if3 .left) (searched (c .before) .find-inconsistency .ensures))
 
 pub find-spec : {M : Type 1} → statement M
 find-spec =
@@ -80,11 +83,12 @@ find-spec =
     (tie.spec
     well-formed-requires
     returns
-    mul-if2
-    mul-if2-2
-    add-if2
     returns-2
+    mul-if3
+    mul-if3-2
+    add-if3
+    returns-3
     find-inconsistency-requires
-    raised-requires
+    hinted-requires
     same-length
-    returns-3)
+    returns-4)

@@ -4,7 +4,9 @@ use Prim.Native.Nat.{_*_, _≤_}
 use native.Mathlib.Omega.{arith}
 use mathlib.Core.Path.{_≡_, sym, _∙_}
 use mathlib.Core.Bool.{true}
-use lib.ListN.{length}
+use lib.ListN.{length, getD}
+use mir.Syntax.{w16}
+use mir.Val.{Fits}
 use borrow.Author.Needs.{needs}
 use borrow.Author.Tests.{not-true, not-false}
 use Rattle.grid.specs.Grid.{size}
@@ -12,6 +14,7 @@ use Rattle.grid.proofs.GridLaws.{size-most}
 use Rattle.record.specs.Problem.{gridOf}
 use Rattle.form.specs.Form.{problemFormed}
 use Rattle.form.proofs.ProblemForm.{formed-is}
+use Rattle.board.specs.Form.{Counts}
 use Rattle.board.specs.declared.Board.{Board}
 use Rattle.board.proofs.Verdicts.{board-problem, board-edition, board-decisions}
 use Rattle.board.proofs.Board.well_formed.Statement.{statement}
@@ -27,9 +30,9 @@ start c = c .before .before .before .before .before
 abbrev board : tie.After-good-problem → Board
 board c = start c .args .t1
 
--- what the types say of its arrays and its count
-typed : (s : tie.Start) → (length (s .args .t1 .cells) ≡ 1024) × (length (s .args .t1 .order) ≡ 1024) × (s .args .t1 .hints ≤ 65535)
-typed s = (search needs, search needs, search needs)
+-- what the types say of its arrays and its counts
+typed : (s : tie.Start) → (length (s .args .t1 .cells) ≡ 1024) × (length (s .args .t1 .order) ≡ 1024) × Counts (s .args .t1 .hints)
+typed s = (search needs, search needs, record { four = search needs; low = λ q. let f : Fits w16 (getD (s .args .t1 .hints) q 0) = search needs in omega (arith, f .fits) })
 
 -- the problem passed its test
 formed : (c : tie.Else1) → problemFormed (board (c .before) .problem) ≡ true
