@@ -1,5 +1,5 @@
 /* The proved Evolmino constraint, for C and C++. `rt staticlib host` writes the library, target/staticlib/libhost.a. The calls are for edition 1
- * of the rules (README, The puzzle). */
+ * of the rules (README, The puzzle); a record that is turned or joined is so for both. */
 #ifndef EVOLMINO_H
 #define EVOLMINO_H
 
@@ -20,7 +20,7 @@
 /* The length in bytes of an output that is long enough for evolmino_certain and every record: 8 + 32 * 32. */
 #define EVOLMINO_CERTAIN 1032
 
-/* The length in bytes of the longest record, so the same for evolmino_turn. */
+/* The length in bytes of the longest record, so the same for evolmino_turn and evolmino_join. */
 #define EVOLMINO_RECORD 2819
 
 /* What a negated return value says. */
@@ -36,7 +36,9 @@ enum {
     EVOLMINO_DECISION = 12,     /* a decision's five bits are not zero, or a single byte is left over at the end */
     EVOLMINO_SHEET_SHORT = 13,  /* the output is too short for the whole clause sheet */
     EVOLMINO_TURNING = 14,      /* the number of a turning is above 7 */
-    EVOLMINO_RECORD_OUTPUT_SHORT = 15 /* the output is shorter than the record that is to be written */
+    EVOLMINO_RECORD_OUTPUT_SHORT = 15, /* the output is shorter than the record that is to be written */
+    EVOLMINO_UNEQUAL_HEIGHTS = 18, /* the records that are to be joined are not of equal height */
+    EVOLMINO_TOO_WIDE = 19      /* the joined leaf would be wider than 32 */
 };
 
 /* What evolmino_certain returns where it does not refuse. */
@@ -125,6 +127,21 @@ int32_t evolmino_certain(const uint8_t *record, size_t record_len,
  * from several at once; it takes up to about 30 kilobytes of stack.
  */
 int32_t evolmino_turn(const uint8_t *record, size_t record_len, uint32_t k,
+                      uint8_t *output, size_t output_len);
+
+/* Joins two records of equal height into one leaf: the left grid, a column of black cells, the right grid; the left's arrows and then the right's.
+ * A cell of the left grid keeps its row and column, one of the right grid keeps its row, and its column moves on by the left's width + 1. A full
+ * board of the joined leaf is finished exactly when the column is empty and each half is finished on its own, in either edition of the rules.
+ *
+ * Returns the number of bytes written, or the negated number of a refusal, which changes no byte: the left record's 1 to 5, then the right
+ * record's 1 to 5, then 18 for unequal heights, then 19 for a joined width above 32, and last 15 for an output shorter than the joined record. A
+ * number from 1 to 5 does not tell which record it is of: it is of the left one exactly where that one is refused by itself, as by
+ * evolmino_finished with no decisions. EVOLMINO_RECORD bytes are enough for any two. Bytes behind those written are unchanged. The pointers are
+ * not null, also where a length is 0; left and right may be the same, and the output overlaps neither. The call keeps nothing and may be made from
+ * any thread, also from several at once; it takes up to about 40 kilobytes of stack.
+ */
+int32_t evolmino_join(const uint8_t *left, size_t left_len,
+                      const uint8_t *right, size_t right_len,
                       uint8_t *output, size_t output_len);
 
 #ifdef __cplusplus

@@ -91,6 +91,15 @@ pub const PACKAGE_CERTAIN: Option<[PackageCertain; 2]> = Some([
 #[cfg(not(feature = "host"))]
 pub const PACKAGE_CERTAIN: Option<[PackageCertain; 2]> = None;
 
+/// Left record, right record, output; the number of bytes written, or the negated refusal number.
+pub type JoinCall = fn(&[u8], &[u8], &mut [u8]) -> i32;
+
+/// The call that joins two records, if this program was built with it.
+#[cfg(feature = "host")]
+pub const JOIN_CALL: Option<JoinCall> = Some(join_call);
+#[cfg(not(feature = "host"))]
+pub const JOIN_CALL: Option<JoinCall> = None;
+
 pub const MISSING: &str = "the host call is not linked: build with --features host, \
                            with libhost.a in the folder that EVOLMINO_HOST names";
 
@@ -195,4 +204,12 @@ fn package_certain(
         evolmino::Certain::Spent { .. } => Certain::Spent,
     };
     Ok(Answer { certain, steps })
+}
+
+#[cfg(feature = "host")]
+fn join_call(left: &[u8], right: &[u8], output: &mut [u8]) -> i32 {
+    match evolmino::join_bytes(left, right, output) {
+        Ok(count) => count as i32,
+        Err(refusal) => -(refusal.number() as i32),
+    }
 }

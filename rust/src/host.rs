@@ -68,6 +68,10 @@ pub enum Refusal {
     Edition,
     /// 17: a player above 3.
     Player,
+    /// 18: the two records that are to be joined are not of equal height.
+    UnequalHeights,
+    /// 19: the joined leaf would be wider than 32.
+    TooWide,
     /// Another number: the linked library has refusals that this package doesn't know.
     Unknown(u32),
 }
@@ -93,6 +97,8 @@ impl Refusal {
             15 => Refusal::RecordOutputShort,
             16 => Refusal::Edition,
             17 => Refusal::Player,
+            18 => Refusal::UnequalHeights,
+            19 => Refusal::TooWide,
             _ => Refusal::Unknown(number),
         }
     }
@@ -117,6 +123,8 @@ impl Refusal {
             Refusal::RecordOutputShort => 15,
             Refusal::Edition => 16,
             Refusal::Player => 17,
+            Refusal::UnequalHeights => 18,
+            Refusal::TooWide => 19,
             Refusal::Unknown(number) => number,
         }
     }
@@ -146,6 +154,8 @@ impl fmt::Display for Refusal {
             }
             Refusal::Edition => "the edition is not 1 or 2",
             Refusal::Player => "the player is above 3",
+            Refusal::UnequalHeights => "the two records are not of equal height",
+            Refusal::TooWide => "the joined leaf would be wider than 32",
             Refusal::Unknown(_) => "this package doesn't know why",
         };
         write!(f, "refused {}: {}", self.number(), what)

@@ -1,6 +1,7 @@
 //! `compare bench`: the original and, where it is linked, the host call, on the same boards; then
 //! their parts.
 
+use super::joinings;
 use super::parts;
 use super::sheets;
 use super::turnings;
@@ -59,6 +60,7 @@ pub fn run(seed: u64, rounds: usize) -> Outcome {
     }
     sheets::run(seed, &SIDES, rounds)?;
     turnings::run(seed, &SIDES, rounds)?;
+    joinings::run(seed, &SIDES, rounds)?;
     parts::run(&boards_by_side)
 }
 

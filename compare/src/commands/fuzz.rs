@@ -6,6 +6,7 @@
 
 use super::certain::FuzzedCertain;
 use super::clauses::FuzzedSheets;
+use super::join::FuzzedJoins;
 use super::shades::FuzzedShades;
 use super::turn::FuzzedTurnings;
 use crate::answers::host_facts;
@@ -51,6 +52,7 @@ pub fn run(seed: u64, count: usize) -> Outcome {
     let mut shades = FuzzedShades::new(seed)?;
     let mut turnings = FuzzedTurnings::new(seed)?;
     let mut certain = FuzzedCertain::new(seed)?;
+    let mut joins = FuzzedJoins::new(seed)?;
     let leaves = finished_leaves(&mut random, FINISHED);
     let mut done = 0;
     while done < count {
@@ -67,6 +69,7 @@ pub fn run(seed: u64, count: usize) -> Outcome {
             shades.check(&input)?;
             turnings.check(&input.record)?;
             certain.check(&input)?;
+            joins.check(&input.record)?;
             match check(&mut random, host_call, &input)? {
                 Ok(reason) => counts.found[Tally::column(reason.as_ref())] += 1,
                 Err(refusal) => counts.refused[usize::from(refusal.number())] += 1,
@@ -88,6 +91,7 @@ pub fn run(seed: u64, count: usize) -> Outcome {
     println!("{}", shades.line());
     println!("{}", turnings.line());
     println!("{}", certain.line());
+    println!("{}", joins.line());
     Ok(())
 }
 

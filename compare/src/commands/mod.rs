@@ -11,6 +11,8 @@ pub mod finished;
 pub mod fuzz;
 pub mod groups;
 pub mod host;
+pub mod join;
+mod joinings;
 mod parts;
 pub mod program;
 pub mod records;

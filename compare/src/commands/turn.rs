@@ -2,7 +2,9 @@
 //! above them, on good and damaged records, with outputs of every length about the record's and guard
 //! bytes about them; there and back; and each full board of small leaves beside its turned images.
 
-use crate::generate::puzzles::{any_puzzle, puzzle, rows_to_and_fro, square, ARROW_STYLES};
+use crate::generate::puzzles::{
+    any_puzzle, each_cell, puzzle, rows_to_and_fro, square, ARROW_STYLES,
+};
 use crate::generate::records::damaged;
 use crate::generate::small::{decisions, finished_leaves, small_puzzle};
 use crate::host::{FinishedCall, TurnCall, FINISHED_CALL, MISSING, TURN_CALL};
@@ -132,15 +134,8 @@ fn leaves_of_all_sizes(random: &mut Random) -> Vec<Puzzle> {
         }
     }
     leaves.push(plain(32, 32, vec![rows_to_and_fro(square(32))]));
-    leaves.push(longest(random));
+    leaves.push(each_cell(random, square(32)));
     leaves
-}
-
-/// 32 by 32, each cell an arrow, in any order.
-pub fn longest(random: &mut Random) -> Puzzle {
-    let mut arrows: Vec<Vec<usize>> = (0..32 * 32).map(|cell| vec![cell]).collect();
-    random.shuffle(&mut arrows);
-    plain(32, 32, arrows)
 }
 
 /// Each turning and each number that is none, with outputs of every length about the record's.

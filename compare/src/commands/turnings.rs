@@ -1,7 +1,6 @@
 //! A table of `compare bench`: the call that turns a record, on usual puzzles and on the longest record.
 
-use super::turn::longest;
-use crate::generate::puzzles::{puzzle, square, Arrows};
+use crate::generate::puzzles::{each_cell, puzzle, square, Arrows};
 use crate::host::{TurnCall, MISSING, TURN_CALL};
 use crate::processor::{processor_time, Whose};
 use crate::progress::Outcome;
@@ -29,7 +28,7 @@ pub fn run(seed: u64, sides: &[usize], rounds: usize) -> Outcome {
         let records: Vec<Vec<u8>> = (0..USUAL).map(usual).collect();
         print(&format!("{side} x {side}"), call, &records, rounds);
     }
-    let longest = encode(&longest(&mut Random::new(seed)));
+    let longest = encode(&each_cell(&mut Random::new(seed), square(32)));
     print("longest", call, &[longest], rounds);
     Ok(())
 }

@@ -2,7 +2,7 @@
 
 use crate::random::Random;
 use crate::reading::grid::{Size, OFFSETS};
-use crate::reading::record::{Code, Puzzle};
+use crate::reading::record::{plain, Code, Puzzle};
 
 /// Mostly small grids, some strips, some up to 32 by 32.
 pub fn any_size(random: &mut Random) -> Size {
@@ -81,6 +81,13 @@ pub fn puzzle(random: &mut Random, size: Size, style: Arrows) -> Puzzle {
         codes: codes(random, size),
         arrows: arrows(random, size, style),
     }
+}
+
+/// Each cell an arrow, in any order.
+pub fn each_cell(random: &mut Random, size: Size) -> Puzzle {
+    let mut arrows: Vec<Vec<usize>> = (0..size.cells()).map(|cell| vec![cell]).collect();
+    random.shuffle(&mut arrows);
+    plain(size.height, size.width, arrows)
 }
 
 /// Adds up to two short arrows, which may take cells that are used already.

@@ -11,6 +11,7 @@ pub mod finished;
 pub mod grid;
 pub mod groups;
 pub mod host;
+pub mod join;
 pub mod kinds;
 pub mod program;
 pub mod reasons;
@@ -44,6 +45,8 @@ pub enum Refusal {
     RecordOutputShort = 15,
     Edition = 16,
     Player = 17,
+    UnequalHeights = 18,
+    TooWide = 19,
 }
 
 impl Refusal {

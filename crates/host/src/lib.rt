@@ -24,6 +24,7 @@ ghost use Rattle.exported.specs.Written.{bytesOf, written, outputWith};
 ghost use Rattle.clauses.specs.Clauses.{sheetFor};
 ghost use Rattle.shades.specs.Shades.{shadesOn};
 ghost use Rattle.turn.specs.Turn.{turnRecord};
+ghost use Rattle.join.specs.Join.{joinRecord};
 ghost use Rattle.host.specs.Host.{hostFinds, returned, outputAfter, Opens};
 ghost use Rattle.host.specs.Inside.{verdictNumber, judgedBy};
 ghost use Rattle.host.specs.Judged.{hostFinished, judged};
@@ -342,4 +343,14 @@ pub extern "C" fn evolmino_turn(record: &[u8], k: u32, output: &mut [u8]) -> i32
         × (now (output .exit) ≡ outputWith (turnRecord k (length (now (output .entry))) (now («record» .entry))) (now (output .entry))) ⌝ }
 {
     turn::turn(record, k, output)
+}
+
+// Joins two records of equal height: the left grid, a column of black cells, the right grid, the left's arrows and then the right's. The joined record
+// stands in the output's first bytes. Returns how many they are, or the negated number of a refusal, which leaves the output as it was.
+#[no_mangle]
+pub extern "C" fn evolmino_join(left: &[u8], right: &[u8], output: &mut [u8]) -> i32
+    ensures { λ r. ⌜ (r ≡ written (joinRecord (length (now (output .entry))) (now (left .entry)) (now (right .entry))))
+        × (now (output .exit) ≡ outputWith (joinRecord (length (now (output .entry))) (now (left .entry)) (now (right .entry))) (now (output .entry))) ⌝ }
+{
+    join::join(left, right, output)
 }

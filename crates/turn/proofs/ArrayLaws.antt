@@ -1,55 +1,32 @@
 -- A step of a turning, in arrays.
 -- Assumes nothing.
-use Prim.Native.Nat.{ℕ, _*_, _≤_, _<_}
+use Prim.Native.Nat.{ℕ, _*_}
 use native.Mathlib.Omega.{arith}
 use mathlib.Core.Path.{_≡_, sym, ap, subst, _∙_}
 use mathlib.Core.Bool.{Bool, true, false}
 use mathlib.Core.List.{List, map}
-use lib.ListN.{length, getD, take, length-map}
-use lib.Seq.{ext-getD}
-use Rattle.grid.specs.Lists.{upto, last, arrayOf}
+use lib.ListN.{length, getD}
+use Rattle.grid.specs.Lists.{upto, arrayOf}
 use Rattle.grid.specs.Grid.{size}
 use Rattle.grid.specs.Side.{sized}
-use Rattle.grid.proofs.ListLaws.{length-map-upto, map-upto-at, map-at, at-mem}
 use Rattle.grid.proofs.SideLaws.{sized-size}
-use Rattle.grid.proofs.ArrayLaws.{array-length, array-in}
+use Rattle.grid.proofs.ArrayLaws.{array-in}
 use Rattle.grid.proofs.FilledLaws.{filled-same}
 use Rattle.record.specs.Record.{Puzzle}
 use Rattle.record.specs.Valid.{Valid}
 use Rattle.record.specs.Problem.{endsFrom, arrowCells, problemOf}
 use Rattle.record.specs.declared.Problem.{Problem}
-use Rattle.record.proofs.FreshLaws.{arrows-length}
-use Rattle.record.proofs.ProblemLaws.{length-ends}
 use Rattle.record.proofs.RecordLaws.{valid-size}
-use Rattle.record.proofs.LinesLaws.{lines-of}
-use Rattle.form.proofs.ProblemForm.{ends-taken, last-end, line-below}
+use Rattle.writer.proofs.ArrayLaws.{total, map-places, total-is, few}
 use Rattle.turn.specs.Turn.{Turn, turnedBy}
 use Rattle.turn.specs.Inside.{stepOf}
 use Rattle.turn.proofs.TurnLaws.{sides-size}
 use Rattle.turn.proofs.StepLaws.{problem-turned}
 use Rattle.turn.proofs.CellLaws.{step-turns}
 
--- how many cells the arrows have together
-abbrev pub total : List ℕ → ℕ → ℕ
-total ends count = last 0 (take count ends)
-
--- a mapped list by its places
-map-places : (f : ℕ → ℕ) (l : List ℕ) → map (λ t. f (getD l t 0)) (upto (length l)) ≡ map f l
-map-places f l = ext-getD 0 (map (λ t. f (getD l t 0)) (upto (length l))) (map f l) (length-map-upto (λ t. f (getD l t 0)) (length l) ∙ sym (length-map l f))
-    λ i h.
-    let b : i < length l = omega (arith, length-map-upto (λ t. f (getD l t 0)) (length l)) in
-    map-upto-at (λ t. f (getD l t 0)) (length l) i 0 b ∙ sym (map-at f l i b)
-
 module _ (p : Puzzle) (v : Valid p) (b : Bool) where
   abbrev m : Turn
   m = stepOf b (p .grid)
-
-  pub total-is : total (arrayOf 0 (endsFrom 0 (p .arrows))) (length (p .arrows)) ≡ length (arrowCells (p .arrows))
-  total-is = ap (last 0) (ends-taken p v) ∙ last-end p v
-
-  pub few : length (arrowCells (p .arrows)) ≤ 1024
-  unfolding arrowCells
-  few = omega (arith, arrows-length p v, valid-size v)
 
   -- the codes
   codes-are : arrayOf 0 (map (λ j. getD (arrayOf 0 (p .given)) (m .from j) 0) (upto (p .grid .height * p .grid .width))) ≡ arrayOf 0 (map (λ j. getD (p .given) (m .from j) 0) (upto (size (m .grid))))
@@ -65,8 +42,8 @@ module _ (p : Puzzle) (v : Valid p) (b : Bool) where
   -- the arrow cells
   line-is : arrayOf 0 (map (λ t. m .to (getD (arrayOf 0 (arrowCells (p .arrows))) t 0)) (upto (total (arrayOf 0 (endsFrom 0 (p .arrows))) (length (p .arrows))))) ≡ arrayOf 0 (map (m .to) (arrowCells (p .arrows)))
   line-is =
-      ap (λ (k : ℕ). arrayOf 0 (map (λ t. m .to (getD (arrayOf 0 (arrowCells (p .arrows))) t 0)) (upto k))) total-is
-      ∙ filled-same 0 (λ t. m .to (getD (arrayOf 0 (arrowCells (p .arrows))) t 0)) (λ t. m .to (getD (arrowCells (p .arrows)) t 0)) (length (arrowCells (p .arrows))) few
+      ap (λ (k : ℕ). arrayOf 0 (map (λ t. m .to (getD (arrayOf 0 (arrowCells (p .arrows))) t 0)) (upto k))) (total-is p v)
+      ∙ filled-same 0 (λ t. m .to (getD (arrayOf 0 (arrowCells (p .arrows))) t 0)) (λ t. m .to (getD (arrowCells (p .arrows)) t 0)) (length (arrowCells (p .arrows))) (few p v)
       (λ i l. ap (m .to) (array-in 0 (arrowCells (p .arrows)) 0 i l))
       ∙ ap (arrayOf 0) (map-places (m .to) (arrowCells (p .arrows)))
 
@@ -95,36 +72,6 @@ module _ (p : Puzzle) (v : Valid p) (b : Bool) where
 
   pub stepped : (q : Problem) → q ≡ problemOf p → (cells arrows : List ℕ) → Stepped b q cells arrows → afterStep b q cells arrows ≡ problemOf (turnedBy (stepOf b (p .grid)) p)
   stepped q e = subst (λ x. (cells arrows : List ℕ) → Stepped b x cells arrows → afterStep b x cells arrows ≡ problemOf (turnedBy (stepOf b (p .grid)) p)) (sym e) stepped-of
-
-  -- what the parts of a step need
-  pub record Parts (q : Problem) : Type 0 where
-    pub tall : q .height ≤ 32
-    pub wide : q .width ≤ 32
-    pub few : q .count ≤ 1024
-    pub ended : q .count ≤ length (q .ends)
-    pub short : total (q .ends) (q .count) ≤ 1024
-    pub cells : (t : ℕ) → t < total (q .ends) (q .count) → getD (q .arrows) t 0 < q .height * q .width
-
-  parts-of : Parts (problemOf p)
-  unfolding problemOf size
-  parts-of =
-      let many = lines-of p v .few in
-      record {
-        tall = v .high .0;
-        wide = v .high .1;
-        few = many;
-        ended = omega (arith, array-length 0 (endsFrom 0 (p .arrows)) (omega (arith, length-ends 0 (p .arrows), many)), many);
-        short = omega (arith, total-is p v b, few-cells);
-        cells = λ t l.
-            let h : t < length (arrowCells (p .arrows)) = omega (arith, total-is p v b) in
-            rw (array-in 0 (arrowCells (p .arrows)) 0 t h) (line-below p v (getD (arrowCells (p .arrows)) t 0) (at-mem (arrowCells (p .arrows)) t h));
-      }
-    where
-      few-cells : length (arrowCells (p .arrows)) ≤ 1024
-      few-cells = few p v b
-
-  pub parts : (q : Problem) → q ≡ problemOf p → Parts q
-  parts q e = subst Parts (sym e) parts-of
 
 module _ (b : Bool) (q : Problem) (cells arrows : List ℕ) where
   pub after-quarter : b ≡ true → _≡_ {A = Problem} (record { height = q .width; width = q .height; cells = cells; arrows = arrows; ends = q .ends; count = q .count }) (afterStep b q cells arrows)

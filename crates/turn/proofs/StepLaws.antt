@@ -1,16 +1,17 @@
 -- Turning step by step, and in arrays: what the code does.
 -- Assumes nothing.
-use Prim.Native.Nat.{ℕ, zero, suc, _+_, _%_, _<_}
+use Prim.Native.Nat.{ℕ, zero, suc, _%_, _<_}
 use native.Mathlib.Omega.{arith}
 use mathlib.Core.Path.{_≡_, refl, sym, ap, _∙_}
-use mathlib.Core.List.{List, [], _∷_, map, map-map, map-append}
+use mathlib.Core.List.{List, [], _∷_, map, map-map}
 use lib.Dec.{leb}
 use lib.ListN.{length, getD, length-map}
 use lib.Seq.{ext-getD}
-use Rattle.grid.specs.Lists.{flatMap, arrayOf, upto}
+use Rattle.grid.specs.Lists.{arrayOf, upto}
 use Rattle.grid.specs.Grid.{Grid, size, cellsOf}
 use Rattle.record.specs.Record.{Puzzle}
 use Rattle.record.specs.Problem.{endsFrom, arrowCells, problemOf}
+use Rattle.writer.proofs.ArrayLaws.{ends-map, cells-map}
 use Rattle.turn.specs.Turn.{Turn, quarter, then, quarters, flipIf, turning, carried, turnedBy, turned}
 use Rattle.turn.specs.Inside.{spun}
 use Rattle.turn.proofs.TurnLaws.{Turns, quarter-turns}
@@ -42,16 +43,6 @@ spun-by p (suc r) m = puzzle-then p (quarters r m) quarter (quarter-turns (quart
 pub turned-steps : (k : ℕ) (p : Puzzle) → turned k p ≡ spun (k % 4) (turnedBy (flipIf (leb 4 k) (p .grid)) p)
 unfolding turned turning
 turned-steps k p = spun-by p (k % 4) (flipIf (leb 4 k) (p .grid))
-
-ends-map : (f : ℕ → ℕ) (at : ℕ) (as′ : List (List ℕ)) → endsFrom at (map (map f) as′) ≡ endsFrom at as′
-unfolding endsFrom
-ends-map f at [] = refl
-ends-map f at (a ∷ as′) = rw (length-map a f, ends-map f (at + length a) as′)
-
-cells-map : (f : ℕ → ℕ) (as′ : List (List ℕ)) → arrowCells (map (map f) as′) ≡ map f (arrowCells as′)
-unfolding arrowCells flatMap
-cells-map f [] = refl
-cells-map f (a ∷ as′) = rw (cells-map f as′) (sym (map-append f a (arrowCells as′)))
 
 -- a turned puzzle in arrays: codes from where they come, arrow cells to where they go, and the ends as they are
 pub problem-turned : (m : Turn) (p : Puzzle) → problemOf (turnedBy m p) ≡ record {

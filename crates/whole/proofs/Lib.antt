@@ -1,3 +1,4 @@
 pub mod PartLaws
 pub mod WholeLaws
 pub mod TurnedLaws
+pub mod JoinedLaws

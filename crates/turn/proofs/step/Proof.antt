@@ -6,8 +6,9 @@ use mathlib.Core.List.{map}
 use lib.ListN.{getD}
 use Rattle.grid.specs.Lists.{upto, arrayOf}
 use Rattle.grid.specs.Side.{sized}
+use Rattle.writer.proofs.ArrayLaws.{parts}
 use Rattle.turn.specs.Inside.{stepOf}
-use Rattle.turn.proofs.ArrayLaws.{Stepped, stepped, parts, after-quarter, after-flip}
+use Rattle.turn.proofs.ArrayLaws.{Stepped, stepped, after-quarter, after-flip}
 use Rattle.turn.proofs.step.Statement.{statement}
 use Rattle.turn.proofs.step.Tie as tie
 
@@ -15,14 +16,14 @@ move-cells-requires : tie.Need-move-cells-requires
 move-cells-requires c κs =
     let s = c .before .before .before .before in
     let p = s .pre in
-    let r = parts (p .0) (p .1) (s .args .quarter) (s .args .problem) (p .2) in
+    let r = parts (p .0) (p .1) (s .args .problem) (p .2) in
     (r .tall, r .wide)
 
 arrow-total-requires : tie.Need-arrow-total-requires
 arrow-total-requires c κs =
     let s = c .before .before .before .before .before .before in
     let p = s .pre in
-    let r = parts (p .0) (p .1) (s .args .quarter) (s .args .problem) (p .2) in
+    let r = parts (p .0) (p .1) (s .args .problem) (p .2) in
     (r .few, r .ended)
 
 move-line-requires : tie.Need-move-line-requires
@@ -30,7 +31,7 @@ move-line-requires c κs =
     let n = c .before in
     let s = n .before .before .before .before .before .before .before in
     let p = s .pre in
-    let r = parts (p .0) (p .1) (s .args .quarter) (s .args .problem) (p .2) in
+    let r = parts (p .0) (p .1) (s .args .problem) (p .2) in
     (r .tall, r .wide, rw (n .arrow-total .ensures) (r .short), λ t l. r .cells t (rw (n .arrow-total .ensures) at l))
 
 returns : tie.Need-returns
