@@ -172,25 +172,25 @@ pub fn find_bytes(record: &[u8], decisions: &[u8], output: &mut [u8]) -> Result<
     written(evolmino_find, record, decisions, output)
 }
 
-/// One of the archive's calls for a record, decisions and an output. It reads the first two, writes only the third, and keeps none of
-/// them.
+/// One of the archive's calls for two slices of bytes, as a record and decisions are, and an output. It reads the first two, writes
+/// only the third, and keeps none of them.
 pub(crate) type Writing =
     unsafe extern "C" fn(*const u8, usize, *const u8, usize, *mut u8, usize) -> i32;
 
 /// What such a call returns.
 pub(crate) fn written(
     call: Writing,
-    record: &[u8],
-    decisions: &[u8],
+    first: &[u8],
+    second: &[u8],
     output: &mut [u8],
 ) -> Result<usize, Refusal> {
     // Safe: each pointer comes from a slice and goes with its length.
     let answer = unsafe {
         call(
-            record.as_ptr(),
-            record.len(),
-            decisions.as_ptr(),
-            decisions.len(),
+            first.as_ptr(),
+            first.len(),
+            second.as_ptr(),
+            second.len(),
             output.as_mut_ptr(),
             output.len(),
         )

@@ -1,6 +1,6 @@
 //! Two puzzles on one leaf: the exported call, made safe.
 
-use crate::host::{counted, Refusal};
+use crate::host::{written, Refusal};
 
 extern "C" {
     fn evolmino_join(
@@ -24,19 +24,7 @@ const RECORD_LIMIT: usize = 2_819;
 /// [`Refusal::UnequalHeights`], [`Refusal::TooWide`], and last [`Refusal::RecordOutputShort`]. See [`join`] for which of the two
 /// records a refusal is of. It keeps nothing, takes nothing from the heap and up to about 40 kilobytes of stack.
 pub fn join_bytes(left: &[u8], right: &[u8], output: &mut [u8]) -> Result<usize, Refusal> {
-    // Safe: each pointer comes from a slice and goes with its length; the call reads the first two, writes only the third, and
-    // keeps none of them.
-    let answer = unsafe {
-        evolmino_join(
-            left.as_ptr(),
-            left.len(),
-            right.as_ptr(),
-            right.len(),
-            output.as_mut_ptr(),
-            output.len(),
-        )
-    };
-    counted(answer)
+    written(evolmino_join, left, right, output)
 }
 
 /// The record of two puzzles of equal height on one leaf: the left grid, a column of black cells, the right grid; the left's arrows
