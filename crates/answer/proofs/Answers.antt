@@ -13,7 +13,7 @@ use Rattle.record.specs.Record.{Outcome}
 use Rattle.grid.specs.Cells.{Literal, word}
 use Rattle.literals.specs.Literals.{Found}
 use Rattle.exported.specs.Written.{bytesOf}
-use Rattle.host.specs.Host.{returned, outputAfter}
+use Rattle.host_find.specs.Host.{returned, outputAfter}
 use Rattle.text.specs.Text.{digits, line, twoWords, reasonText, literalLine, literalIn, literalsIn}
 use Rattle.text.specs.Told.{toldBy, countOf, toldText}
 use Rattle.text.specs.declared.Told.{Told}

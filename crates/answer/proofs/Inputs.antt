@@ -8,7 +8,7 @@ use lib.ListN.{length, take, drop}
 use borrow.Author.Tests.{lt-ltb, le-ltb}
 use borrow.Rule.Slice.PartAt.{part-to-end}
 use Rattle.record.specs.Record.{refused}
-use Rattle.host.specs.Host.{hostFinds}
+use Rattle.host_find.specs.Host.{hostFinds}
 use Rattle.answer.specs.Program.{lengthSaid, outputLimit, answerOf, inputAnswer, programFinds}
 
 -- fewer than two bytes

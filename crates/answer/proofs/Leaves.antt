@@ -17,7 +17,8 @@ use Rattle.units.specs.Units.{reason1At, reason1}
 use Rattle.paths.specs.Paths.{appended, breadthFirst, parent, path, reason2At, reason2}
 use Rattle.growth.specs.Growth.{mostApart, blockName, reasonGrow, reason3At, gap, reasonShrink, reason4At, reason4aAt, reason4bAt, reason34}
 use Rattle.reasons.specs.Reasons.{findReason, findOn}
-use Rattle.host.specs.Host.{acceptOr, decideBytes, hostFinds}
+use Rattle.call.specs.Call.{acceptOr, decideBytes}
+use Rattle.host_find.specs.Host.{hostFinds}
 use Rattle.host.proofs.Leaves.{S}
 use Rattle.text.specs.Text.{digitsWithin, digits, line, noneText, reasonText, refusedText, twoWords, literalLine}
 use Rattle.answer.specs.Program.{textOf, outputLimit, answerOf, inputAnswer, programFinds, printed}

@@ -9,7 +9,7 @@ use lib.ListN.{length, getD, take, drop}
 use Rattle.grid.specs.Lists.{flatMap}
 use Rattle.record.specs.Record.{Outcome, ok, refused}
 use Rattle.literals.specs.Literals.{Found}
-use Rattle.host.specs.Host.{hostFinds}
+use Rattle.host_find.specs.Host.{hostFinds}
 use Rattle.text.specs.Text.{digits, line, twoWords, noneText, reasonText, refusedText, literalLine}
 
 -- the text for what the host call finds

@@ -2,7 +2,7 @@
 ghost use mathlib.Core.Path.{_≡_};
 ghost use Prim.Native.Nat.{_+_, _*_, _<_};
 ghost use lib.ListN.{length};
-ghost use Rattle.host.specs.Host.{returned, outputAfter};
+ghost use Rattle.host_find.specs.Host.{returned, outputAfter};
 ghost use Rattle.answer.specs.Program.{programFinds, printed};
 ghost use Rattle.text.specs.Text.{Written};
 

@@ -1,3 +1,4 @@
 pub mod NegatedLaws
 pub mod BytesLaws
+pub mod OutputLaws
 pub mod WrittenLaws

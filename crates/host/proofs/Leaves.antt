@@ -22,8 +22,9 @@ use Rattle.paths.specs.Paths.{appended, breadthFirst, parent, path, reason2At, 
 use Rattle.growth.specs.Growth.{mostApart, blockName, reasonGrow, reason3At, gap, reasonShrink, reason4At, reason4aAt, reason4bAt, reason34}
 use Rattle.reasons.specs.Reasons.{findReason, findOn}
 use Rattle.finished.specs.Finished.{keeps, keepsAll, twoSquares, allButRules, finishedTest}
-use Rattle.host.specs.Host.{acceptOr, decideBytes, hostFinds}
-use Rattle.host.specs.Judged.{hostFinished}
+use Rattle.call.specs.Call.{acceptOr, decideBytes}
+use Rattle.host_find.specs.Host.{hostFinds}
+use Rattle.host_finished.specs.Judged.{hostFinished}
 
 -- open a record, decide in order, find
 abbrev pub findAfter : List ℕ → List Call → Outcome Found

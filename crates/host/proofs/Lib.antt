@@ -1,12 +1,5 @@
 pub mod Leaves
 pub mod PairByPair
-pub mod HostLaws
-pub mod OutputLaws
-pub mod FoundLaws
 pub mod Returns
-pub mod ShadedLaws
 pub mod ShadedLeaves
-pub mod Behind
-pub mod JudgedLaws
-pub mod ToldLaws
 pub mod ToldLeaves

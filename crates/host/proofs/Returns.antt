@@ -35,10 +35,11 @@ use Rattle.certain.specs.declared.Certainty.the-variants.{Spent}
 use Rattle.certain.specs.declared.Facts.{Facts}
 use Rattle.exported.specs.Written.{bytesOf}
 use Rattle.exported.proofs.BytesLaws.{bytes-length}
-use Rattle.host.specs.Host.{acceptOr, decideBytes, hostCall, hostFinds, returned}
-use Rattle.host.specs.Judged.{hostFinished}
-use Rattle.host.specs.Shaded.{hostShades}
-use Rattle.host.specs.Told.{certaintyNumber, Said, saidOf, hostCertain}
+use Rattle.call.specs.Call.{acceptOr, decideBytes, hostCall}
+use Rattle.host_find.specs.Host.{hostFinds, returned}
+use Rattle.host_finished.specs.Judged.{hostFinished}
+use Rattle.host_shades.specs.Shaded.{hostShades}
+use Rattle.host_certain.specs.Told.{certaintyNumber, Said, saidOf, hostCertain}
 use Rattle.host.specs.Returns.{faults, refusals, Returns, negated-refusal, literal-count, Possible, refusal-of, value-of, FoundOn, no-reason, some-reason, FoundWith}
 
 -- ---- an outcome step by step

@@ -11,8 +11,8 @@ use Rattle.board.specs.Board.{valueAt, cellsAfter, decided, after, refusal}
 use Rattle.groups.specs.Groups.{rename, join, joinAll, edges, labels, group}
 use Rattle.shades.specs.Shades.{blockFirst, blockCount, shadeOf, shadesOn}
 use Rattle.exported.specs.Written.{bytesOf}
-use Rattle.host.specs.Host.{acceptOr, decideBytes}
-use Rattle.host.specs.Shaded.{hostShades}
+use Rattle.call.specs.Call.{acceptOr, decideBytes}
+use Rattle.host_shades.specs.Shaded.{hostShades}
 use Rattle.host.proofs.Leaves.{S}
 
 -- two rows of two cells, no arrow

@@ -23,8 +23,8 @@ use Rattle.finished.specs.Finished.{keeps, keepsAll, twoSquares, allButRules, f
 use Rattle.certain.specs.Tree.{lowest, Reached, counted, both, stepped, searchIn, search}
 use Rattle.certain.specs.Facts.{seen, factOf, factsIn, certainty, untold, known, certainBy}
 use Rattle.exported.specs.Written.{bytesOf}
-use Rattle.host.specs.Host.{acceptOr, decideBytes}
-use Rattle.host.specs.Told.{certaintyNumber, stepBytes, certainBytes, Said, saidOf, hostCertain}
+use Rattle.call.specs.Call.{acceptOr, decideBytes}
+use Rattle.host_certain.specs.Told.{certaintyNumber, stepBytes, certainBytes, Said, saidOf, hostCertain}
 use Rattle.host.proofs.Leaves.{S, pairT}
 
 -- two rows of three cells, one arrow along the first row

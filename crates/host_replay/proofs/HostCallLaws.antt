@@ -13,7 +13,7 @@ use mir.Val.{SFits, ofZ, toZ}
 use mir.ValLaws.{toZ-ofZ}
 use borrow.Author.Tests.{ne-eqb}
 use borrow.Rule.Slice.PartMut.{midOf, putMid, mid-len, post-is}
-use Rattle.host.specs.Host.{hostFinds, returned, outputAfter}
+use Rattle.host_find.specs.Host.{hostFinds, returned, outputAfter}
 use Rattle.replay.specs.Comparisons.{DiffersUnless}
 use Rattle.replay.specs.Lists.{differs}
 use Rattle.replay.proofs.ComparisonLaws.{fails-so, then-differs, test-told}

@@ -6,7 +6,7 @@ use mathlib.Core.Path.{_≡_}
 use mathlib.Core.List.{List, _++_}
 use lib.IntN.{ℤ}
 use lib.ListN.{take, drop, replicate}
-use Rattle.host.specs.Host.{hostFinds, returned, outputAfter}
+use Rattle.host_find.specs.Host.{hostFinds, returned, outputAfter}
 use Rattle.replay.specs.Lists.{differs}
 
 -- the array before a call

@@ -8,8 +8,8 @@ use mir.Syntax.{w32}
 use mir.ValLaws.{toZ-ofZ}
 use Rattle.record.specs.Record.{Outcome}
 use Rattle.literals.specs.Literals.{Found}
-use Rattle.host.specs.Host.{returned, outputAfter}
-use Rattle.host.proofs.FoundLaws.{refused-told}
+use Rattle.host_find.specs.Host.{returned, outputAfter}
+use Rattle.host_find.proofs.FoundLaws.{refused-told}
 use Rattle.answer.proofs.Inputs.{too-long, too-short, cut-short, whole-parts}
 use Rattle.answer.proofs.find_in.Statement.{statement}
 use Rattle.answer.proofs.find_in.Tie as tie

@@ -5,7 +5,7 @@ use borrow.Author.Needs.{needs}
 use mir.Syntax.{w32}
 use mir.Val.{toZ, ofZ}
 use mir.ValLaws.{toZ-ofZ}
-use Rattle.host.specs.Host.{returned}
+use Rattle.host_find.specs.Host.{returned}
 use Rattle.answer.specs.Program.{programFinds}
 use Rattle.answer.proofs.Answers.{code-small, count-small, output-long, text-printed}
 use Rattle.answer.proofs.respond.Statement.{statement}

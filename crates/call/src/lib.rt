@@ -1,0 +1,1 @@
+// What the calls share that open a record and decide in order: definitions and laws only.
