@@ -59,7 +59,7 @@ extern "C" {
  * which changes no byte: the record's 1 to 5, then 11 for an output shorter than 2 * (3 * height * width + 1) bytes, then for each decision
  * in turn 12, 7, 9, and 12 for a single byte that is left over. Bytes behind the last literal are unchanged. The pointers are not null, also
  * where a length is 0, and the output does not overlap the record or the decisions. The call keeps nothing and may be made from any thread,
- * also from several at once; it takes up to about 115 kilobytes of stack.
+ * also from several at once; it takes up to about 105 kilobytes of stack.
  */
 int32_t evolmino_find(const uint8_t *record, size_t record_len,
                       const uint8_t *decisions, size_t decisions_len,
@@ -69,7 +69,7 @@ int32_t evolmino_find(const uint8_t *record, size_t record_len,
  * square, the block rules hold, and two squares or more stand on every arrow. Decisions and pointers are as for evolmino_find.
  *
  * Returns 1 for yes, 0 for no, or the negated number of a refusal: the record's 1 to 5, then for each decision in turn 12, 7, 9, and 12 for a
- * single byte that is left over. It keeps nothing either, and takes up to about 65 kilobytes of stack.
+ * single byte that is left over. It keeps nothing either, and takes up to about 45 kilobytes of stack.
  */
 int32_t evolmino_finished(const uint8_t *record, size_t record_len,
                           const uint8_t *decisions, size_t decisions_len);

@@ -167,7 +167,7 @@ impl std::error::Error for Refusal {}
 /// The exported call itself, on bytes: a record, decisions of two bytes each, and an output. It returns the number of literals that
 /// stand in the output's first bytes, two bytes each, 0 for none; behind them, and where it refuses, the output is unchanged.
 ///
-/// It keeps nothing, takes nothing from the heap and up to about 115 kilobytes of stack.
+/// It keeps nothing, takes nothing from the heap and up to about 105 kilobytes of stack.
 pub fn find_bytes(record: &[u8], decisions: &[u8], output: &mut [u8]) -> Result<usize, Refusal> {
     written(evolmino_find, record, decisions, output)
 }
@@ -215,7 +215,7 @@ pub fn find(record: &[u8], decisions: &[Literal]) -> Result<Option<Vec<Literal>>
 
 /// The exported call that tells whether a leaf is finished, on bytes: a record, and decisions of two bytes each.
 ///
-/// It keeps nothing, takes nothing from the heap and up to about 65 kilobytes of stack.
+/// It keeps nothing, takes nothing from the heap and up to about 45 kilobytes of stack.
 pub fn finished_bytes(record: &[u8], decisions: &[u8]) -> Result<bool, Refusal> {
     // Safe: each pointer comes from a slice and goes with its length; the call reads both and keeps neither.
     let answer = unsafe {

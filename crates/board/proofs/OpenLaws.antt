@@ -35,7 +35,7 @@ fresh-cells g h =
     rw (all-two 0 (size g), length-replicate {A = ℕ} (size g) 2) (replicate-append-replicate (size g) (1024 - size g) 2 ∙ ap (λ (k : ℕ). replicate k 2) n)
 
 -- the fresh board of a leaf
-fresh-leaf : (l : Leaf) → size (l .puzzle .grid) ≤ 1024 → freshOf (problemOf (l .puzzle)) (l .edition) ≡ boardOf l [] noHints
+pub fresh-leaf : (l : Leaf) → size (l .puzzle .grid) ≤ 1024 → freshOf (problemOf (l .puzzle)) (l .edition) ≡ boardOf l [] noHints
 unfolding boardOf
 fresh-leaf l h = rw (fresh-cells (l .puzzle .grid) h) (unfold arrayOf in refl)
 

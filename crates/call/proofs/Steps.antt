@@ -6,29 +6,37 @@ use mathlib.Core.Path.{_≡_, refl, sym, ap, _∙_}
 use mathlib.Core.Bool.{Bool, true, false, cond}
 use mathlib.Core.List.{List, [], _∷_}
 use lib.Dec.{eqb}
+use lib.ListN.{take}
 use borrow.Author.Tests.{le-leb, lt-leb}
 use Rattle.grid.specs.Grid.{Grid, size}
 use Rattle.grid.specs.Cells.{Literal}
+use Rattle.grid.specs.Lists.{arrayOf}
+use Rattle.grid.proofs.ArrayLaws.{array-take}
 use Rattle.record.specs.Record.{Outcome, ok, refused, Puzzle, readRecord, _>>=_, unless}
-use Rattle.record.specs.Problem.{problemOf}
+use Rattle.record.specs.Problem.{problemOf, puzzleOf, readOf}
 use Rattle.record.specs.Valid.{Valid}
-use Rattle.record.specs.Leaf.{Leaf, inEdition, isEdition, leafOf}
+use Rattle.record.specs.Leaf.{Leaf, inEdition, isEdition}
+use Rattle.record.specs.declared.Problem.{Problem}
+use Rattle.record.specs.declared.Reading.{Reading}
 use Rattle.record.specs.declared.Answer.{Answer}
 use Rattle.record.specs.declared.Answer.the-variants.{Done, Refused}
+use Rattle.record.proofs.ProblemLaws.{read-done, problem-puzzle}
 use Rattle.record.proofs.RecordLaws.{record-valid, valid-size}
 use Rattle.record.proofs.LeafLaws.{ValidLeaf}
-use Rattle.board.specs.Board.{decide, after, refusal}
+use Rattle.form.proofs.ProblemForm.{Formed, valid-formed}
+use Rattle.board.specs.Board.{decide, after, refusal, cellsAfter}
 use Rattle.board.specs.Form.{wellFormed}
-use Rattle.board.specs.Kept.{noHints, boardOf, opening, openOf}
-use Rattle.board.specs.Decide.{decideRefusal, decideOf, answered, refusedWith, onward, placed, placedFrom, allPlaced}
+use Rattle.board.specs.Kept.{noHints, boardOf}
+use Rattle.board.specs.Decide.{withDecisions, decideRefusal, decideOf, answered, refusedWith, onward, placed, placedFrom, allPlaced}
+use Rattle.board.specs.Inside.{freshOf}
 use Rattle.board.specs.declared.Board.{Board}
 use Rattle.board.specs.declared.Decided.{Decided}
-use Rattle.board.specs.declared.Opened.{Opened}
 use Rattle.board.proofs.HintLaws.{no-hints}
-use Rattle.board.proofs.Standing.{Standing, none, after-standing}
+use Rattle.board.proofs.OpenLaws.{fresh-leaf}
+use Rattle.board.proofs.Standing.{Standing, none, after-standing, cells-valid}
 use Rattle.board.proofs.CallLaws.{standing-well, decide-number, decide-left}
 use Rattle.call.specs.Call.{acceptOr, decideBytes, hostCall}
-use Rattle.call.specs.Inside.{Opens}
+use Rattle.call.specs.Inside.{Decides}
 
 -- the board's answer to a list of decisions, by the machine's
 unfoldable pub decidedBy : Board → Leaf → Outcome (List Literal) → Decided
@@ -79,84 +87,91 @@ bytes-standing g (a ∷ b ∷ rest) {ds} {es} s e =
         accepted (refusal g (decide i x) ds) (decideBytes g (after g (decide i x) ds) rest)
         (next (after g (decide i x) ds) (after-standing g (decide i x) s)) q
 
--- ---- a call, step by step
+-- ---- the fresh board of an accepted record
 
--- edition 1 is never refused, so where the record is not opened it is refused
-pub record-refused : (s : List ℕ) (o : Opened) {k : ℕ} → o ≡ openOf s 1 → o .answer ≡ Refused k → readRecord s ≡ refused k
-unfolding openOf opening leafOf isEdition unless _>>=_
-record-refused s o {k} e f = go (readRecord s) (sym (ap (λ (o : Opened). o .answer) e) ∙ f)
-  where
-    go : (r : Outcome Puzzle) → opening (r >>= λ p. unless (isEdition 1) 16 >>= λ _. ok (inEdition 1 p)) .answer ≡ Refused k → r ≡ refused k
-    go (refused m) q = let z : m ≡ k = cc in ap refused z
-    go (ok p) q = let z : _≡_ {A = ℕ} 0 1 = cc in absurd (omega arith)
+module _ (p : Puzzle) (v : Valid p) where
+  -- the leaf in edition 1 is an accepted one
+  pub first-leaf : ValidLeaf (inEdition 1 p)
+  unfolding isEdition
+  first-leaf = record { puzzle = v; edition = refl }
 
--- an accepted record
-pub open-done : (s : List ℕ) (o : Opened) → o ≡ openOf s 1 → o .answer ≡ Done → Opens s (o .board)
-open-done s o e f = sym e ∙ ap (λ (a : Answer). record { answer = a; board = o .board }) f
+  -- its board, as the code keeps it
+  pub fresh-first : freshOf (problemOf p) 1 ≡ boardOf (inEdition 1 p) [] noHints
+  fresh-first = fresh-leaf (inEdition 1 p) (valid-size v)
 
--- the puzzle of an accepted record, and its fresh board
-pub record OpensAs (s : List ℕ) (b : Board) : Type 0 where
+  module _ {b : Board} (fresh : b ≡ boardOf (inEdition 1 p) [] noHints) where
+    -- the board is well formed
+    pub fresh-well : wellFormed b ≡ true
+    fresh-well = rw fresh (standing-well (inEdition 1 p) first-leaf no-hints none)
+
+    -- the board's list of decisions answers as the machine does
+    pub all-decided : (decisions : List ℕ) → allPlaced b (placedFrom b decisions) ≡ decidedBy b (inEdition 1 p) (decideBytes (p .grid) [] decisions)
+    all-decided decisions = rw fresh (decided-bytes (inEdition 1 p) first-leaf (boardOf (inEdition 1 p) [] noHints) decisions none)
+
+    -- what placing all decisions answers, and the states that it leaves
+    module _ (decisions : List ℕ) (a : Answer) (cells order : List ℕ) (n : ℕ) (e : placedFrom b decisions ≡ record { answer = a; board = withDecisions b cells order n }) where
+      answered-as : {x : Answer} → a ≡ x → allPlaced b (record { answer = x; board = withDecisions b cells order n }) ≡ decidedBy b (inEdition 1 p) (decideBytes (p .grid) [] decisions)
+      answered-as f = sym (ap (λ (x : Answer). allPlaced b (record { answer = x; board = withDecisions b cells order n })) f) ∙ sym (ap (allPlaced b) e) ∙ all-decided decisions
+
+      pub decides : Decides (p .grid) decisions a cells
+      unfolding onward decidedBy refusedWith boardOf
+      decides = record { done = λ f. accepted (decideBytes (p .grid) [] decisions) refl (answered-as f); refusal = λ f. not-accepted (decideBytes (p .grid) [] decisions) (answered-as f) }
+        where
+          accepted : (r : Outcome (List Literal)) → decideBytes (p .grid) [] decisions ≡ r → _≡_ {A = Decided} (record { answer = Done; board = withDecisions b cells order n }) (decidedBy b (inEdition 1 p) r)
+              → (ds : List Literal) × (decideBytes (p .grid) [] decisions ≡ ok ds) × (cells ≡ arrayOf 2 (cellsAfter (p .grid) ds))
+          accepted (refused m) q g = let a = ap (λ (d : Decided). d .answer) g in let z : _≡_ {A = ℕ} 0 1 = cc in absurd (omega arith)
+          accepted (ok ds) q g = (ds, q, ap (λ (d : Decided). d .board .cells) g)
+
+          not-accepted : {k : ℕ} (r : Outcome (List Literal)) → refusedWith k b ≡ decidedBy b (inEdition 1 p) r → r ≡ refused k
+          not-accepted {k} (refused m) g = let a = ap (λ (d : Decided). d .answer) g in let z : m ≡ k = cc in ap refused z
+          not-accepted (ok ds) g = let a = ap (λ (d : Decided). d .answer) g in let z : _≡_ {A = ℕ} 0 1 = cc in absurd (omega arith)
+
+-- ---- the arrays of an accepted record
+
+-- the states, taken from their array
+pub states-taken : {g : Grid} {ds : List Literal} → Standing g ds → take (size g) (arrayOf 2 (cellsAfter g ds)) ≡ cellsAfter g ds
+states-taken {g} {ds} t = rw (← cells-valid t .long) (array-take 2 (cellsAfter g ds))
+
+-- the record s is accepted, and the problem is its puzzle's
+pub record Reads (s : List ℕ) (q : Problem) : Type 0 where
   pub puzzle : Puzzle
   pub reads : readRecord s ≡ ok puzzle
-  pub fresh : b ≡ boardOf (inEdition 1 puzzle) [] noHints
+  pub is : q ≡ problemOf puzzle
 
-pub opens-as : (s : List ℕ) (b : Board) → Opens s b → OpensAs s b
-unfolding openOf opening leafOf isEdition unless _>>=_
-opens-as s b e = go (readRecord s) refl e
-  where
-    go : (r : Outcome Puzzle) → readRecord s ≡ r → opening (r >>= λ p. unless (isEdition 1) 16 >>= λ _. ok (inEdition 1 p)) ≡ record { answer = Done; board = b } → OpensAs s b
-    go (refused m) q f = let g = ap (λ (o : Opened). o .answer) f in let z : _≡_ {A = ℕ} 0 1 = cc in absurd (omega arith)
-    go (ok p) q f = record { puzzle = p; reads = q; fresh = sym (ap (λ (o : Opened). o .board) f) }
+pub reads-done : (s : List ℕ) (r : Reading) → r ≡ readOf s → r .answer ≡ Done → Reads s (r .problem)
+reads-done s r e d =
+    let p = read-done s r e d in
+    record { puzzle = p .0; reads = p .1; is = p .2 }
 
-module _ (s : List ℕ) {p : Puzzle} (reads : readRecord s ≡ ok p) {b : Board} (fresh : b ≡ boardOf (inEdition 1 p) [] noHints) where
-  pub opens-valid : Valid p
-  opens-valid = record-valid s reads
+module _ {s : List ℕ} {q : Problem} (r : Reads s q) where
+  pub reads-valid : Valid (r .puzzle)
+  reads-valid = record-valid s (r .reads)
 
-  -- the leaf is an accepted one
-  pub opens-leaf : ValidLeaf (inEdition 1 p)
-  unfolding isEdition
-  opens-leaf = record { puzzle = opens-valid; edition = refl }
-
-  -- the board is of edition 1
-  pub opens-first : b .edition ≡ 1
-  unfolding boardOf
-  opens-first = rw fresh refl
-
-  pub opens-size : b .problem .height * b .problem .width ≡ size (p .grid)
-  unfolding boardOf problemOf size
-  opens-size = rw fresh refl
+  pub reads-size : q .height * q .width ≡ size (r .puzzle .grid)
+  unfolding problemOf size
+  reads-size = rw (r .is) refl
 
   -- the cells are few, so nothing overflows
-  pub opens-area : b .problem .height * b .problem .width ≤ 1024
-  opens-area = rw opens-size (valid-size opens-valid)
+  pub reads-few : q .height * q .width ≤ 1024
+  reads-few = rw reads-size (valid-size reads-valid)
 
-  -- the board is well formed
-  pub opens-well : wellFormed b ≡ true
-  opens-well = rw fresh (standing-well (inEdition 1 p) opens-leaf no-hints none)
+  -- the arrays are those of an accepted record
+  pub reads-formed : Formed q
+  reads-formed = rw (r .is) (valid-formed (r .puzzle) reads-valid)
 
-  -- the board's list of decisions answers as the machine does
-  pub all-decided : (decisions : List ℕ) → allPlaced b (placedFrom b decisions) ≡ decidedBy b (inEdition 1 p) (decideBytes (p .grid) [] decisions)
-  all-decided decisions = rw fresh (decided-bytes (inEdition 1 p) opens-leaf (boardOf (inEdition 1 p) [] noHints) decisions none)
+  -- the puzzle is the record's
+  pub reads-puzzle : puzzleOf q ≡ r .puzzle
+  reads-puzzle = ap puzzleOf (r .is) ∙ problem-puzzle (r .puzzle) reads-valid
 
-  -- where all of them are accepted, the board that is left is the machine's
-  pub left-standing : (decisions : List ℕ) (a : Answer) (left : Board) → placedFrom b decisions ≡ record { answer = a; board = left } → a ≡ Done
-      → (ds : List Literal) × Standing (p .grid) ds × (left ≡ boardOf (inEdition 1 p) ds noHints) × (decideBytes (p .grid) [] decisions ≡ ok ds)
-  unfolding onward decidedBy refusedWith
-  left-standing decisions a left e f =
-      go (decideBytes (p .grid) [] decisions) refl (sym (ap (λ (x : Answer). allPlaced b (record { answer = x; board = left })) f) ∙ sym (ap (allPlaced b) e) ∙ all-decided decisions)
-    where
-      go : (r : Outcome (List Literal)) → decideBytes (p .grid) [] decisions ≡ r → _≡_ {A = Decided} (record { answer = Done; board = left }) (decidedBy b (inEdition 1 p) r)
-          → (ds : List Literal) × Standing (p .grid) ds × (left ≡ boardOf (inEdition 1 p) ds noHints) × (decideBytes (p .grid) [] decisions ≡ ok ds)
-      go (refused m) q g = let a = ap (λ (d : Decided). d .answer) g in let z : _≡_ {A = ℕ} 0 1 = cc in absurd (omega arith)
-      go (ok ds) q g = (ds, bytes-standing (p .grid) decisions none q, ap (λ (d : Decided). d .board) g, q)
+-- ---- a call, step by step
 
-module _ {A : Type 0} (need : Grid → ℕ) (says : Puzzle → List Literal → A) where
+module _ {A : Type 0} (need : Grid → ℕ) (says : Puzzle → List Literal → A) (s : List ℕ) where
   -- a refused record
-  pub call-unread : (s : List ℕ) (o : Opened) {k : ℕ} → o ≡ openOf s 1 → o .answer ≡ Refused k → (decisions : List ℕ) (n : ℕ) → hostCall need says s decisions n ≡ refused k
+  pub call-unread : {k : ℕ} → readRecord s ≡ refused k → (decisions : List ℕ) (n : ℕ) → hostCall need says s decisions n ≡ refused k
   unfolding _>>=_
-  call-unread s o e f decisions n = rw (record-refused s o e f) refl
+  call-unread e decisions n = rw e refl
 
-  module _ (s : List ℕ) {p : Puzzle} (reads : readRecord s ≡ ok p) {b : Board} (fresh : b ≡ boardOf (inEdition 1 p) [] noHints) (decisions : List ℕ) (n : ℕ) where
+  module _ {p : Puzzle} (reads : readRecord s ≡ ok p) (decisions : List ℕ) (n : ℕ) where
     -- an output that is too short
     pub call-short : n < need (p .grid) → hostCall need says s decisions n ≡ refused 11
     unfolding _>>=_ unless
@@ -167,21 +182,16 @@ module _ {A : Type 0} (need : Grid → ℕ) (says : Puzzle → List Literal → 
     unfolding _>>=_ unless
     call-long h = rw (reads, le-leb (need (p .grid)) n h) refl
 
-    -- what placing all decisions answers, and the board that it leaves
-    module _ (a : Answer) (left : Board) (e : placedFrom b decisions ≡ record { answer = a; board = left }) (h : need (p .grid) ≤ n) where
+    -- what deciding in order answers, and the states that it leaves
+    module _ {a : Answer} {cells : List ℕ} (d : Decides (p .grid) decisions a cells) (h : need (p .grid) ≤ n) where
       -- a decision is refused
       pub call-refused : {k : ℕ} → a ≡ Refused k → hostCall need says s decisions n ≡ refused k
-      unfolding onward decidedBy refusedWith _>>=_
-      call-refused {k} f =
-          call-long h ∙ go (decideBytes (p .grid) [] decisions) (sym (ap (λ (x : Answer). allPlaced b (record { answer = x; board = left })) f) ∙ sym (ap (allPlaced b) e) ∙ all-decided s reads fresh decisions)
-        where
-          go : (r : Outcome (List Literal)) → refusedWith k b ≡ decidedBy b (inEdition 1 p) r → (r >>= λ ds. ok (says p ds)) ≡ refused k
-          go (refused m) q = let a = ap (λ (d : Decided). d .answer) q in let z : m ≡ k = cc in ap refused z
-          go (ok ds) q = let a = ap (λ (d : Decided). d .answer) q in let z : _≡_ {A = ℕ} 0 1 = cc in absurd (omega arith)
-
-      -- all are accepted: the call says what it says of the board that is left
-      pub call-done : a ≡ Done → (v : A) → ((ds : List Literal) → Standing (p .grid) ds → left ≡ boardOf (inEdition 1 p) ds noHints → says p ds ≡ v) → hostCall need says s decisions n ≡ ok v
       unfolding _>>=_
-      call-done f v said =
-          let x = left-standing s reads fresh decisions a left e f in
-          call-long h ∙ rw (x .3) (ap ok (said (x .0) (x .1) (x .2)))
+      call-refused f = call-long h ∙ rw (d .refusal f) refl
+
+      -- all are accepted: the call says what it says of the states that are left
+      pub call-done : a ≡ Done → (x : A) → ((ds : List Literal) → Standing (p .grid) ds → cells ≡ arrayOf 2 (cellsAfter (p .grid) ds) → says p ds ≡ x) → hostCall need says s decisions n ≡ ok x
+      unfolding _>>=_
+      call-done f x said =
+          let y = d .done f in
+          call-long h ∙ rw (y .1) (ap ok (said (y .0) (bytes-standing (p .grid) decisions none (y .1)) (y .2)))

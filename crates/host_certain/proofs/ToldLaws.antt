@@ -2,30 +2,22 @@
 -- Assumes nothing.
 use Prim.Native.Nat.{ℕ, suc, _+_, _*_, _≤_, _<_}
 use native.Mathlib.Omega.{arith}
-use mathlib.Core.Path.{_≡_, refl, sym, ap, _∙_, subst}
+use mathlib.Core.Path.{_≡_, refl, sym, ap, _∙_}
 use mathlib.Core.List.{List, [], _∷_, _++_, append-nil, append-assoc}
 use lib.IntN.{ℤ, pos, negℤ}
 use lib.ListN.{length, getD, set, take, drop, take-append-drop, length-append, length-drop}
 use lib.Seq.{take-suc, drop-cons, set-at, take-at, drop-at, drop-drop, length-take-le}
 use Rattle.grid.specs.Grid.{Grid, size}
 use Rattle.grid.specs.Cells.{Literal}
-use Rattle.grid.specs.Lists.{flatMap}
+use Rattle.grid.specs.Lists.{flatMap, arrayOf}
 use Rattle.record.specs.Record.{Outcome, ok, refused, Puzzle, readRecord}
-use Rattle.record.specs.Problem.{gridOf, problemOf, puzzleOf}
 use Rattle.record.specs.Leaf.{inEdition}
+use Rattle.record.specs.declared.Problem.{Problem}
 use Rattle.record.specs.declared.Answer.{Answer}
 use Rattle.record.specs.declared.Answer.the-variants.{Done, Refused}
-use Rattle.record.proofs.LeafLaws.{ValidLeaf}
-use Rattle.record.proofs.ProblemLaws.{problem-puzzle}
 use Rattle.record.proofs.RecordLaws.{valid-size}
 use Rattle.board.specs.Board.{cellsAfter}
-use Rattle.board.specs.Kept.{noHints, boardOf, openOf}
-use Rattle.board.specs.Decide.{withDecisions, placedFrom}
-use Rattle.board.specs.declared.Board.{Board}
-use Rattle.board.specs.declared.Opened.{Opened}
-use Rattle.board.proofs.Standing.{Standing}
-use Rattle.reasons.specs.Find.{leafOn, cellsOn}
-use Rattle.reasons.proofs.Demand3.{cells-on}
+use Rattle.board.proofs.Standing.{Standing, none}
 use Rattle.certain.specs.Tree.{search}
 use Rattle.certain.specs.Facts.{certainBy}
 use Rattle.certain.specs.Inside.{leafIn, States}
@@ -35,7 +27,8 @@ use Rattle.certain.specs.declared.Facts.{Facts}
 use Rattle.certain.proofs.AnswerLaws.{standing-states}
 use Rattle.exported.specs.Written.{bytesOf, outputWith}
 use Rattle.host_certain.specs.Told.{certaintyNumber, stepBytes, certainBytes, Said, saidOf, hostCertain, saidNumber, saidBytes}
-use Rattle.call.proofs.Steps.{opens-size, opens-leaf, opens-valid, opens-first, call-unread, call-short, left-standing, call-refused, call-done}
+use Rattle.call.specs.Inside.{Decides}
+use Rattle.call.proofs.Steps.{Reads, bytes-standing, states-taken, reads-valid, reads-size, reads-puzzle, call-unread, call-short, call-refused, call-done}
 
 -- ---- the bytes
 
@@ -130,56 +123,42 @@ abbrev says : ℕ → Puzzle → List Literal → Said
 says budget p ds = saidOf (size (p .grid)) (certainBy (size (p .grid)) budget (search (inEdition 1 p) (cellsAfter (p .grid) ds)))
 
 -- a refused record
-pub certain-unread : (s : List ℕ) (o : Opened) {k : ℕ} → o ≡ openOf s 1 → o .answer ≡ Refused k → (decisions : List ℕ) (budget n : ℕ) → hostCertain s decisions budget n ≡ refused k
+pub certain-unread : (s : List ℕ) {k : ℕ} → readRecord s ≡ refused k → (decisions : List ℕ) (budget n : ℕ) → hostCertain s decisions budget n ≡ refused k
 unfolding hostCertain
-certain-unread s o e f decisions budget n = call-unread need (says budget) s o e f decisions n
+certain-unread s e decisions budget n = call-unread need (says budget) s e decisions n
 
--- the answer for a board, by its arrays
-abbrev pub certainIn : Board → List ℕ → ℕ → Said
-certainIn b cells budget =
-    let q = b .problem in
+-- the answer by the arrays of a problem and the states of its cells
+abbrev pub certainIn : Problem → List ℕ → ℕ → Said
+certainIn q cells budget =
     saidOf (q .height * q .width) (certainBy (q .height * q .width) budget (search (leafIn 1 (q .height) (q .width) (q .cells) (q .arrows) (q .ends) (q .count)) (take (q .height * q .width) cells)))
 
--- the same for a board, which is the machine's
-abbrev certainOn : Board → ℕ → Said
-certainOn b budget = saidOf (size (gridOf (b .problem))) (certainBy (size (gridOf (b .problem))) budget (search (leafOn b) (cellsOn b)))
-
-on-arrays : (b : Board) → b .edition ≡ 1 → (cells order : List ℕ) (decided budget : ℕ) → certainOn (withDecisions b cells order decided) budget ≡ certainIn b cells budget
-unfolding gridOf cellsOn size
-on-arrays b e cells order decided budget =
-    let q = b .problem in
-    ap (λ (k : ℕ). saidOf (q .height * q .width) (certainBy (q .height * q .width) budget (search (inEdition k (puzzleOf q)) (take (q .height * q .width) cells)))) e
-
-on-machine : (p : Puzzle) → ValidLeaf (inEdition 1 p) → {ds : List Literal} → Standing (p .grid) ds → (budget : ℕ) → says budget p ds ≡ certainOn (boardOf (inEdition 1 p) ds noHints) budget
-unfolding boardOf problemOf gridOf
-on-machine p v {ds} t budget = rw (cells-on (inEdition 1 p) v noHints t, problem-puzzle p (v .puzzle)) refl
-
-module _ (s : List ℕ) {p : Puzzle} (reads : readRecord s ≡ ok p) {b : Board} (fresh : b ≡ boardOf (inEdition 1 p) [] noHints) (decisions : List ℕ) (budget n : ℕ) where
+module _ {s : List ℕ} {q : Problem} (r : Reads s q) (decisions : List ℕ) where
   -- an output that is too short
-  pub certain-short : n < 8 + b .problem .height * b .problem .width → hostCertain s decisions budget n ≡ refused 11
+  pub certain-short : (budget n : ℕ) → n < 8 + q .height * q .width → hostCertain s decisions budget n ≡ refused 11
   unfolding hostCertain
-  certain-short h = call-short need (says budget) s reads fresh decisions n (rw (opens-size s reads fresh) at h)
+  certain-short budget n h = call-short need (says budget) s (r .reads) decisions n (rw (reads-size r) at h)
 
-  -- what placing all decisions answers, and the board that it leaves
-  module _ (a : Answer) (cells order : List ℕ) (decided : ℕ) (e : placedFrom b decisions ≡ record { answer = a; board = withDecisions b cells order decided }) where
-    -- all are accepted: the states of its cells
+  -- what deciding in order answers, and the states that it leaves
+  module _ {a : Answer} {cells : List ℕ} (d : Decides (r .puzzle .grid) decisions a cells) where
+    -- all are accepted: they are states
     pub left-states : a ≡ Done → States cells
-    unfolding boardOf
     left-states f =
-        let x = left-standing s reads fresh decisions a (withDecisions b cells order decided) e f in
-        let c = ap (λ (z : Board). z .cells) (x .2) in
-        subst (λ (z : List ℕ). States z) (sym c) (standing-states (x .1) (valid-size (opens-valid s reads fresh)))
+        let y = d .done f in
+        rw (y .2) (standing-states (bytes-standing (r .puzzle .grid) decisions none (y .1)) (valid-size (reads-valid r)))
 
     -- where the output is long enough
-    module _ (h : 8 + b .problem .height * b .problem .width ≤ n) where
+    module _ (budget n : ℕ) (h : 8 + q .height * q .width ≤ n) where
       -- a decision is refused
       pub certain-refused : {k : ℕ} → a ≡ Refused k → hostCertain s decisions budget n ≡ refused k
       unfolding hostCertain
-      certain-refused f = call-refused need (says budget) s reads fresh decisions n a (withDecisions b cells order decided) e (rw (opens-size s reads fresh) at h) f
+      certain-refused f = call-refused need (says budget) s (r .reads) decisions n d (rw (reads-size r) at h) f
 
       -- all are accepted
-      pub certain-done : a ≡ Done → hostCertain s decisions budget n ≡ ok (certainIn b cells budget)
+      pub certain-done : a ≡ Done → hostCertain s decisions budget n ≡ ok (certainIn q cells budget)
       unfolding hostCertain
-      certain-done f =
-          call-done need (says budget) s reads fresh decisions n a (withDecisions b cells order decided) e (rw (opens-size s reads fresh) at h) f (certainIn b cells budget)
-          (λ ds t z. on-machine p (opens-leaf s reads fresh) t budget ∙ ap (λ (x : Board). certainOn x budget) (sym z) ∙ on-arrays b (opens-first s reads fresh) cells order decided budget)
+      certain-done f = call-done need (says budget) s (r .reads) decisions n d (rw (reads-size r) at h) f (certainIn q cells budget) said
+        where
+          said : (ds : List Literal) → Standing (r .puzzle .grid) ds → cells ≡ arrayOf 2 (cellsAfter (r .puzzle .grid) ds) → says budget (r .puzzle) ds ≡ certainIn q cells budget
+          said ds t e =
+              let z : take (q .height * q .width) cells ≡ cellsAfter (r .puzzle .grid) ds = rw (reads-size r, e) (states-taken t) in
+              rw (z, reads-size r, reads-puzzle r) refl

@@ -1,17 +1,15 @@
 // The call `evolmino_certain`: a record is opened, decisions are made in order, and it is told which cells are certain.
-use board::Board;
 use certain::Certainty;
 use certain::Facts;
 use exported::negated;
 use exported::write_numbers;
 use record::Answer;
 ghost use mathlib.Core.Path.{_≡_};
-ghost use Prim.Native.Nat.{ℕ, _+_, _≤_};
-ghost use mathlib.Core.List.{List, _++_};
+ghost use Prim.Native.Nat.{_+_, _≤_};
+ghost use mathlib.Core.List.{_++_};
 ghost use lib.ListN.{length, take, drop};
 ghost use Rattle.record.specs.Record.{ok};
 ghost use Rattle.exported.specs.Written.{outputWith};
-ghost use Rattle.call.specs.Inside.{Opens};
 ghost use Rattle.host_certain.specs.Told.{stepBytes, saidOf, hostCertain, saidNumber, saidBytes};
 
 // Writes a number of steps to the output's first eight bytes, most significant first.
@@ -64,54 +62,41 @@ fn write_certain(facts: Facts, n: usize, output: &mut [u8]) -> i32
     }
 }
 
-// Decides in order on a fresh board and tells which of its cells are certain: 11 for an output that is too short, then the decisions'
-// refusals. The board is not tested, as in `host_find`.
-fn decide_and_tell(board: Board, decisions: &[u8], budget: u64, output: &mut [u8]) -> i32
-    requires { ⌜ ((s : List ℕ) × Opens s board) ⌝ }
-    ensures { λ r. ⌜ ((s : List ℕ) → Opens s board
-        → (r ≡ saidNumber (hostCertain s (now (decisions .entry)) budget (length (now (output .entry)))))
-        × (now (output .exit) ≡ outputWith (saidBytes (hostCertain s (now (decisions .entry)) budget (length (now (output .entry))))) (now (output .entry)))) ⌝ }
+// Opens the record in edition 1, decides in order and tells which cells are certain, by a search of at most `budget` steps. Returns 0 where the
+// cells are told, 1 where no finished board agrees with the decisions, 2 where the budget is spent, or the negated number of a refusal,
+// which leaves the output as it was. The output's first eight bytes are the number of steps, most significant first; where the cells are
+// told one byte for each follows, in row order: 0 empty, 1 square, 2 open. The refusals come in `host_find`'s order, and nothing is tested, as there.
+pub fn certain(record: &[u8], decisions: &[u8], budget: u64, output: &mut [u8]) -> i32
+    ensures { λ r. ⌜ (r ≡ saidNumber (hostCertain (now («record» .entry)) (now (decisions .entry)) budget (length (now (output .entry)))))
+        × (now (output .exit) ≡ outputWith (saidBytes (hostCertain (now («record» .entry)) (now (decisions .entry)) budget (length (now (output .entry))))) (now (output .entry))) ⌝ }
 {
-    let h = board.problem.height;
-    let w = board.problem.width;
-    if output.len() < 8 + h * w {
-        return -11;
+    let reading = record::read(record);
+    let read = reading.answer;
+    if let Answer::Refused(k) = read {
+        return negated(k);
     }
-    let mut cells = board.cells;
-    let mut order = board.order;
-    let placed = board::place_all(&mut cells, &mut order, h * w, board.decided, decisions);
-    let answer = placed.answer;
+    let h = reading.problem.height;
+    let w = reading.problem.width;
+    if output.len() < 8 + h * w {
+        return negated(11);
+    }
+    let mut cells = [2u8; 1024];
+    let answer = call::decide_in_order(h * w, decisions, &mut cells);
     match answer {
         Answer::Done => {
             let facts = certain::certain_cells(
                 1,
                 &mut cells,
-                &board.problem.cells,
-                &board.problem.arrows,
-                &board.problem.ends,
-                board.problem.count,
+                &reading.problem.cells,
+                &reading.problem.arrows,
+                &reading.problem.ends,
+                reading.problem.count,
                 h,
                 w,
                 budget,
             );
             write_certain(facts, h * w, output)
         }
-        Answer::Refused(k) => negated(k),
-    }
-}
-
-// Opens the record in edition 1, decides in order and tells which cells are certain, by a search of at most `budget` steps. Returns 0 where the
-// cells are told, 1 where no finished board agrees with the decisions, 2 where the budget is spent, or the negated number of a refusal,
-// which leaves the output as it was. The output's first eight bytes are the number of steps, most significant first; where the cells are
-// told one byte for each follows, in row order: 0 empty, 1 square, 2 open.
-pub fn certain(record: &[u8], decisions: &[u8], budget: u64, output: &mut [u8]) -> i32
-    ensures { λ r. ⌜ (r ≡ saidNumber (hostCertain (now («record» .entry)) (now (decisions .entry)) budget (length (now (output .entry)))))
-        × (now (output .exit) ≡ outputWith (saidBytes (hostCertain (now («record» .entry)) (now (decisions .entry)) budget (length (now (output .entry))))) (now (output .entry))) ⌝ }
-{
-    let started = Board::open(record, 1);
-    let answer = started.answer;
-    match answer {
-        Answer::Done => decide_and_tell(started.board, decisions, budget, output),
         Answer::Refused(k) => negated(k),
     }
 }

@@ -1,12 +1,10 @@
 // The host call, `evolmino_find`: a record is opened, decisions are made in order, and a reason is found.
-use board::Board;
 use exported::negated;
 use exported::write_numbers;
 use literals::Finding;
 use record::Answer;
 ghost use mathlib.Core.Path.{_≡_};
-ghost use Prim.Native.Nat.{ℕ, _+_, _*_, _≤_};
-ghost use mathlib.Core.List.{List};
+ghost use Prim.Native.Nat.{_+_, _*_, _≤_};
 ghost use lib.ListN.{length, take};
 ghost use Rattle.grid.specs.Lists.{last};
 ghost use Rattle.grid.specs.Side.{sized};
@@ -16,10 +14,9 @@ ghost use Rattle.kinds.specs.Inside.{puzzleWith};
 ghost use Rattle.reasons.specs.Reasons.{findReason};
 ghost use Rattle.groups.specs.Arrays.{linesOf};
 ghost use Rattle.inconsistency.specs.Arrays.{ArrowArrays};
-ghost use Rattle.call.specs.Inside.{Opens};
 ghost use Rattle.host_find.specs.Host.{hostFinds, returned, outputAfter};
 
-// Finds in edition 1 on the arrays of a board that is known to be well formed. The output is long enough for every reason.
+// Finds in edition 1 on the arrays of an accepted record and the states of its cells. The output is long enough for every reason.
 fn find_on<'a>(
     cells: &'a [u8; 1024],
     arrows: &'a [u16; 1024],
@@ -55,47 +52,36 @@ fn find_on<'a>(
     }
 }
 
-// Decides in order on a fresh board and finds: 11 for an output that is too short, then the decisions' refusals. A board that was just
-// opened is well formed, and decisions keep it so: it is not tested.
-fn decide_and_find(board: Board, decisions: &[u8], output: &mut [u8]) -> i32
-    requires { ⌜ ((s : List ℕ) × Opens s board) ⌝ }
-    ensures { λ r. ⌜ ((s : List ℕ) → Opens s board
-        → (r ≡ returned (hostFinds s (now (decisions .entry)) (length (now (output .entry)))))
-        × (now (output .exit) ≡ outputAfter (hostFinds s (now (decisions .entry)) (length (now (output .entry)))) (now (output .entry)))) ⌝ }
-{
-    let h = board.problem.height;
-    let w = board.problem.width;
-    if output.len() < 2 * (3 * (h * w) + 1) {
-        return negated(11);
-    }
-    let mut cells = board.cells;
-    let mut order = board.order;
-    let placed = board::place_all(&mut cells, &mut order, h * w, board.decided, decisions);
-    let answer = placed.answer;
-    match answer {
-        Answer::Done => find_on(
-            &cells,
-            &board.problem.arrows,
-            &board.problem.ends,
-            board.problem.count,
-            h,
-            w,
-            output,
-        ),
-        Answer::Refused(k) => negated(k),
-    }
-}
-
 // Opens the record in edition 1, decides in order and finds. The literals stand in the output's first bytes, two each, most significant first.
-// Returns how many there are, 0 for none, or the negated number of a refusal, which leaves the output as it was.
+// Returns how many there are, 0 for none, or the negated number of a refusal, which leaves the output as it was: 1 to 5 for the record, 11 for an
+// output that is too short, then the decisions' refusals. Of the board there are its arrays alone, and they are not tested: those of an accepted
+// record are well formed, and decisions keep them so.
 pub fn find(record: &[u8], decisions: &[u8], output: &mut [u8]) -> i32
     ensures { λ r. ⌜ (r ≡ returned (hostFinds (now («record» .entry)) (now (decisions .entry)) (length (now (output .entry)))))
         × (now (output .exit) ≡ outputAfter (hostFinds (now («record» .entry)) (now (decisions .entry)) (length (now (output .entry)))) (now (output .entry))) ⌝ }
 {
-    let opened = Board::open(record, 1);
-    let answer = opened.answer;
+    let reading = record::read(record);
+    let read = reading.answer;
+    if let Answer::Refused(k) = read {
+        return negated(k);
+    }
+    let h = reading.problem.height;
+    let w = reading.problem.width;
+    if output.len() < 2 * (3 * (h * w) + 1) {
+        return negated(11);
+    }
+    let mut cells = [2u8; 1024];
+    let answer = call::decide_in_order(h * w, decisions, &mut cells);
     match answer {
-        Answer::Done => decide_and_find(opened.board, decisions, output),
+        Answer::Done => find_on(
+            &cells,
+            &reading.problem.arrows,
+            &reading.problem.ends,
+            reading.problem.count,
+            h,
+            w,
+            output,
+        ),
         Answer::Refused(k) => negated(k),
     }
 }

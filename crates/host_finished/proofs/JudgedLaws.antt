@@ -1,83 +1,58 @@
 -- The steps of the call that tells whether a leaf is finished, and what it returns: 1 exactly for an accepted record with accepted decisions whose
 -- board is finished.
 -- Assumes nothing.
-use Prim.Native.Nat.{ℕ, zero, suc}
+use Prim.Native.Nat.{ℕ, zero, suc, _*_}
 use native.Mathlib.Omega.{arith}
 use mathlib.Core.Logic.{_↔_}
-use mathlib.Core.Path.{_≡_, refl, ap, _∙_}
+use mathlib.Core.Path.{_≡_, refl}
 use mathlib.Core.Bool.{Bool, true, false}
 use mathlib.Core.List.{List, []}
 use lib.IntN.{pos, negℤ}
+use lib.ListN.{length, take}
 use Rattle.grid.specs.Cells.{Literal}
+use Rattle.grid.proofs.ArrayLaws.{array-length}
 use Rattle.record.specs.Record.{Outcome, ok, refused, _>>=_, Puzzle, readRecord}
-use Rattle.record.specs.Leaf.{Leaf, inEdition}
+use Rattle.record.specs.Leaf.{inEdition}
+use Rattle.record.specs.Problem.{puzzleOf}
+use Rattle.record.specs.declared.Problem.{Problem}
+use Rattle.record.specs.declared.Answer.{Answer}
 use Rattle.record.specs.declared.Answer.the-variants.{Done, Refused}
-use Rattle.record.proofs.ProblemLaws.{problem-puzzle}
-use Rattle.record.proofs.RecordLaws.{record-valid}
-use Rattle.record.proofs.LeafLaws.{ValidLeaf}
+use Rattle.record.proofs.RecordLaws.{record-valid, valid-size}
 use Rattle.board.specs.Board.{cellsAfter}
-use Rattle.board.specs.Kept.{noHints, boardOf, openOf}
-use Rattle.board.specs.Decide.{refusedWith, decideAllOf}
-use Rattle.board.specs.declared.Board.{Board}
-use Rattle.board.specs.declared.Decided.{Decided}
-use Rattle.board.specs.declared.Opened.{Opened}
-use Rattle.board.proofs.HintLaws.{no-hints}
-use Rattle.board.proofs.Standing.{Standing, none, cells-valid}
-use Rattle.board.proofs.CallLaws.{standing-well}
-use Rattle.reasons.proofs.Demand3.{cells-on}
+use Rattle.board.proofs.Standing.{none, cells-valid}
 use Rattle.finished.specs.Finished.{Finished, finishedTest}
-use Rattle.finished.specs.Verdicts.{verdict, finishedOf}
 use Rattle.finished.proofs.FinishedLaws.{finished-means}
 use Rattle.call.specs.Call.{decideBytes}
-use Rattle.call.specs.Inside.{Opens}
-use Rattle.host_finished.specs.Inside.{verdictNumber, judgedOn, judgedBy}
+use Rattle.call.specs.Inside.{Decides}
+use Rattle.call.proofs.Steps.{Reads, bytes-standing, states-taken, reads-valid, reads-size, reads-puzzle}
 use Rattle.host_finished.specs.Judged.{hostFinished, judged, FinishedBy}
-use Rattle.call.proofs.Steps.{decidedBy, decided-bytes, opens-leaf, bytes-standing, record-refused, opens-as}
-
--- the decisions are accepted, or one is refused
-pub done-judged : (d : Decided) → d .answer ≡ Done → verdictNumber (finishedOf (d .board)) ≡ judgedBy d
-unfolding judgedBy judgedOn
-done-judged d e = rw e refl
-
-pub refused-judged : (d : Decided) {k : ℕ} → d .answer ≡ Refused k → negℤ (pos k) ≡ judgedBy d
-unfolding judgedBy judgedOn
-refused-judged d e = rw e refl
-
-verdict-number : (t : Bool) → verdictNumber (verdict t) ≡ judged (ok t)
-unfolding verdictNumber verdict judged
-verdict-number true = refl
-verdict-number false = refl
-
--- on the board of standing decisions
-finished-on : (l : Leaf) → ValidLeaf l → {ds : List Literal} → Standing (l .puzzle .grid) ds → finishedOf (boardOf l ds noHints) ≡ verdict (finishedTest l (cellsAfter (l .puzzle .grid) ds))
-unfolding finishedOf boardOf
-finished-on l v {ds} s = rw (standing-well l v no-hints s, cells-on l v noHints s, problem-puzzle (l .puzzle) (v .puzzle)) refl
-
--- what the decisions leave, by the outcome of their bytes
-judged-decided : (l : Leaf) → ValidLeaf l → (decisions : List ℕ) (r : Outcome (List Literal)) → decideBytes (l .puzzle .grid) [] decisions ≡ r
-    → judgedBy (decidedBy (boardOf l [] noHints) l r) ≡ judged (r >>= λ ds. ok (finishedTest l (cellsAfter (l .puzzle .grid) ds)))
-unfolding decidedBy refusedWith judgedBy judgedOn judged _>>=_
-judged-decided l v decisions (refused k) q = refl
-judged-decided l v decisions (ok ds) q = rw (finished-on l v (bytes-standing (l .puzzle .grid) decisions none q)) (verdict-number (finishedTest l (cellsAfter (l .puzzle .grid) ds)))
-
--- on a fresh board
-judged-fresh : (l : Leaf) → ValidLeaf l → (decisions : List ℕ)
-    → judgedBy (decideAllOf (boardOf l [] noHints) decisions) ≡ judged (decideBytes (l .puzzle .grid) [] decisions >>= λ ds. ok (finishedTest l (cellsAfter (l .puzzle .grid) ds)))
-unfolding decideAllOf
-judged-fresh l v decisions =
-    rw (standing-well l v no-hints none, decided-bytes l v (boardOf l [] noHints) decisions none) (judged-decided l v decisions (decideBytes (l .puzzle .grid) [] decisions) refl)
-
--- what comes after an accepted record
-pub judged-open : (s : List ℕ) (b : Board) → Opens s b → (decisions : List ℕ) → judgedBy (decideAllOf b decisions) ≡ judged (hostFinished s decisions)
-unfolding hostFinished _>>=_
-judged-open s b e decisions =
-    let o = opens-as s b e in
-    ap (λ (c : Board). judgedBy (decideAllOf c decisions)) (o .fresh) ∙ judged-fresh (inEdition 1 (o .puzzle)) (opens-leaf s (o .reads) (o .fresh)) decisions ∙ rw (o .reads) refl
 
 -- a refused record
-pub judged-refused : (s : List ℕ) (o : Opened) {k : ℕ} → o ≡ openOf s 1 → o .answer ≡ Refused k → (decisions : List ℕ) → negℤ (pos k) ≡ judged (hostFinished s decisions)
+pub judged-unread : (s : List ℕ) {k : ℕ} → readRecord s ≡ refused k → (decisions : List ℕ) → negℤ (pos k) ≡ judged (hostFinished s decisions)
 unfolding hostFinished _>>=_ judged
-judged-refused s o e f decisions = rw (record-refused s o e f) refl
+judged-unread s e decisions = rw e refl
+
+-- what deciding in order answers, and the states that it leaves
+module _ {s : List ℕ} {q : Problem} (r : Reads s q) (decisions : List ℕ) {a : Answer} {cells : List ℕ} (d : Decides (r .puzzle .grid) decisions a cells) where
+  -- a decision is refused
+  pub judged-refused : {k : ℕ} → a ≡ Refused k → negℤ (pos k) ≡ judged (hostFinished s decisions)
+  unfolding hostFinished _>>=_ judged
+  judged-refused f = rw (r .reads, d .refusal f) refl
+
+  -- all are accepted: the array of the states
+  pub left-long : a ≡ Done → length cells ≡ 1024
+  left-long f =
+      let y = d .done f in
+      let t = bytes-standing (r .puzzle .grid) decisions none (y .1) in
+      rw (y .2) (array-length 2 (cellsAfter (r .puzzle .grid) (y .0)) (omega (arith, cells-valid t .long, valid-size (reads-valid r))))
+
+  -- and the verdict on them
+  pub judged-done : a ≡ Done → judged (ok (finishedTest (inEdition 1 (puzzleOf q)) (take (q .height * q .width) cells))) ≡ judged (hostFinished s decisions)
+  unfolding hostFinished _>>=_
+  judged-done f =
+      let y = d .done f in
+      let z : take (q .height * q .width) cells ≡ cellsAfter (r .puzzle .grid) (y .0) = rw (reads-size r, y .2) (states-taken (bytes-standing (r .puzzle .grid) decisions none (y .1))) in
+      rw (z, reads-puzzle r, r .reads, y .1) refl
 
 -- ---- what it returns
 

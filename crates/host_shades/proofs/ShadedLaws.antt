@@ -2,35 +2,35 @@
 -- Assumes nothing.
 use Prim.Native.Nat.{ℕ, _*_, _≤_, _<_}
 use native.Mathlib.Omega.{arith}
-use mathlib.Core.Path.{_≡_, refl, sym, ap, _∙_}
-use mathlib.Core.List.{List, [], _++_}
+use mathlib.Core.Path.{_≡_, refl, sym, ap, _∙_, subst}
+use mathlib.Core.List.{List, _++_}
 use lib.IntN.{ℤ, pos}
 use lib.ListN.{length, take, drop, length-append, length-drop}
 use lib.Seq.{take-at}
 use Rattle.grid.specs.Grid.{Grid, size}
 use Rattle.grid.specs.Side.{sized}
 use Rattle.grid.specs.Cells.{Literal}
+use Rattle.grid.specs.Lists.{arrayOf}
 use Rattle.record.specs.Record.{ok, refused, Puzzle, readRecord}
-use Rattle.record.specs.Problem.{gridOf, problemOf}
-use Rattle.record.specs.Leaf.{inEdition}
+use Rattle.record.specs.Problem.{problemOf, readOf}
+use Rattle.record.specs.Valid.{Valid}
+use Rattle.record.specs.declared.Problem.{Problem}
 use Rattle.record.specs.declared.Answer.{Answer}
 use Rattle.record.specs.declared.Answer.the-variants.{Done, Refused}
-use Rattle.record.proofs.LeafLaws.{ValidLeaf}
+use Rattle.record.proofs.ProblemLaws.{read-refused, read-done}
+use Rattle.record.proofs.RecordLaws.{record-valid, valid-size}
 use Rattle.board.specs.Board.{cellsAfter}
-use Rattle.board.specs.Kept.{noHints, boardOf, openOf}
-use Rattle.board.specs.Decide.{withDecisions, placedFrom}
-use Rattle.board.specs.declared.Board.{Board}
-use Rattle.board.specs.declared.Opened.{Opened}
 use Rattle.board.proofs.Standing.{Standing}
-use Rattle.reasons.specs.Find.{cellsOn}
-use Rattle.reasons.proofs.Demand3.{cells-on}
 use Rattle.shades.specs.Shades.{shadesOn}
 use Rattle.shades.proofs.ShadeLaws.{shades-length}
 use Rattle.exported.specs.Written.{bytesOf}
-use Rattle.exported.proofs.WrittenLaws.{Told, told-ok}
-use Rattle.host_shades.specs.Shaded.{hostShades}
 use Rattle.exported.proofs.BytesLaws.{bytes-length}
-use Rattle.call.proofs.Steps.{opens-size, opens-leaf, call-unread, call-short, call-refused, call-done}
+use Rattle.exported.proofs.WrittenLaws.{Told, told-ok}
+use Rattle.call.specs.Inside.{Decides}
+use Rattle.call.proofs.Steps.{states-taken, call-unread, call-short, call-refused, call-done}
+use Rattle.host_shades.specs.Inside.{measuredOf}
+use Rattle.host_shades.specs.Shaded.{hostShades}
+use Rattle.host_shades.specs.declared.Measured.{Measured}
 
 -- what the call needs and says
 abbrev need : Grid → ℕ
@@ -40,46 +40,68 @@ abbrev says : Puzzle → List Literal → List ℕ
 says p ds = bytesOf (shadesOn (p .grid) (cellsAfter (p .grid) ds))
 
 -- a refused record
-pub shades-unread : (s : List ℕ) (o : Opened) {k : ℕ} → o ≡ openOf s 1 → o .answer ≡ Refused k → (decisions : List ℕ) (n : ℕ) → hostShades s decisions n ≡ refused k
+pub shades-unread : (s : List ℕ) {k : ℕ} → readRecord s ≡ refused k → (decisions : List ℕ) (n : ℕ) → hostShades s decisions n ≡ refused k
 unfolding hostShades
-shades-unread s o e f decisions n = call-unread need says s o e f decisions n
+shades-unread s e decisions n = call-unread need says s e decisions n
 
 -- the bytes for a board, by its arrays
 abbrev pub shadedBy : ℕ → ℕ → List ℕ → List ℕ
 shadedBy h w cells = bytesOf (shadesOn (sized h w) (take (h * w) cells))
 
--- the same for a board, which is the machine's
-abbrev shadedOn : Board → List ℕ
-shadedOn b = bytesOf (shadesOn (gridOf (b .problem)) (cellsOn b))
+-- the record s is accepted, and these are the sizes of its grid
+pub record Measures (s : List ℕ) (h w : ℕ) : Type 0 where
+  pub puzzle : Puzzle
+  pub reads : readRecord s ≡ ok puzzle
+  pub is : sized h w ≡ puzzle .grid
 
-on-arrays : (b : Board) (cells order : List ℕ) (decided : ℕ) → shadedOn (withDecisions b cells order decided) ≡ shadedBy (b .problem .height) (b .problem .width) cells
-unfolding gridOf cellsOn size
-on-arrays b cells order decided = refl
+pub measures-refused : (s : List ℕ) (m : Measured) → m ≡ measuredOf (readOf s) → {k : ℕ} → m .answer ≡ Refused k → readRecord s ≡ refused k
+unfolding measuredOf
+measures-refused s m e f = read-refused s (readOf s) refl _ (sym (ap (λ (x : Measured). x .answer) e) ∙ f)
 
-on-machine : (p : Puzzle) → ValidLeaf (inEdition 1 p) → {ds : List Literal} → Standing (p .grid) ds → says p ds ≡ shadedOn (boardOf (inEdition 1 p) ds noHints)
-unfolding boardOf problemOf gridOf
-on-machine p v {ds} t = rw (cells-on (inEdition 1 p) v noHints t) refl
+pub measures-done : (s : List ℕ) (m : Measured) → m ≡ measuredOf (readOf s) → m .answer ≡ Done → Measures s (m .height) (m .width)
+unfolding measuredOf problemOf
+measures-done s m e f =
+    let p = read-done s (readOf s) refl (sym (ap (λ (x : Measured). x .answer) e) ∙ f) in
+    record { puzzle = p .0; reads = p .1; is = ap (λ (x : Measured). sized (x .height) (x .width)) e ∙ ap (λ (q : Problem). sized (q .height) (q .width)) (p .2) }
 
-module _ (s : List ℕ) {p : Puzzle} (reads : readRecord s ≡ ok p) {b : Board} (fresh : b ≡ boardOf (inEdition 1 p) [] noHints) (decisions : List ℕ) (n : ℕ) where
-  -- an output that is too short
-  pub shades-short : n < 4 * (b .problem .height * b .problem .width) → hostShades s decisions n ≡ refused 11
-  unfolding hostShades
-  shades-short h = call-short need says s reads fresh decisions n (rw (opens-size s reads fresh) at h)
+module _ {s : List ℕ} {h w : ℕ} (m : Measures s h w) where
+  pub measures-valid : Valid (m .puzzle)
+  measures-valid = record-valid s (m .reads)
 
-  -- what placing all decisions answers, and the board that it leaves, where it is long enough
-  module _ (a : Answer) (cells order : List ℕ) (decided : ℕ) (e : placedFrom b decisions ≡ record { answer = a; board = withDecisions b cells order decided })
-      (h : 4 * (b .problem .height * b .problem .width) ≤ n) where
-    -- a decision is refused
-    pub shades-refused : {k : ℕ} → a ≡ Refused k → hostShades s decisions n ≡ refused k
+  pub measures-size : h * w ≡ size (m .puzzle .grid)
+  unfolding size
+  measures-size = ap size (m .is)
+
+  -- the cells are few, so nothing overflows
+  pub measures-few : h * w ≤ 1024
+  measures-few = rw measures-size (valid-size measures-valid)
+
+  -- the grid is small
+  pub measures-small : (h ≤ 32) × (w ≤ 32)
+  measures-small = subst (λ (g : Grid). (g .height ≤ 32) × (g .width ≤ 32)) (sym (m .is)) (measures-valid .high)
+
+  module _ (decisions : List ℕ) (n : ℕ) where
+    -- an output that is too short
+    pub shades-short : n < 4 * (h * w) → hostShades s decisions n ≡ refused 11
     unfolding hostShades
-    shades-refused f = call-refused need says s reads fresh decisions n a (withDecisions b cells order decided) e (rw (opens-size s reads fresh) at h) f
+    shades-short l = call-short need says s (m .reads) decisions n (rw measures-size at l)
 
-    -- all are accepted
-    pub shades-done : a ≡ Done → hostShades s decisions n ≡ ok (shadedBy (b .problem .height) (b .problem .width) cells)
-    unfolding hostShades
-    shades-done f =
-        call-done need says s reads fresh decisions n a (withDecisions b cells order decided) e (rw (opens-size s reads fresh) at h) f (shadedBy (b .problem .height) (b .problem .width) cells)
-        (λ ds t z. on-machine p (opens-leaf s reads fresh) t ∙ ap shadedOn (sym z) ∙ on-arrays b cells order decided)
+    -- what deciding in order answers, and the states that it leaves, where it is long enough
+    module _ {a : Answer} {cells : List ℕ} (d : Decides (m .puzzle .grid) decisions a cells) (l : 4 * (h * w) ≤ n) where
+      -- a decision is refused
+      pub shades-refused : {k : ℕ} → a ≡ Refused k → hostShades s decisions n ≡ refused k
+      unfolding hostShades
+      shades-refused f = call-refused need says s (m .reads) decisions n d (rw measures-size at l) f
+
+      -- all are accepted
+      pub shades-done : a ≡ Done → hostShades s decisions n ≡ ok (shadedBy h w cells)
+      unfolding hostShades
+      shades-done f = call-done need says s (m .reads) decisions n d (rw measures-size at l) f (shadedBy h w cells) said
+        where
+          said : (ds : List Literal) → Standing (m .puzzle .grid) ds → cells ≡ arrayOf 2 (cellsAfter (m .puzzle .grid) ds) → says (m .puzzle) ds ≡ shadedBy h w cells
+          said ds t e =
+              let z : take (h * w) cells ≡ cellsAfter (m .puzzle .grid) ds = rw (measures-size, e) (states-taken t) in
+              rw (z, m .is) refl
 
 -- the shades' array stays as long as it was
 pub shades-long : (g : Grid) (cells start : List ℕ) {shades : List ℕ} → 2 * size g ≤ length start → shades ≡ shadesOn g cells ++ drop (2 * size g) start → length shades ≡ length start
