@@ -1,5 +1,5 @@
 /* The proved Evolmino constraint, for C and C++. `rt staticlib host` writes the library, target/staticlib/libhost.a. The calls are for edition 1
- * of the rules (README, The puzzle); a record that is turned or joined is so for both. */
+ * of the rules (README, The puzzle), but evolmino_setter_file takes the edition; a record that is turned or joined is so for both. */
 #ifndef EVOLMINO_H
 #define EVOLMINO_H
 
@@ -23,13 +23,19 @@
 /* The length in bytes of the longest record, so the same for evolmino_turn and evolmino_join. */
 #define EVOLMINO_RECORD 2819
 
+/* The length in bytes of the longest setter's or player's file: the longest record, and behind it 3 + 32 * 32 bits in whole bytes. */
+#define EVOLMINO_FILE 2948
+
+/* The length in bytes of an output that is long enough for evolmino_setter_file and every file: 1 + 32 * 32. */
+#define EVOLMINO_SETTER 1025
+
 /* What a negated return value says. */
 enum {
     EVOLMINO_RECORD_ENDS = 1,   /* the record ends inside a field, or before one that is due */
     EVOLMINO_CELL_CODE = 2,     /* cell code 3 */
     EVOLMINO_OFF_GRID = 3,      /* an arrow's start or step is off the grid */
     EVOLMINO_USED_TWICE = 4,    /* an arrow cell is used twice */
-    EVOLMINO_FILLER = 5,        /* a filler bit is not zero, or a byte follows it */
+    EVOLMINO_FILLER = 5,        /* a filler bit is not zero, or a byte follows it; in a file a filler bit of its record alone */
     EVOLMINO_INDEX = 7,         /* a decision's index is height * width or more */
     EVOLMINO_DECIDED = 9,       /* the cell is decided already */
     EVOLMINO_OUTPUT_SHORT = 11, /* the output is shorter than the call asks for */
@@ -37,8 +43,11 @@ enum {
     EVOLMINO_SHEET_SHORT = 13,  /* the output is too short for the whole clause sheet */
     EVOLMINO_TURNING = 14,      /* the number of a turning is above 7 */
     EVOLMINO_RECORD_OUTPUT_SHORT = 15, /* the output is shorter than the record that is to be written */
+    EVOLMINO_EDITION = 16,      /* an edition that is not 1 or 2: evolmino_setter_file alone returns it */
     EVOLMINO_UNEQUAL_HEIGHTS = 18, /* the records that are to be joined are not of equal height */
-    EVOLMINO_TOO_WIDE = 19      /* the joined leaf would be wider than 32 */
+    EVOLMINO_TOO_WIDE = 19,     /* the joined leaf would be wider than 32 */
+    EVOLMINO_TAIL = 20,         /* what stands behind a file's record is too short or too long, or its filler is not zero */
+    EVOLMINO_UNFINISHED = 21    /* the solution of a setter's file is not finished in the edition */
 };
 
 /* What evolmino_certain returns where it does not refuse. */
@@ -143,6 +152,32 @@ int32_t evolmino_turn(const uint8_t *record, size_t record_len, uint32_t k,
 int32_t evolmino_join(const uint8_t *left, size_t left_len,
                       const uint8_t *right, size_t right_len,
                       uint8_t *output, size_t output_len);
+
+/* Reads a setter's file: the record, then from the next byte a grade (3 bits), the solution (one bit a cell, row by row, 1 for a square) and zero
+ * bits that fill the last byte. The record's bytes are the file's first ones. The edition is 1 or 2; the file does not tell it. What the call
+ * accepts is finished in that edition: black cells are empty, given squares are square, the block rules of the edition hold, and two squares or
+ * more stand on every arrow.
+ *
+ * Returns the record's length in bytes, or the negated number of a refusal, which changes no byte: the record's 1 to 5, then 11 for an output
+ * shorter than 1 + height * width bytes, then 20 for what stands behind the record where it is too short or too long or its filler is not zero,
+ * then 16 for an edition that is not 1 or 2, and last 21 for a solution that is not finished in it. Here 5 is a filler bit of the record's last
+ * byte that is not zero: a whole byte behind it belongs to what follows. The output's first byte is the grade, 0 to 7; one byte follows for each
+ * cell in row order, 1 for a square and 0 for empty. Bytes behind those written are unchanged. The pointers are not null, also where a length is
+ * 0, and the output does not overlap the file. The call keeps nothing and may be made from any thread, also from several at once; it takes up to
+ * about 45 kilobytes of stack.
+ */
+int32_t evolmino_setter_file(const uint8_t *file, size_t file_len, uint32_t edition,
+                             uint8_t *output, size_t output_len);
+
+/* Reads the same file for a player: the record and the grade. Nothing of the solution reaches what it returns or writes: two files that differ in
+ * solution bits alone give the same, refusals included.
+ *
+ * Returns the record's length in bytes, or the negated number of a refusal, which changes no byte: the record's 1 to 5, as for
+ * evolmino_setter_file, then 11 for an output without a byte, and last 20. The output's first byte is the grade, 0 to 7. Bytes behind it are
+ * unchanged. Pointers are as for evolmino_setter_file. It keeps nothing either, and takes up to about 20 kilobytes of stack.
+ */
+int32_t evolmino_player_file(const uint8_t *file, size_t file_len,
+                             uint8_t *output, size_t output_len);
 
 #ifdef __cplusplus
 }

@@ -2,7 +2,7 @@
 
 use crate::reading::certain::Answer;
 use crate::reading::clauses::Clause;
-use crate::reading::Literal;
+use crate::reading::{Edition, Literal};
 
 /// Record, decisions, output; the literal count or the negated refusal number.
 pub type HostCall = fn(&[u8], &[u8], &mut [u8]) -> i32;
@@ -99,6 +99,48 @@ pub type JoinCall = fn(&[u8], &[u8], &mut [u8]) -> i32;
 pub const JOIN_CALL: Option<JoinCall> = Some(join_call);
 #[cfg(not(feature = "host"))]
 pub const JOIN_CALL: Option<JoinCall> = None;
+
+/// File, number of an edition, output; the record's length, or the negated refusal number.
+pub type SetterFileCall = fn(&[u8], u32, &mut [u8]) -> i32;
+
+/// The call that reads a setter's file, if this program was built with it.
+#[cfg(feature = "host")]
+pub const SETTER_FILE_CALL: Option<SetterFileCall> = Some(setter_file_call);
+#[cfg(not(feature = "host"))]
+pub const SETTER_FILE_CALL: Option<SetterFileCall> = None;
+
+/// File, output; the record's length, or the negated refusal number.
+pub type PlayerFileCall = fn(&[u8], &mut [u8]) -> i32;
+
+/// The call that reads a player's file, if this program was built with it.
+#[cfg(feature = "host")]
+pub const PLAYER_FILE_CALL: Option<PlayerFileCall> = Some(player_file_call);
+#[cfg(not(feature = "host"))]
+pub const PLAYER_FILE_CALL: Option<PlayerFileCall> = None;
+
+/// A record with the bytes of its grade and, for setters, of its solution; or the refusal number.
+pub type PackageRead = Result<(Vec<u8>, Vec<u8>), u32>;
+
+/// Record, grade, solution; the file, none where they make none.
+pub type PackageWritten = fn(&[u8], u8, &[u8]) -> Option<Vec<u8>>;
+
+/// The package's two readers and its writer of files.
+#[derive(Clone, Copy)]
+pub struct PackageFiles {
+    pub setter: fn(&[u8], Edition) -> PackageRead,
+    pub player: fn(&[u8]) -> PackageRead,
+    pub written: PackageWritten,
+}
+
+/// The package's readers and writer, if this program was built with it.
+#[cfg(feature = "host")]
+pub const PACKAGE_FILES: Option<PackageFiles> = Some(PackageFiles {
+    setter: package_setter_file,
+    player: package_player_file,
+    written: package_written,
+});
+#[cfg(not(feature = "host"))]
+pub const PACKAGE_FILES: Option<PackageFiles> = None;
 
 pub const MISSING: &str = "the host call is not linked: build with --features host, \
                            with libhost.a in the folder that EVOLMINO_HOST names";
@@ -212,4 +254,44 @@ fn join_call(left: &[u8], right: &[u8], output: &mut [u8]) -> i32 {
         Ok(count) => count as i32,
         Err(refusal) => -(refusal.number() as i32),
     }
+}
+
+#[cfg(feature = "host")]
+fn setter_file_call(file: &[u8], edition: u32, output: &mut [u8]) -> i32 {
+    match evolmino::setter_file_bytes(file, edition, output) {
+        Ok(length) => length as i32,
+        Err(refusal) => -(refusal.number() as i32),
+    }
+}
+
+#[cfg(feature = "host")]
+fn player_file_call(file: &[u8], output: &mut [u8]) -> i32 {
+    match evolmino::player_file_bytes(file, output) {
+        Ok(length) => length as i32,
+        Err(refusal) => -(refusal.number() as i32),
+    }
+}
+
+#[cfg(feature = "host")]
+fn package_setter_file(file: &[u8], edition: Edition) -> PackageRead {
+    let edition = match edition {
+        Edition::ExactlyOne => evolmino::Edition::ExactlyOne,
+        Edition::OneOrMore => evolmino::Edition::OneOrMore,
+    };
+    let read = evolmino::setter_file(file, edition).map_err(|refusal| refusal.number())?;
+    let cells = read.solution.iter().map(|&square| u8::from(square));
+    let bytes = [read.grade].into_iter().chain(cells).collect();
+    Ok((read.record.to_vec(), bytes))
+}
+
+#[cfg(feature = "host")]
+fn package_player_file(file: &[u8]) -> PackageRead {
+    let read = evolmino::player_file(file).map_err(|refusal| refusal.number())?;
+    Ok((read.record.to_vec(), vec![read.grade]))
+}
+
+#[cfg(feature = "host")]
+fn package_written(record: &[u8], grade: u8, solution: &[u8]) -> Option<Vec<u8>> {
+    let solution: Vec<bool> = solution.iter().map(|&cell| cell == 1).collect();
+    evolmino::write_file(record, grade, &solution).ok()
 }

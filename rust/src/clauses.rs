@@ -1,6 +1,6 @@
 //! The clause sheet of a puzzle, for other solvers.
 
-use crate::host::{counted, decode, Literal, Refusal};
+use crate::host::{decode, written_from_one, Literal, Refusal};
 use std::fmt::Write;
 
 extern "C" {
@@ -26,17 +26,7 @@ pub const SHEET_LIMIT: usize = 4 * 1024 + 6 * 2 * 31 * 32 + 2 * 1024 * 1024;
 /// call refuses an output that is too short for the whole sheet with [`Refusal::SheetShort`], after the record's own refusals. It keeps
 /// nothing, takes nothing from the heap and up to about 20 kilobytes of stack.
 pub fn clauses_bytes(record: &[u8], output: &mut [u8]) -> Result<usize, Refusal> {
-    // Safe: each pointer comes from a slice and goes with its length; the call reads the first, writes only the second, and keeps
-    // neither.
-    let answer = unsafe {
-        evolmino_clauses(
-            record.as_ptr(),
-            record.len(),
-            output.as_mut_ptr(),
-            output.len(),
-        )
-    };
-    counted(answer)
+    written_from_one(evolmino_clauses, record, output)
 }
 
 /// The clauses of a puzzle for a solver that takes plain ones: those that the original's `solve_evolmino` adds, in its order.

@@ -27,8 +27,8 @@ pub type Literal = (usize, bool);
 const OUTPUT_LIMIT: usize = 2 * (3 * 32 * 32 + 1);
 
 /// Why there is no answer, by its number in README. The exported calls never give [`Refusal::Board`],
-/// [`Refusal::Value`], [`Refusal::NothingDecided`], [`Refusal::Edition`] and [`Refusal::Player`]: their board is their own and opened
-/// in edition 1, a decision has one bit of value, and they find as player 0.
+/// [`Refusal::Value`], [`Refusal::NothingDecided`] and [`Refusal::Player`]: their board is their own, a decision has one bit of value,
+/// and they find as player 0. [`Refusal::Edition`] is given of a setter's file alone: the other calls are for edition 1, or for both.
 ///
 /// The table grows, so a `match` needs an arm for the refusals that it doesn't name.
 #[derive(Clone, Copy, Debug, PartialEq, Eq, Hash)]
@@ -42,7 +42,7 @@ pub enum Refusal {
     OffGrid,
     /// 4: an arrow cell is used twice.
     UsedTwice,
-    /// 5: a filler bit is not zero, or a byte follows it.
+    /// 5: a filler bit is not zero, or a byte follows it; in a setter's or player's file a filler bit of the record alone.
     Filler,
     /// 6: a board that no list of calls could leave.
     Board,
@@ -72,6 +72,10 @@ pub enum Refusal {
     UnequalHeights,
     /// 19: the joined leaf would be wider than 32.
     TooWide,
+    /// 20: what stands behind a file's record is too short or too long for its grade and solution, or its filler is not zero.
+    Tail,
+    /// 21: the solution of a setter's file is not finished in the edition.
+    Unfinished,
     /// Another number: the linked library has refusals that this package doesn't know.
     Unknown(u32),
 }
@@ -99,6 +103,8 @@ impl Refusal {
             17 => Refusal::Player,
             18 => Refusal::UnequalHeights,
             19 => Refusal::TooWide,
+            20 => Refusal::Tail,
+            21 => Refusal::Unfinished,
             _ => Refusal::Unknown(number),
         }
     }
@@ -125,6 +131,8 @@ impl Refusal {
             Refusal::Player => 17,
             Refusal::UnequalHeights => 18,
             Refusal::TooWide => 19,
+            Refusal::Tail => 20,
+            Refusal::Unfinished => 21,
             Refusal::Unknown(number) => number,
         }
     }
@@ -156,6 +164,8 @@ impl fmt::Display for Refusal {
             Refusal::Player => "the player is above 3",
             Refusal::UnequalHeights => "the two records are not of equal height",
             Refusal::TooWide => "the joined leaf would be wider than 32",
+            Refusal::Tail => "what stands behind the file's record is not as long as it must be, or its filler is not zero",
+            Refusal::Unfinished => "the file's solution is not finished in this edition",
             Refusal::Unknown(_) => "this package doesn't know why",
         };
         write!(f, "refused {}: {}", self.number(), what)
@@ -191,6 +201,50 @@ pub(crate) fn written(
             first.len(),
             second.as_ptr(),
             second.len(),
+            output.as_mut_ptr(),
+            output.len(),
+        )
+    };
+    counted(answer)
+}
+
+/// One of the archive's calls for one slice of bytes and an output. It reads the first, writes only the second, and keeps neither.
+pub(crate) type WritingFromOne = unsafe extern "C" fn(*const u8, usize, *mut u8, usize) -> i32;
+
+/// What such a call returns.
+pub(crate) fn written_from_one(
+    call: WritingFromOne,
+    bytes: &[u8],
+    output: &mut [u8],
+) -> Result<usize, Refusal> {
+    // Safe: each pointer comes from a slice and goes with its length.
+    let answer = unsafe {
+        call(
+            bytes.as_ptr(),
+            bytes.len(),
+            output.as_mut_ptr(),
+            output.len(),
+        )
+    };
+    counted(answer)
+}
+
+/// One that takes a number between them, as that of a turning or an edition.
+pub(crate) type WritingBy = unsafe extern "C" fn(*const u8, usize, u32, *mut u8, usize) -> i32;
+
+/// What such a call returns.
+pub(crate) fn written_by(
+    call: WritingBy,
+    bytes: &[u8],
+    number: u32,
+    output: &mut [u8],
+) -> Result<usize, Refusal> {
+    // Safe: each pointer comes from a slice and goes with its length.
+    let answer = unsafe {
+        call(
+            bytes.as_ptr(),
+            bytes.len(),
+            number,
             output.as_mut_ptr(),
             output.len(),
         )

@@ -1,10 +1,11 @@
 //! The proved Evolmino constraint, for Rust.
 //!
 //! [`find`] asks the proved library why a board can't be finished, [`finished`] whether it is, [`certain()`] which of its cells are certain,
-//! [`blocks`] which blocks it has, [`clauses`] gives a puzzle's clauses for other solvers, [`turn()`] turns a record for the page, and [`join()`]
-//! puts two on one leaf; [`Record`] writes a [`Problem`] in the form that they read; and [`Constraint`] has `notify`, `undo` and
-//! `find_inconsistency` with the signatures of cspuz_core's `SimpleCustomConstraint`, so that it can stand where `EvolminoConstraint` stood. All
-//! of them are for edition 1 of the rules (README, The puzzle); records that are turned or joined are so for both.
+//! [`blocks`] which blocks it has, [`clauses`] gives a puzzle's clauses for other solvers, [`turn()`] turns a record for the page, [`join()`] puts
+//! two on one leaf, and [`setter_file`] and [`player_file`] read a file with grade and solution, which [`write_file`] writes; [`Record`] writes a
+//! [`Problem`] in the form that they read; and [`Constraint`] has `notify`, `undo` and `find_inconsistency` with the signatures of cspuz_core's
+//! `SimpleCustomConstraint`, so that it can stand where `EvolminoConstraint` stood. All of them are for edition 1 of the rules (README, The
+//! puzzle), but [`setter_file`] takes the [`Edition`]; records that are turned or joined are so for both.
 //!
 //! What is proved are the library's exported calls. This package around them, which writes records, keeps decisions and reads the
 //! answer, is plain Rust: `compare constraint` holds it beside the original.
@@ -26,6 +27,7 @@
 mod certain;
 mod clauses;
 mod constraint;
+mod file;
 mod host;
 mod join;
 mod record;
@@ -35,6 +37,10 @@ mod turn;
 pub use certain::{certain, certain_bytes, certain_given_first, Certain, Fact};
 pub use clauses::{clauses, clauses_bytes, dimacs, SHEET_LIMIT};
 pub use constraint::Constraint;
+pub use file::{
+    player_file, player_file_bytes, setter_file, setter_file_bytes, write_file, Edition, FileError,
+    PlayerFile, SetterFile,
+};
 pub use host::{find, find_bytes, finished, finished_bytes, Literal, Refusal};
 pub use join::{join, join_bytes};
 pub use record::{Problem, ProblemCell, Record, RecordError};

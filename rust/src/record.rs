@@ -136,22 +136,29 @@ fn code(cell: ProblemCell) -> usize {
 
 /// The cells of a record that the library accepts, in row order. Of another one, those before the first that can't be read.
 pub(crate) fn cells_of(record: &[u8]) -> Vec<ProblemCell> {
-    let field = |start: usize, width: usize| -> Option<usize> {
-        (start..start + width).try_fold(0, |value, place| {
-            let byte = *record.get(place / 8)?;
-            Some(2 * value + usize::from(byte >> (7 - place % 8) & 1))
-        })
-    };
-    let (Some(height), Some(width)) = (field(0, 5), field(5, 5)) else {
-        return Vec::new();
-    };
-    let cell = |index: usize| match field(21 + 2 * index, 2)? {
+    let cell = |index: usize| match field(record, 21 + 2 * index, 2)? {
         0 => Some(ProblemCell::Empty),
         1 => Some(ProblemCell::Black),
         2 => Some(ProblemCell::Square),
         _ => None,
     };
-    (0..(height + 1) * (width + 1)).map_while(cell).collect()
+    (0..number_of_cells(record)).map_while(cell).collect()
+}
+
+/// Height × width of a record that the library accepts. Of another one, none where it ends before them.
+pub(crate) fn number_of_cells(record: &[u8]) -> usize {
+    match (field(record, 0, 5), field(record, 5, 5)) {
+        (Some(height), Some(width)) => (height + 1) * (width + 1),
+        _ => 0,
+    }
+}
+
+/// The field of so many bits that starts at this bit of a record, if it is there.
+fn field(record: &[u8], start: usize, bits: usize) -> Option<usize> {
+    (start..start + bits).try_fold(0, |value, place| {
+        let byte = *record.get(place / 8)?;
+        Some(2 * value + usize::from(byte >> (7 - place % 8) & 1))
+    })
 }
 
 /// An arrow: start row and column, length − 1, and a step for each further cell.
@@ -198,13 +205,13 @@ fn step((y, x): (usize, usize), to: (usize, usize)) -> Option<usize> {
 
 /// Bits packed into bytes, most significant first; zero bits fill the last byte.
 #[derive(Default)]
-struct Bits {
-    bytes: Vec<u8>,
+pub(crate) struct Bits {
+    pub(crate) bytes: Vec<u8>,
     count: usize,
 }
 
 impl Bits {
-    fn put(&mut self, value: usize, width: usize) {
+    pub(crate) fn put(&mut self, value: usize, width: usize) {
         for place in (0..width).rev() {
             if self.count == 8 * self.bytes.len() {
                 self.bytes.push(0);

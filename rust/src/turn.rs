@@ -1,6 +1,6 @@
 //! Leaves turned for the page: the exported call, made safe, and where each cell goes.
 
-use crate::host::{counted, Refusal};
+use crate::host::{written_by, Refusal};
 
 extern "C" {
     fn evolmino_turn(
@@ -111,18 +111,7 @@ impl Turning {
 /// It refuses as [`find_bytes`](crate::find_bytes) what is no record, then [`Refusal::Turning`], then [`Refusal::RecordOutputShort`].
 /// It keeps nothing, takes nothing from the heap and up to about 30 kilobytes of stack.
 pub fn turn_bytes(record: &[u8], k: u32, output: &mut [u8]) -> Result<usize, Refusal> {
-    // Safe: each pointer comes from a slice and goes with its length; the call reads the first, writes only the second, and keeps
-    // neither.
-    let answer = unsafe {
-        evolmino_turn(
-            record.as_ptr(),
-            record.len(),
-            k,
-            output.as_mut_ptr(),
-            output.len(),
-        )
-    };
-    counted(answer)
+    written_by(evolmino_turn, record, k, output)
 }
 
 /// The turned record: its grid, its cells and its arrows, which keep their order. A full board is finished exactly when its turned

@@ -1,6 +1,7 @@
 //! `compare bench`: the original and, where it is linked, the host call, on the same boards; then
 //! their parts.
 
+use super::filings;
 use super::joinings;
 use super::parts;
 use super::sheets;
@@ -61,6 +62,7 @@ pub fn run(seed: u64, rounds: usize) -> Outcome {
     sheets::run(seed, &SIDES, rounds)?;
     turnings::run(seed, &SIDES, rounds)?;
     joinings::run(seed, &SIDES, rounds)?;
+    filings::run(seed, &SIDES, rounds)?;
     parts::run(&boards_by_side)
 }
 

@@ -6,6 +6,7 @@
 
 use super::certain::FuzzedCertain;
 use super::clauses::FuzzedSheets;
+use super::file::FuzzedFiles;
 use super::join::FuzzedJoins;
 use super::shades::FuzzedShades;
 use super::turn::FuzzedTurnings;
@@ -53,6 +54,7 @@ pub fn run(seed: u64, count: usize) -> Outcome {
     let mut turnings = FuzzedTurnings::new(seed)?;
     let mut certain = FuzzedCertain::new(seed)?;
     let mut joins = FuzzedJoins::new(seed)?;
+    let mut files = FuzzedFiles::new(seed)?;
     let leaves = finished_leaves(&mut random, FINISHED);
     let mut done = 0;
     while done < count {
@@ -70,6 +72,7 @@ pub fn run(seed: u64, count: usize) -> Outcome {
             turnings.check(&input.record)?;
             certain.check(&input)?;
             joins.check(&input.record)?;
+            files.check(&board)?;
             match check(&mut random, host_call, &input)? {
                 Ok(reason) => counts.found[Tally::column(reason.as_ref())] += 1,
                 Err(refusal) => counts.refused[usize::from(refusal.number())] += 1,
@@ -92,6 +95,7 @@ pub fn run(seed: u64, count: usize) -> Outcome {
     println!("{}", turnings.line());
     println!("{}", certain.line());
     println!("{}", joins.line());
+    files.print();
     Ok(())
 }
 

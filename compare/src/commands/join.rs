@@ -6,6 +6,7 @@
 use crate::generate::puzzles::{any_size, each_cell, puzzle, puzzle_of_size, ARROW_STYLES};
 use crate::generate::records::damaged;
 use crate::generate::small::{decisions, finished_halves, small_halves};
+use crate::guarded::{compare, Due, Room};
 use crate::host::{FinishedCall, JoinCall, FINISHED_CALL, JOIN_CALL, MISSING};
 use crate::progress::{facts, hexadecimal, repeatedly, Outcome};
 use crate::random::Random;
@@ -417,8 +418,8 @@ fn any_output(
     Ok(())
 }
 
-/// What the reading says, if the call says the same and leaves every byte as it should. Records and
-/// output lie in boxes; that of the output has so many guard bytes before and behind it.
+/// What the reading says, if the call says the same and leaves every byte as it should. The output has so
+/// many guard bytes before and behind it.
 fn check(
     call: JoinCall,
     left: &[u8],
@@ -427,34 +428,23 @@ fn check(
     guard: usize,
 ) -> Result<Result<Vec<u8>, Refusal>, String> {
     let expected = joined_record(left, right, length);
-    let (number, leaf): (i32, &[u8]) = match &expected {
-        Err(refusal) => (-i32::from(refusal.number()), &[]),
-        Ok(leaf) => (leaf.len() as i32, leaf),
+    let room = Room {
+        length,
+        guard,
+        salt: length + 59 * left.len(),
     };
-    let salt = length + 59 * left.len();
-    let before: Vec<u8> = (0..length + 2 * guard)
-        .map(|place| (37 * place + salt) as u8)
-        .collect();
-    let mut after = before.clone();
-    after[guard..guard + leaf.len()].copy_from_slice(leaf);
-
-    let lent: [Box<[u8]>; 2] = [left.into(), right.into()];
-    let mut output: Box<[u8]> = before.into();
-    let returned = call(&lent[0], &lent[1], &mut output[guard..guard + length]);
-    let what = if returned != number {
-        format!("the call returns {returned} and not {number}")
-    } else if *output != *after {
-        "the call leaves other bytes in or about the output".to_string()
-    } else if *lent[0] != *left || *lent[1] != *right {
-        "the call changes a record".to_string()
-    } else {
-        return Ok(expected);
-    };
-    Err(format!(
-        "left {}, right {}, output of {length} bytes\n{what}",
-        hexadecimal(left),
-        hexadecimal(right)
-    ))
+    let due = Due::written(&expected);
+    let done = compare([left, right], room, due, |[left, right], output| {
+        call(left, right, output)
+    });
+    match done {
+        Ok(()) => Ok(expected),
+        Err(what) => Err(format!(
+            "left {}, right {}, output of {length} bytes\nthe call {what}",
+            hexadecimal(left),
+            hexadecimal(right)
+        )),
+    }
 }
 
 /// Mutated records joined with the one before, for `compare fuzz`.

@@ -6,6 +6,8 @@ pub mod certain;
 pub mod clauses;
 #[cfg(feature = "host")]
 pub mod constraint;
+pub mod file;
+mod filings;
 pub mod finds;
 pub mod finished;
 pub mod fuzz;

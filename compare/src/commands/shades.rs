@@ -125,13 +125,7 @@ fn check(
     counts: &mut Counts,
 ) -> Result<Result<usize, Refusal>, String> {
     let expected = opened_and_shaded(&input.record, &input.decisions, input.output);
-    let due = match &expected {
-        Err(refusal) => Due::refused(*refusal),
-        Ok(bytes) => Due {
-            number: bytes.len() as i32,
-            bytes,
-        },
-    };
+    let due = Due::written(&expected);
     guarded::check(random, "the call for shades", input, due, call)?;
     match &expected {
         Ok(_) => counts.written += 1,

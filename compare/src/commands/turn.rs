@@ -7,6 +7,7 @@ use crate::generate::puzzles::{
 };
 use crate::generate::records::damaged;
 use crate::generate::small::{decisions, finished_leaves, small_puzzle};
+use crate::guarded::{compare, Due, Room};
 use crate::host::{FinishedCall, TurnCall, FINISHED_CALL, MISSING, TURN_CALL};
 use crate::progress::{facts, hexadecimal, repeatedly, Outcome};
 use crate::random::Random;
@@ -234,8 +235,8 @@ fn any_output(
     check(call, record, k, length, guard)
 }
 
-/// What the reading says, if the call says the same and leaves every byte as it should. Record and
-/// output lie in boxes; that of the output has so many guard bytes before and behind it.
+/// What the reading says, if the call says the same and leaves every byte as it should. The output has so
+/// many guard bytes before and behind it.
 fn check(
     call: TurnCall,
     record: &[u8],
@@ -244,33 +245,22 @@ fn check(
     guard: usize,
 ) -> Result<Result<Vec<u8>, Refusal>, String> {
     let expected = turned_record(record, k, length);
-    let (number, image): (i32, &[u8]) = match &expected {
-        Err(refusal) => (-i32::from(refusal.number()), &[]),
-        Ok(image) => (image.len() as i32, image),
+    let room = Room {
+        length,
+        guard,
+        salt: length + 59 * (k % 256) as usize,
     };
-    let salt = length + 59 * (k % 256) as usize;
-    let before: Vec<u8> = (0..length + 2 * guard)
-        .map(|place| (37 * place + salt) as u8)
-        .collect();
-    let mut after = before.clone();
-    after[guard..guard + image.len()].copy_from_slice(image);
-
-    let lent: Box<[u8]> = record.into();
-    let mut output: Box<[u8]> = before.into();
-    let returned = call(&lent, k, &mut output[guard..guard + length]);
-    let what = if returned != number {
-        format!("the call returns {returned} and not {number}")
-    } else if *output != *after {
-        "the call leaves other bytes in or about the output".to_string()
-    } else if *lent != *record {
-        "the call changes the record".to_string()
-    } else {
-        return Ok(expected);
-    };
-    Err(format!(
-        "record {}, turning {k}, output of {length} bytes\n{what}",
-        hexadecimal(record)
-    ))
+    let due = Due::written(&expected);
+    let done = compare([record], room, due, |[record], output| {
+        call(record, k, output)
+    });
+    match done {
+        Ok(()) => Ok(expected),
+        Err(what) => Err(format!(
+            "record {}, turning {k}, output of {length} bytes\nthe call {what}",
+            hexadecimal(record)
+        )),
+    }
 }
 
 /// The turned images of mutated records, for `compare fuzz`.

@@ -3,6 +3,7 @@
 pub mod boards;
 pub mod calls;
 mod drawn;
+pub mod files;
 pub mod hosts;
 mod layout;
 pub mod long;

@@ -1,4 +1,4 @@
-//! Host input changed byte by byte, with no regard to what the bytes mean.
+//! Input changed byte by byte, with no regard to what the bytes mean.
 
 use super::hosts::HostInput;
 use crate::random::Random;
@@ -23,7 +23,7 @@ pub fn mutated(random: &mut Random, input: &HostInput) -> HostInput {
     }
 }
 
-fn change(random: &mut Random, bytes: &mut Vec<u8>) {
+pub fn change(random: &mut Random, bytes: &mut Vec<u8>) {
     match random.below(8) {
         0 => bytes.truncate(random.below(bytes.len() + 1)),
         1 => flip(random, bytes, 1),

@@ -16,12 +16,17 @@ pub const CODED: usize = 25;
 /// So often blocks are tried along an arrow, before it is left out.
 const TRIES: usize = 10;
 
-/// A puzzle with usual arrows that has a finished board. Of the cells that are empty there some are
-/// black, of its squares some are given.
+/// A puzzle with usual arrows that has a finished board in edition 1.
 pub fn solved(random: &mut Random, size: Size) -> Puzzle {
+    solved_leaf(random, size, Edition::ExactlyOne).puzzle
+}
+
+/// A puzzle with usual arrows, and a full board of it that is finished in an edition. Of the cells that
+/// are empty there some are black, of its squares some are given.
+pub fn solved_leaf(random: &mut Random, size: Size, edition: Edition) -> Decided {
     loop {
         let usual = puzzle(random, size, Arrows::Usual);
-        let (mut puzzle, cells) = laid_out(random, &usual);
+        let (mut puzzle, cells) = laid_out(random, &usual, edition);
         if puzzle.arrows.is_empty() {
             continue;
         }
@@ -31,17 +36,17 @@ pub fn solved(random: &mut Random, size: Size) -> Puzzle {
             (true, _) => Code::Black,
         };
         puzzle.codes = cells.iter().map(code).collect();
-        return puzzle;
+        return full_leaf(&puzzle, &cells);
     }
 }
 
 /// Those of the arrows along which blocks can be laid by the rules, and the board with these blocks.
-fn laid_out(random: &mut Random, usual: &Puzzle) -> (Puzzle, Vec<Cell>) {
+fn laid_out(random: &mut Random, usual: &Puzzle, edition: Edition) -> (Puzzle, Vec<Cell>) {
     let mut layout = Layout::new(usual);
     let mut puzzle = plain(usual.size.height, usual.size.width, vec![]);
     for arrow in &usual.arrows {
         puzzle.arrows.push(arrow.clone());
-        match (0..TRIES).find_map(|_| with_blocks(random, &puzzle, &layout)) {
+        match (0..TRIES).find_map(|_| with_blocks(random, &puzzle, &layout, edition)) {
             Some(longer) => layout = longer,
             None => drop(puzzle.arrows.pop()),
         }
@@ -49,23 +54,35 @@ fn laid_out(random: &mut Random, usual: &Puzzle) -> (Puzzle, Vec<Cell>) {
     (puzzle, layout.full())
 }
 
-/// Blocks along the last arrow too, each with one square more than the one before it, if the board is
-/// finished then.
-fn with_blocks(random: &mut Random, puzzle: &Puzzle, layout: &Layout) -> Option<Layout> {
+/// Blocks along the last arrow too, each with one square more than the one before it, in edition 2 with
+/// up to three more, if the board is finished then.
+fn with_blocks(
+    random: &mut Random,
+    puzzle: &Puzzle,
+    layout: &Layout,
+    edition: Edition,
+) -> Option<Layout> {
     let mut layout = layout.clone();
     let chain = Chain {
         blocks: random.between(2, 3),
         largest_first: 2,
         copies: 100,
-        growths: &[1],
+        growths: match edition {
+            Edition::ExactlyOne => &[1],
+            Edition::OneOrMore => &[1, 2, 3],
+        },
     };
     layout.chain(random, puzzle.arrows.last()?, &chain);
+    let leaf = full_leaf(puzzle, &layout.full());
+    is_finished(&leaf, edition).then_some(layout)
+}
+
+fn full_leaf(puzzle: &Puzzle, cells: &[Cell]) -> Decided {
     let value = |cell: &Cell| u8::from(*cell == Cell::Square);
-    let leaf = Decided {
+    Decided {
         puzzle: puzzle.clone(),
-        decisions: layout.full().iter().map(value).enumerate().collect(),
-    };
-    is_finished(&leaf, Edition::ExactlyOne).then_some(layout)
+        decisions: cells.iter().map(value).enumerate().collect(),
+    }
 }
 
 #[cfg(test)]
@@ -82,6 +99,17 @@ mod tests {
             let board = Board::fresh(solved(&mut random, square(side)), Edition::ExactlyOne);
             let answer = certain(&board, u64::MAX);
             assert!(matches!(answer.certain, Certain::Cells(_)), "{board:?}");
+        }
+    }
+
+    #[test]
+    fn each_leaf_is_finished_in_its_edition() {
+        let mut random = Random::new(1);
+        for edition in Edition::BOTH {
+            for side in 4..8 {
+                let leaf = solved_leaf(&mut random, square(side), edition);
+                assert!(is_finished(&leaf, edition), "{leaf:?}");
+            }
         }
     }
 }

@@ -27,7 +27,7 @@ impl Board {
     /// A fresh board: all undecided. The record's refusals come before that of the edition.
     pub fn open(record: &[u8], edition: u8) -> Result<Board, Refusal> {
         let puzzle = decode(record)?;
-        Ok(Board::fresh(puzzle, Edition::numbered(edition)?))
+        Ok(Board::fresh(puzzle, Edition::numbered(u32::from(edition))?))
     }
 
     pub fn fresh(puzzle: Puzzle, edition: Edition) -> Board {

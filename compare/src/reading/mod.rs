@@ -7,6 +7,7 @@
 pub mod board;
 pub mod certain;
 pub mod clauses;
+pub mod file;
 pub mod finished;
 pub mod grid;
 pub mod groups;
@@ -47,6 +48,8 @@ pub enum Refusal {
     Player = 17,
     UnequalHeights = 18,
     TooWide = 19,
+    Tail = 20,
+    Unfinished = 21,
 }
 
 impl Refusal {
@@ -67,7 +70,7 @@ impl Edition {
     pub const BOTH: [Edition; 2] = [Edition::ExactlyOne, Edition::OneOrMore];
 
     /// 1 or 2; another number is refused.
-    pub fn numbered(number: u8) -> Result<Edition, Refusal> {
+    pub fn numbered(number: u32) -> Result<Edition, Refusal> {
         match number {
             1 => Ok(Edition::ExactlyOne),
             2 => Ok(Edition::OneOrMore),

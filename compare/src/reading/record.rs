@@ -52,9 +52,18 @@ pub fn plain(height: usize, width: usize, arrows: Vec<Vec<usize>>) -> Puzzle {
     }
 }
 
-/// The first fault in reading order counts.
+/// A record, and nothing follows it. The first fault in reading order counts.
 pub fn decode(record: &[u8]) -> Result<Puzzle, Refusal> {
-    let mut fields = Fields::new(record);
+    let (puzzle, length) = decode_head(record)?;
+    if length < record.len() {
+        return Err(Refusal::Filler);
+    }
+    Ok(puzzle)
+}
+
+/// A record whatever follows it, and its length in bytes.
+pub fn decode_head(file: &[u8]) -> Result<(Puzzle, usize), Refusal> {
+    let mut fields = Fields::new(file);
     let height = fields.next(5)? + 1;
     let width = fields.next(5)? + 1;
     let size = Size { height, width };
@@ -73,12 +82,13 @@ pub fn decode(record: &[u8]) -> Result<Puzzle, Refusal> {
     for _ in 0..number_of_arrows {
         arrows.push(decode_arrow(&mut fields, size, &mut used)?);
     }
-    fields.end()?;
-    Ok(Puzzle {
+    fields.fill()?;
+    let puzzle = Puzzle {
         size,
         codes,
         arrows,
-    })
+    };
+    Ok((puzzle, fields.bits_read / 8))
 }
 
 /// An arrow's three fields are read before its start is tested.
@@ -107,30 +117,30 @@ fn take(cell: Option<usize>, used: &mut [bool]) -> Result<usize, Refusal> {
 }
 
 /// Fields packed most significant bit first.
-struct Fields<'a> {
-    record: &'a [u8],
+pub struct Fields<'a> {
+    bytes: &'a [u8],
     bits_read: usize,
 }
 
 impl<'a> Fields<'a> {
-    fn new(record: &'a [u8]) -> Fields<'a> {
+    pub fn new(bytes: &'a [u8]) -> Fields<'a> {
         Fields {
-            record,
+            bytes,
             bits_read: 0,
         }
     }
 
-    fn bits_left(&self) -> usize {
-        8 * self.record.len() - self.bits_read
+    pub fn bits_left(&self) -> usize {
+        8 * self.bytes.len() - self.bits_read
     }
 
-    fn next(&mut self, bits: usize) -> Result<usize, Refusal> {
+    pub fn next(&mut self, bits: usize) -> Result<usize, Refusal> {
         if self.bits_left() < bits {
             return Err(Refusal::RecordEnds);
         }
         let mut field = 0;
         for _ in 0..bits {
-            let byte = self.record[self.bits_read / 8];
+            let byte = self.bytes[self.bits_read / 8];
             let bit = byte >> (7 - self.bits_read % 8) & 1;
             field = 2 * field + bit as usize;
             self.bits_read += 1;
@@ -138,10 +148,10 @@ impl<'a> Fields<'a> {
         Ok(field)
     }
 
-    /// Zero bits fill the last byte; nothing follows.
-    fn end(&mut self) -> Result<(), Refusal> {
-        let filler = self.bits_left();
-        if filler >= 8 || self.next(filler)? != 0 {
+    /// Zero bits fill the last byte.
+    pub fn fill(&mut self) -> Result<(), Refusal> {
+        let filler = self.bits_left() % 8;
+        if self.next(filler)? != 0 {
             return Err(Refusal::Filler);
         }
         Ok(())

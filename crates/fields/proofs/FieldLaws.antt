@@ -13,7 +13,7 @@ use Rattle.grid.proofs.ListLaws.{split}
 use lib.Pow.{pow-mono, shr-shr, mod-pow-add}
 use lib.ListN.{length, getD}
 use borrow.Author.Tests.{ltb-true, ltb-false, lt-ltb, le-ltb, le-leb, lt-leb}
-use Rattle.fields.specs.Fields.{unless, _>>=_, bit, number, field, filler}
+use Rattle.fields.specs.Fields.{unless, _>>=_, bit, number, field, filler, bytesFor, restZero}
 use Rattle.fields.specs.Inside.{fieldOf, cellCode}
 use Rattle.fields.specs.declared.Field.the-variants.{Value, Fault}
 
@@ -132,3 +132,8 @@ module _ (s : List ℕ) (at : ℕ) where
   pub filler-bits : (x : ℕ) → length s ≤ (at + 7) / 8 → x ≡ number s at (8 * length s - at) → eqb x 0 ≡ filler s at
   unfolding filler
   filler-bits x h e = rw (lt-ltb (8 * length s - at) 8 (omega arith), e) refl
+
+  -- the bits to the end of the byte
+  pub rest-bits : (x : ℕ) → x ≡ number s at ((at + 7) / 8 * 8 - at) → eqb x 0 ≡ restZero s at
+  unfolding restZero bytesFor
+  rest-bits x e = rw e refl

@@ -51,3 +51,11 @@ stepFrom g i (suc (suc (suc d))) = there (right g i)
 -- only zero bits, and fewer than eight of them, from at
 unfoldable pub filler : List ℕ → ℕ → Bool
 filler s at = ltb (8 * length s - at) 8 && eqb (number s at (8 * length s - at)) 0
+
+-- how many bytes n bits take
+unfoldable pub bytesFor : ℕ → ℕ
+bytesFor n = (n + 7) / 8
+
+-- only zero bits from at to the end of its byte
+unfoldable pub restZero : List ℕ → ℕ → Bool
+restZero s at = eqb (number s at (bytesFor at * 8 - at)) 0

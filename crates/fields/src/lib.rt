@@ -2,7 +2,7 @@
 ghost use mathlib.Core.Path.{_≡_};
 ghost use Prim.Native.Nat.{_+_, _*_, _≤_, _<_};
 ghost use lib.ListN.{getD};
-ghost use Rattle.fields.specs.Fields.{number, field, stepFrom, filler};
+ghost use Rattle.fields.specs.Fields.{number, field, stepFrom, filler, restZero};
 ghost use Rattle.grid.specs.Side.{sized};
 ghost use Rattle.fields.specs.Inside.{fieldOf, cellCode, codeAt, Stepped, stepAt, openingAt, startOf};
 
@@ -39,7 +39,7 @@ fn byte_at(s: &[u8], k: usize) -> u32
 }
 
 // The number in the n bits from at. They lie in three bytes, since n is small; bits behind the end are 0.
-fn number_at(s: &[u8], at: usize, n: usize) -> usize
+pub fn number_at(s: &[u8], at: usize, n: usize) -> usize
     requires { ⌜ n ≤ 16 ⌝ }
     ensures { λ r. ⌜ r ≡ number (now (s .entry)) at n ⌝ }
 {
@@ -172,4 +172,12 @@ pub fn is_filler(s: &[u8], at: usize) -> bool
         return true;
     }
     number_at(s, at, end - at) == 0
+}
+
+// Only zero bits from at to the end of its byte.
+pub fn is_rest_zero(s: &[u8], at: usize) -> bool
+    requires { ⌜ at ≤ 65536 ⌝ }
+    ensures { λ r. ⌜ r ≡ restZero (now (s .entry)) at ⌝ }
+{
+    number_at(s, at, (at + 7) / 8 * 8 - at) == 0
 }

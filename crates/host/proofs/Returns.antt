@@ -15,8 +15,11 @@ use Rattle.grid.specs.Lists.{all, member}
 use Rattle.grid.specs.Grid.{Grid, size, up, down, left, right}
 use Rattle.grid.proofs.ListLaws.{all-mem, and-true}
 use Rattle.record.specs.Record.{Outcome, ok, refused, _>>=_, unless, Puzzle, number, field, cellCodes, there, stepFrom, stepCells, arrowAt, filler, arrowsAt, readRecord, Bytes}
-use Rattle.record.specs.Leaf.{inEdition}
+use Rattle.record.specs.Leaf.{inEdition, isEdition}
+use Rattle.record.specs.Head.{Head, readHead}
 use Rattle.record.proofs.RecordLaws.{record-valid, valid-size}
+use Rattle.record.proofs.HeadLaws.{head-fault}
+use Rattle.finished.specs.Finished.{finishedTest}
 use Rattle.grid.specs.Cells.{Literal}
 use Rattle.board.specs.Board.{decide, refusal, decided, cellsAfter, enough}
 use Rattle.board.proofs.Standing.{Standing, none, after-standing, standing-calls, standing-low}
@@ -33,6 +36,9 @@ use Rattle.certain.specs.Tree.{Reached, search}
 use Rattle.certain.specs.Facts.{certainty, untold, known, certainBy}
 use Rattle.certain.specs.declared.Certainty.the-variants.{Spent}
 use Rattle.certain.specs.declared.Facts.{Facts}
+use Rattle.file.specs.File.{tailOf, cellsIn, tailTest, solutionIn, Graded, Solved, gradedIn, solvedIn, playerBehind, setterBehind}
+use Rattle.file.specs.Call.{Given, toPlayer, toSetter, playerWithin, setterWithin, playerGiven, setterGiven}
+use Rattle.file.proofs.TailLaws.{solution-length}
 use Rattle.exported.specs.Written.{bytesOf}
 use Rattle.exported.proofs.BytesLaws.{bytes-length}
 use Rattle.call.specs.Call.{acceptOr, decideBytes, hostCall}
@@ -307,3 +313,41 @@ certain-possible s decisions budget k low = call-possible _ _ s decisions k low 
     number-is : (n budget : ℕ) (r : Reached)
         → (certaintyNumber (certainBy n budget r .answer) ≡ pos 0) ⊎ (certaintyNumber (certainBy n budget r .answer) ≡ pos 1) ⊎ (certaintyNumber (certainBy n budget r .answer) ≡ pos 2)
     number-is n budget r = by (leb (r .steps) budget) n budget r (certainBy n budget r) (unfold certainBy in refl)
+
+-- the record at the head of a file: 1 to 5
+head-possible : (s : List ℕ) → Possible faults Any (readHead s)
+head-possible s = go (readHead s) refl
+  where
+    same : {k : ℕ} → Possible faults (Any {A = Puzzle}) (refused k) → Possible faults (Any {A = Head}) (refused k)
+    same (refusal-of m) = refusal-of m
+
+    go : (o : Outcome Head) → readHead s ≡ o → Possible faults Any o
+    go (refused k) e = same (rw (head-fault s e) at (read-possible s))
+    go (ok h) e = value-of tt
+
+-- the player's call for a file: the length of its record and one byte, or a refusal of the record, or 11 or 20
+pub player-possible : (n : ℕ) (s : List ℕ)
+    → Possible (11 ∷ 20 ∷ faults) (λ (a : Given). (h : Head) × (readHead s ≡ ok h) × (a .length ≡ h .bytes) × (length (a .bytes) ≡ 1)) (playerGiven n s)
+unfolding playerGiven playerWithin playerBehind gradedIn toPlayer
+player-possible n s = then-possible within λ f e. value-of (f .head, e, refl, refl)
+  where
+    within : Possible (11 ∷ 20 ∷ faults) (λ (f : Graded). readHead s ≡ ok (f .head)) (playerWithin n s)
+    within =
+        then-possible (itself (possible-more (λ _ m. List·Memᴰ·tail (List·Memᴰ·tail m)) (λ h _. tt {0}) (head-possible s))) λ h e.
+        then-possible (unless-possible (leb 1 n) 11 (λ _. List·Memᴰ·head refl)) λ _ _.
+        then-possible (unless-possible (tailTest (tailOf s h) (cellsIn h)) 20 (λ _. List·Memᴰ·tail (List·Memᴰ·head refl))) λ _ _. value-of e
+
+-- the setter's call: that length, a byte and one more for each cell, or a refusal of the record, or 11, 20, 16 or 21
+pub setter-possible : (n e : ℕ) (s : List ℕ)
+    → Possible (11 ∷ 20 ∷ 16 ∷ 21 ∷ faults) (λ (a : Given). (h : Head) × (readHead s ≡ ok h) × (a .length ≡ h .bytes) × (length (a .bytes) ≡ 1 + cellsIn h)) (setterGiven n e s)
+unfolding setterGiven setterWithin setterBehind solvedIn gradedIn toSetter
+setter-possible n e s = then-possible within λ f q. value-of (f .graded .head, q .0, refl, omega (arith, q .1))
+  where
+    within : Possible (11 ∷ 20 ∷ 16 ∷ 21 ∷ faults) (λ (f : Solved). (readHead s ≡ ok (f .graded .head)) × (length (f .solution) ≡ cellsIn (f .graded .head))) (setterWithin n e s)
+    within =
+        then-possible (itself (possible-more (λ _ m. List·Memᴰ·tail (List·Memᴰ·tail (List·Memᴰ·tail (List·Memᴰ·tail m)))) (λ h _. tt {0}) (head-possible s))) λ h q.
+        then-possible (unless-possible (leb (1 + cellsIn h) n) 11 (λ _. List·Memᴰ·head refl)) λ _ _.
+        then-possible (unless-possible (tailTest (tailOf s h) (cellsIn h)) 20 (λ _. List·Memᴰ·tail (List·Memᴰ·head refl))) λ _ _.
+        then-possible (unless-possible (isEdition e) 16 (λ _. listed 16 (11 ∷ 20 ∷ 16 ∷ 21 ∷ faults) refl)) λ _ _.
+        then-possible (unless-possible (finishedTest (inEdition e (h .puzzle)) (solutionIn (tailOf s h) (cellsIn h))) 21 (λ _. listed 21 (11 ∷ 20 ∷ 16 ∷ 21 ∷ faults) refl)) λ _ _.
+        value-of (q, solution-length (tailOf s h) (cellsIn h))

@@ -5,6 +5,7 @@ ghost use Rattle.exported.specs.Written.{written, outputWith};
 ghost use Rattle.clauses.specs.Clauses.{sheetFor};
 ghost use Rattle.turn.specs.Turn.{turnRecord};
 ghost use Rattle.join.specs.Join.{joinRecord};
+ghost use Rattle.file.specs.Call.{playerGiven, setterGiven, givenLength, givenBytes};
 ghost use Rattle.host_find.specs.Host.{hostFinds, returned, outputAfter};
 ghost use Rattle.host_finished.specs.Judged.{hostFinished, judged};
 ghost use Rattle.host_shades.specs.Shaded.{hostShades};
@@ -84,4 +85,24 @@ pub extern "C" fn evolmino_join(left: &[u8], right: &[u8], output: &mut [u8]) ->
         × (now (output .exit) ≡ outputWith (joinRecord (length (now (output .entry))) (now (left .entry)) (now (right .entry))) (now (output .entry))) ⌝ }
 {
     join::join(left, right, output)
+}
+
+// Reads a setter's file in an edition: a record, and from the next byte a grade and a solution. The output's first byte is the grade, and one byte a cell
+// follows, in row order: 1 square, 0 empty. Returns the record's length in bytes, or the negated number of a refusal, which leaves the output as it was.
+#[no_mangle]
+pub extern "C" fn evolmino_setter_file(file: &[u8], edition: u32, output: &mut [u8]) -> i32
+    ensures { λ r. ⌜ (r ≡ givenLength (setterGiven (length (now (output .entry))) edition (now (file .entry))))
+        × (now (output .exit) ≡ outputWith (givenBytes (setterGiven (length (now (output .entry))) edition (now (file .entry)))) (now (output .entry))) ⌝ }
+{
+    file::setter_file(file, edition, output)
+}
+
+// Reads a player's file, which is the setter's: the output's first byte is the grade, and no bit of the solution is looked at. Returns the record's length
+// in bytes, or the negated number of a refusal, which leaves the output as it was.
+#[no_mangle]
+pub extern "C" fn evolmino_player_file(file: &[u8], output: &mut [u8]) -> i32
+    ensures { λ r. ⌜ (r ≡ givenLength (playerGiven (length (now (output .entry))) (now (file .entry))))
+        × (now (output .exit) ≡ outputWith (givenBytes (playerGiven (length (now (output .entry))) (now (file .entry)))) (now (output .entry))) ⌝ }
+{
+    file::player_file(file, output)
 }

@@ -1,4 +1,4 @@
--- Two puzzles in arrays, side by side: room for both, the joined puzzle in arrays, and the length of a record.
+-- Two puzzles in arrays, side by side: room for both, and the joined puzzle in arrays.
 -- Assumes nothing.
 use Prim.Native.Nat.{ℕ, _+_, _-_, _*_, _/_, _%_, _≤_, _<_}
 use native.Mathlib.Omega.{arith}
@@ -18,26 +18,13 @@ use Rattle.record.specs.Record.{Puzzle}
 use Rattle.record.specs.Valid.{Valid}
 use Rattle.record.specs.Problem.{endsFrom, arrowCells, problemOf}
 use Rattle.record.specs.declared.Problem.{Problem}
-use Rattle.record.specs.Write.{writeRecord}
 use Rattle.record.proofs.LinesLaws.{lines-of, problem-lines}
 use Rattle.record.proofs.ProblemLaws.{length-ends}
 use Rattle.record.proofs.RecordLaws.{valid-size}
 use Rattle.writer.proofs.ArrayLaws.{total, map-places, ends-map, cells-map, total-is, few, Parts, parts}
-use Rattle.writer.proofs.BridgeLaws.{written-length}
 use Rattle.join.specs.Join.{placed, codeBeside, joinedGrid, leftCell, rightCell, codesBeside, joined}
 use Rattle.join.specs.Inside.{SideBySide, Placing, Behind}
 use Rattle.join.proofs.JoinLaws.{joined-valid}
-
--- ---- the length of a record
-
-pub length-is : (p : Puzzle) → Valid p → (q : Problem) → q ≡ problemOf p → (n : ℕ) → n ≡ total (q .ends) (q .count)
-    → (21 + 2 * (q .height * q .width) + 18 * q .count + 2 * n + 7) / 8 ≡ length (writeRecord p)
-unfolding problemOf size
-length-is p v q e n f =
-    let m : n ≡ length (arrowCells (p .arrows)) = f ∙ ap (λ (x : Problem). total (x .ends) (x .count)) e ∙ total-is p v in
-    ap (λ (x : Problem). (21 + 2 * (x .height * x .width) + 18 * x .count + 2 * n + 7) / 8) e
-    ∙ ap (λ (k : ℕ). (21 + 2 * (p .grid .height * p .grid .width) + 18 * length (p .arrows) + 2 * k + 7) / 8) m
-    ∙ sym (written-length p v)
 
 -- ---- arrows one after another
 

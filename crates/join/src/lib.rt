@@ -11,7 +11,6 @@ ghost use Rattle.grid.specs.Lists.{upto, arrayOf};
 ghost use Rattle.record.specs.Record.{Puzzle};
 ghost use Rattle.record.specs.Valid.{Valid};
 ghost use Rattle.record.specs.Problem.{problemOf};
-ghost use Rattle.record.specs.Write.{writeRecord};
 ghost use Rattle.exported.specs.Written.{written, outputWith};
 ghost use Rattle.join.specs.Join.{placed, codeBeside, joined, joinPuzzles, joinRecord};
 ghost use Rattle.join.specs.Inside.{SideBySide, Spot, Placing, Behind};
@@ -139,16 +138,6 @@ fn put_beside(left: Problem, right: Problem) -> Problem
     }
 }
 
-// How many bytes the record of a problem has.
-fn record_length(problem: Problem) -> usize
-    requires { ⌜ ((p : Puzzle) × Valid p × (problem ≡ problemOf p)) ⌝ }
-    ensures { λ r. ⌜ ((p : Puzzle) → Valid p → problem ≡ problemOf p → r ≡ length (writeRecord p)) ⌝ }
-{
-    let total = record::arrow_total(&problem.ends, problem.count);
-    let bits = 21 + 2 * (problem.height * problem.width) + 18 * problem.count + 2 * total;
-    (bits + 7) / 8
-}
-
 // Joins two problems into a lent output: 18 for unequal heights, 19 for a joined width above 32, 15 for an output that is too short.
 fn join_problems(left: Problem, right: Problem, output: &mut [u8]) -> i32
     requires { ⌜ ((p : Puzzle) × Valid p × (left ≡ problemOf p)) × ((q : Puzzle) × Valid q × (right ≡ problemOf q)) ⌝ }
@@ -163,7 +152,8 @@ fn join_problems(left: Problem, right: Problem, output: &mut [u8]) -> i32
         return negated(19);
     }
     let whole = put_beside(left, right);
-    if output.len() < record_length(whole) {
+    let length = record::record_length(whole.height, whole.width, &whole.ends, whole.count);
+    if output.len() < length {
         return negated(15);
     }
     counted(writer::write(whole, output))

@@ -19,6 +19,7 @@ use Rattle.record.specs.Record.{Puzzle, readRecord, Bytes}
 use Rattle.record.specs.Write.{valueOf, pack, recordBits, writeRecord}
 use Rattle.record.specs.Valid.{Valid, ValidArrows}
 use Rattle.record.specs.Problem.{arrowCells}
+use Rattle.record.specs.Head.{headBits}
 use Rattle.record.proofs.RecordLaws.{record-valid, valid-size}
 use Rattle.record.proofs.FreshLaws.{arrows-fresh, arrows-length, fresh-distinct}
 use Rattle.record.proofs.LineLaws.{valid-arrows}
@@ -42,8 +43,8 @@ module _ (s : List ℕ) where
           let q : i ≡ k = omega (arith, ltb-false i k f) in
           rw q (getD-at (bitsAt s at k) (bit s (at + k)) [] 0 k (length-bitsAt s at k))
 
-  -- zero bits make the number 0
-  zeros : (at k : ℕ) → number s at k ≡ 0 → (i : ℕ) → i < k → bit s (at + i) ≡ 0
+  -- the bits of the number 0 are zero
+  pub zeros : (at k : ℕ) → number s at k ≡ 0 → (i : ℕ) → i < k → bit s (at + i) ≡ 0
   unfolding number
   zeros at zero e i h = absurd (omega arith)
   zeros at (suc k) e i h = go (split (ltb i k)) (zeros at k (omega arith))
@@ -102,7 +103,7 @@ module _ (s : List ℕ) where
             ∙ byte-number bytes q
 
 -- every byte of a list of bytes, and the 0 behind it
-bytes-at : (s : List ℕ) → Bytes s → (k : ℕ) → getD s k 0 < 256
+pub bytes-at : (s : List ℕ) → Bytes s → (k : ℕ) → getD s k 0 < 256
 bytes-at s h k = go (split (ltb k (length s)))
   where
     go : (ltb k (length s) ≡ true) ⊎ (ltb k (length s) ≡ false) → getD s k 0 < 256
@@ -115,15 +116,16 @@ module _ (s : List ℕ) {p : Puzzle} (e : readRecord s ≡ ok p) where
   unfolding writeRecord
   write-read h =
       let r = record-bits s e in
-      let n : length (recordBits p) ≡ r .0 = ap length (r .1) ∙ length-bitsAt s 0 (r .0) in
-      rw (n, r .1, bytes-needed s (r .0) (r .2) (r .3)) (pack-again s (r .0) (r .2) (r .3) (bytes-at s h))
+      let n : length (recordBits p) ≡ headBits p = ap length (r .0) ∙ length-bitsAt s 0 (headBits p) in
+      rw (n, r .0, bytes-needed s (headBits p) (r .1) (r .2)) (pack-again s (headBits p) (r .1) (r .2) (bytes-at s h))
 
   -- an accepted record has at most 2,819 bytes
   pub record-length : length s ≤ 2819
   record-length =
       let r = record-bits s e in
       let v = record-valid s e in
-      omega (arith, r .4, bytes-needed s (r .0) (r .2) (r .3), valid-size v, many, few)
+      let n = bytes-needed s (headBits p) (r .1) (r .2) in
+      unfold headBits in omega (arith, n, valid-size v, many, few)
     where
       many : length (p .arrows) ≤ length (arrowCells (p .arrows))
       many = unfold arrowCells in few-arrows (record-valid s e .arrows)

@@ -14,7 +14,8 @@ use Rattle.grid.proofs.ListLaws.{and-true}
 use Rattle.grid.specs.Grid.{Grid}
 use Rattle.grid.proofs.AppendLaws.{member-append}
 use Rattle.fields.specs.Fields.{Outcome, ok, refused, _>>=_, unless, field, stepFrom}
-use Rattle.record.specs.Record.{stepCells, arrowAt, arrowsAt}
+use Rattle.record.specs.Record.{stepCells, arrowAt}
+use Rattle.record.specs.Head.{arrowsIn}
 use Rattle.fields.specs.Inside.{Stepped, to, off, stepAt, Opening, openingAt, startOf}
 use Rattle.record.specs.Inside.{Answered, done, fault, takeAt, Kept, StepTaken, step, ArrowRead, arrow}
 use Rattle.record.specs.declared.Answer.{Answer}
@@ -70,11 +71,11 @@ module _ (s : List ℕ) (g : Grid) where
           ap (λ (b : Bool). unless (not b) 4 >>= λ _. stepCells s g (i ∷ u) i (at + 20) k >>= λ js. ok (i ∷ js)) (e .each i)
           ∙ ap (λ (o : Outcome (List ℕ)). unless (not (member i v)) 4 >>= λ _. o >>= λ js. ok (i ∷ js)) (steps-same k i (at + 20) (same-cons i e))
 
-  pub arrows-same : (m : ℕ) {u v : List ℕ} (at : ℕ) → Same u v → arrowsAt s g u at m ≡ arrowsAt s g v at m
-  unfolding arrowsAt
+  pub arrows-same : (m : ℕ) {u v : List ℕ} (at : ℕ) → Same u v → arrowsIn s g u at m ≡ arrowsIn s g v at m
+  unfolding arrowsIn
   arrows-same zero at e = refl
   arrows-same (suc m) {u} {v} at e =
-      ap (λ (o : Outcome (List ℕ)). o >>= λ a. arrowsAt s g (a ++ u) (at + 18 + 2 * length a) m >>= λ rest. ok (a ∷ rest)) (arrow-same at e)
+      ap (λ (o : Outcome (List ℕ)). o >>= λ a. arrowsIn s g (a ++ u) (at + 18 + 2 * length a) m >>= λ rest. ok (a ∷ rest)) (arrow-same at e)
       ∙ bind-ext (arrowAt s g v at) _ _ (λ a. ap (λ (o : Outcome (List (List ℕ))). o >>= λ rest. ok (a ∷ rest)) (arrows-same m (at + 18 + 2 * length a) (same-append a e)))
 
   -- the cell j joins the used ones, and the steps go on from it
@@ -236,7 +237,7 @@ opening-fits s g at {y} {x} {k} e =
     (subst (λ (n : ℕ). n < g .height) qy h, subst (λ (n : ℕ). n < g .width) qx w, subst (λ (n : ℕ). n < 1024) qk f)
 
 -- as many cells as steps
-steps-length : (s : List ℕ) (g : Grid) (u : List ℕ) (i at k : ℕ) {js : List ℕ} → stepCells s g u i at k ≡ ok js → length js ≡ k
+pub steps-length : (s : List ℕ) (g : Grid) (u : List ℕ) (i at k : ℕ) {js : List ℕ} → stepCells s g u i at k ≡ ok js → length js ≡ k
 unfolding stepCells
 steps-length s g u i at zero e = rw (← ok-eq e) refl
 steps-length s g u i at (suc k) e =

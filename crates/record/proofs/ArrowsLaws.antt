@@ -4,18 +4,19 @@ use Prim.Native.Nat.{ℕ, suc, _+_, _-_, _*_, _≤_, _<_}
 use native.Mathlib.Nat.{sub-zero}
 use native.Mathlib.Omega.{arith}
 use mathlib.Core.Path.{_≡_, refl, sym, ap, _∙_}
-use mathlib.Core.Bool.{true, false}
+use mathlib.Core.Bool.{Bool, true, false}
 use mathlib.Core.List.{List, [], _∷_, _++_, append-assoc, append-nil, List·Memᴰ·not-nil}
 use lib.ListN.{length, set, length-append}
 use Rattle.grid.specs.Lists.{any, member, flatMap, arrayOf}
 use Rattle.grid.specs.Grid.{Grid}
-use Rattle.fields.specs.Fields.{Outcome, ok, refused, _>>=_, unless, filler}
-use Rattle.record.specs.Record.{arrowAt, arrowsAt}
+use Rattle.fields.specs.Fields.{Outcome, ok, refused, _>>=_, unless}
+use Rattle.record.specs.Record.{arrowAt}
+use Rattle.record.specs.Head.{arrowsIn}
 use Rattle.grid.proofs.ArrayLaws.{array-more}
 use Rattle.grid.proofs.MarkLaws.{marks-none}
 use Rattle.record.specs.Valid.{Fresh, Arrow}
 use Rattle.record.specs.Problem.{arrowCells, endsFrom}
-use Rattle.record.specs.Inside.{Answered, done, fault, Kept, ArrowRead, arrow}
+use Rattle.record.specs.Inside.{Answered, done, fault, Kept, ArrowRead, arrow, ended, arrowsEnded}
 use Rattle.record.specs.declared.Answer.the-variants.{Done, Refused}
 use Rattle.fields.specs.declared.Field.{Field}
 use Rattle.fields.specs.declared.Field.the-variants.{Value, Fault}
@@ -36,8 +37,8 @@ read-fault (arrow e k) q = let z : _≡_ {A = ℕ} 0 1 = cc in absurd (omega ari
 read-fault (ArrowRead.fault e) q = e ∙ ap {B = Outcome (List ℕ)} refused (cc)
 
 -- one arrow more
-arrows-next : (s : List ℕ) (g : Grid) (l : List ℕ) (at m : ℕ) → arrowsAt s g l at (suc m) ≡ (arrowAt s g l at >>= λ a. arrowsAt s g (l ++ a) (at + 18 + 2 * length a) m >>= λ rest. ok (a ∷ rest))
-unfolding arrowsAt
+arrows-next : (s : List ℕ) (g : Grid) (l : List ℕ) (at m : ℕ) → arrowsIn s g l at (suc m) ≡ (arrowAt s g l at >>= λ a. arrowsIn s g (l ++ a) (at + 18 + 2 * length a) m >>= λ rest. ok (a ∷ rest))
+unfolding arrowsIn
 arrows-next s g l at m = bind-ext (arrowAt s g l at) _ _ (λ a. ap (λ (o : Outcome (List (List ℕ))). o >>= λ rest. ok (a ∷ rest)) (arrows-same s g m (at + 18 + 2 * length a) (same-turn a l)))
 
 -- the cells and the ends of one arrow more
@@ -68,7 +69,7 @@ pub record ArrowsSoFar (s : List ℕ) (g : Grid) (at m n count : ℕ) (line ends
   pub some : n ≤ count
   pub kept : Kept (arrowCells read) line marks
   pub ended : ends ≡ arrayOf 0 (endsFrom 0 read)
-  pub rest : arrowsAt s g [] at m ≡ (arrowsAt s g (arrowCells read) (at + 18 * n + 2 * count) (m - n) >>= λ l. ok (read ++ l))
+  pub rest : arrowsIn s g [] at m ≡ (arrowsIn s g (arrowCells read) (at + 18 * n + 2 * count) (m - n) >>= λ l. ok (read ++ l))
 
 kept-none : (line marks : List ℕ) → line ≡ arrayOf 0 [] → marks ≡ arrayOf 0 [] → Kept [] line marks
 unfolding member any arrayOf
@@ -91,7 +92,7 @@ module _ (s : List ℕ) (g : Grid) (at m : ℕ) where
         some = omega arith;
         kept = kept-none line marks e h;
         ended = f;
-        rest = sym (ap (λ (k : ℕ). arrowsAt s g [] k (m - 0) >>= λ l. ok l) nothing ∙ ap (λ (k : ℕ). arrowsAt s g [] at k >>= λ l. ok l) (sub-zero m) ∙ bind-same (arrowsAt s g [] at m));
+        rest = sym (ap (λ (k : ℕ). arrowsIn s g [] k (m - 0) >>= λ l. ok l) nothing ∙ ap (λ (k : ℕ). arrowsIn s g [] at k >>= λ l. ok l) (sub-zero m) ∙ bind-same (arrowsIn s g [] at m));
       }
 
   module _ (n count : ℕ) {line ends marks : List ℕ} (w : ArrowsSoFar s g at m n count line ends marks) where
@@ -101,13 +102,14 @@ module _ (s : List ℕ) (g : Grid) (at m : ℕ) where
     abbrev place : ℕ
     place = at + 18 * n + 2 * count
 
-    left : n < m → arrowsAt s g [] at m ≡ ((arrowAt s g seen place >>= λ a. arrowsAt s g (seen ++ a) (place + 18 + 2 * length a) (m - (n + 1)) >>= λ l. ok (a ∷ l)) >>= λ l. ok (w .read ++ l))
+    left : n < m → arrowsIn s g [] at m ≡ ((arrowAt s g seen place >>= λ a. arrowsIn s g (seen ++ a) (place + 18 + 2 * length a) (m - (n + 1)) >>= λ l. ok (a ∷ l)) >>= λ l. ok (w .read ++ l))
     left h =
         let e : m - n ≡ suc (m - (n + 1)) = omega arith in
         w .rest ∙ rw e (ap (λ (o : Outcome (List (List ℕ))). o >>= λ l. ok (w .read ++ l)) (arrows-next s g seen place (m - (n + 1))))
 
-    pub arrows-fault : {k : ℕ} → n < m → arrowAt s g seen place ≡ refused k → arrowsAt s g [] at m ≡ refused k
-    arrows-fault h e = left h ∙ bind-refused (λ l. ok (w .read ++ l)) (bind-refused _ e)
+    pub arrows-fault : (whole : Bool) {P : List (List ℕ) → Type 0} {k : ℕ} → n < m → arrowAt s g seen place ≡ refused k → Answered (arrowsEnded whole s g at m) P (Refused k)
+    unfolding arrowsEnded
+    arrows-fault whole h e = fault (bind-refused _ (left h ∙ bind-refused (λ l. ok (w .read ++ l)) (bind-refused _ e)))
 
     -- there is room for its end
     pub arrows-room : {a line′ marks′ : List ℕ} → arrowAt s g seen place ≡ ok a → Kept (seen ++ a) line′ marks′ → n < 1024
@@ -132,22 +134,29 @@ module _ (s : List ℕ) (g : Grid) (at m : ℕ) where
               ∙ ap (arrayOf 0) (sym (ends-snoc 0 (w .read) a));
           rest = left h
               ∙ ap (λ (o : Outcome (List (List ℕ))). o >>= λ l. ok (w .read ++ l)) (bind-value _ e)
-              ∙ behind (arrowsAt s g (seen ++ a) (place + 18 + 2 * length a) (m - (n + 1))) (w .read) a
-              ∙ ap (λ (i : ℕ). arrowsAt s g (seen ++ a) i (m - (n + 1)) >>= λ l. ok ((w .read ++ (a ∷ [])) ++ l)) on
-              ∙ ap (λ (u : List ℕ). arrowsAt s g u (at + 18 * (n + 1) + 2 * c) (m - (n + 1)) >>= λ l. ok ((w .read ++ (a ∷ [])) ++ l)) (sym (cells-snoc (w .read) a));
+              ∙ behind (arrowsIn s g (seen ++ a) (place + 18 + 2 * length a) (m - (n + 1))) (w .read) a
+              ∙ ap (λ (i : ℕ). arrowsIn s g (seen ++ a) i (m - (n + 1)) >>= λ l. ok ((w .read ++ (a ∷ [])) ++ l)) on
+              ∙ ap (λ (u : List ℕ). arrowsIn s g u (at + 18 * (n + 1) + 2 * c) (m - (n + 1)) >>= λ l. ok ((w .read ++ (a ∷ [])) ++ l)) (sym (cells-snoc (w .read) a));
         }
 
-    pub arrows-filled : n ≤ m → m ≤ n → filler s place ≡ true → Answered (arrowsAt s g [] at m) (λ l. (line ≡ arrayOf 0 (arrowCells l)) × (ends ≡ arrayOf 0 (endsFrom 0 l))) Done
-    unfolding arrowsAt _>>=_ unless
-    arrows-filled h b f =
+    -- no arrow is left
+    all-read : n ≤ m → m ≤ n → (arrowsIn s g [] at m ≡ ok (w .read)) × (place ≡ at + 18 * m + 2 * length (arrowCells (w .read)))
+    unfolding arrowsIn _>>=_
+    all-read h b =
         let e : m - n ≡ 0 = omega arith in
-        let a : arrowsAt s g [] at m ≡ ok (w .read) =
-        w .rest ∙ rw (e, f) (ap {B = Outcome (List (List ℕ))} ok (append-nil (w .read))) in
+        (w .rest ∙ rw e (ap {B = Outcome (List (List ℕ))} ok (append-nil (w .read))), omega (arith, w .cells))
+
+    pub arrows-filled : (whole : Bool) → n ≤ m → m ≤ n → ended whole s place ≡ true
+        → Answered (arrowsEnded whole s g at m) (λ l. (line ≡ arrayOf 0 (arrowCells l)) × (ends ≡ arrayOf 0 (endsFrom 0 l))) Done
+    unfolding arrowsEnded _>>=_ unless
+    arrows-filled whole h b f =
+        let r = all-read h b in
+        let a : arrowsEnded whole s g at m ≡ ok (w .read) = rw (r .0, ← r .1, f) refl in
         done a (w .kept .kept, w .ended)
 
-    pub arrows-unfilled : {P : List (List ℕ) → Type 0} → n ≤ m → m ≤ n → filler s place ≡ false → Answered (arrowsAt s g [] at m) P (Refused 5)
-    unfolding arrowsAt _>>=_ unless
-    arrows-unfilled h b f =
-        let e : m - n ≡ 0 = omega arith in
-        let a : arrowsAt s g [] at m ≡ refused 5 = w .rest ∙ rw (e, f) refl in
+    pub arrows-unfilled : (whole : Bool) {P : List (List ℕ) → Type 0} → n ≤ m → m ≤ n → ended whole s place ≡ false → Answered (arrowsEnded whole s g at m) P (Refused 5)
+    unfolding arrowsEnded _>>=_ unless
+    arrows-unfilled whole h b f =
+        let r = all-read h b in
+        let a : arrowsEnded whole s g at m ≡ refused 5 = rw (r .0, ← r .1, f) refl in
         fault a

@@ -15,11 +15,12 @@ use Rattle.grid.proofs.ListLaws.{and-true, so-false, member-mem, mem-member}
 use Rattle.grid.specs.Grid.{Grid, size, row, col, up, down, left, right, neighbours}
 use Rattle.grid.proofs.GridLaws.{apart, beside, on-grid, place-below}
 use Rattle.fields.specs.Fields.{ok, refused, unless, bit, number, field, stepFrom, filler}
-use Rattle.record.specs.Record.{Puzzle, cellCodes, stepCells, arrowAt, arrowsAt, readRecord}
+use Rattle.record.specs.Record.{Puzzle, cellCodes, stepCells, arrowAt, readRecord}
+use Rattle.record.specs.Head.{arrowsIn, readFields, headBits}
 use Rattle.record.specs.Problem.{arrowCells}
 use Rattle.record.specs.Write.{bitsOf, direction, stepBits, arrowBits, recordBits}
 use Rattle.fields.proofs.OutcomeLaws.{bind-ok, unless-ok, ok-eq, bit-lt, field-ok, there-ok, step-ok}
-use Rattle.record.proofs.WholeLaws.{arrows-count}
+use Rattle.record.proofs.FieldsLaws.{arrows-count, made, record-fields}
 
 module _ (s : List ℕ) where
   -- the k bits from at
@@ -153,48 +154,45 @@ module _ (s : List ℕ) (g : Grid) where
           unfold arrowBits row col in rw (digits-div y hx, digits-mod y hx, r .2, fy .0, fx .0, fk .0, r .0) refl in
           (bits ∙ sym whole ∙ ap (bitsAt s at) (sym n), omega (arith, r .1, r .2))
 
-  arrows-bits : (u : List ℕ) (at m : ℕ) {l : List (List ℕ)} → at ≤ 8 * length s → arrowsAt s g u at m ≡ ok l
-      → (n : ℕ) × (flatMap (arrowBits g) l ≡ bitsAt s at n) × (at + n ≤ 8 * length s) × (filler s (at + n) ≡ true) × (n ≡ 18 * m + 2 * length (arrowCells l))
-  unfolding arrowsAt flatMap arrowCells
-  arrows-bits u at zero h e =
-      let a = bind-ok (unless (filler s at) 5) _ e in
-      let z : at + 0 ≡ at = omega arith in
-      rw (← ok-eq (a .2)) (0, unfold bitsAt in refl, omega arith, rw z (unless-ok (filler s at) 5 (a .1)), refl)
+  arrows-bits : (u : List ℕ) (at m : ℕ) {l : List (List ℕ)} → at ≤ 8 * length s → arrowsIn s g u at m ≡ ok l
+      → (n : ℕ) × (flatMap (arrowBits g) l ≡ bitsAt s at n) × (at + n ≤ 8 * length s) × (n ≡ 18 * m + 2 * length (arrowCells l))
+  unfolding arrowsIn flatMap arrowCells
+  arrows-bits u at zero h e = rw (← ok-eq e) (0, unfold bitsAt in refl, omega arith, refl)
   arrows-bits u at (suc m) h e =
       let a = bind-ok (arrowAt s g u at) _ e in
-      let b = bind-ok (arrowsAt s g (a .0 ++ u) (at + 18 + 2 * length (a .0)) m) _ (a .2) in
+      let b = bind-ok (arrowsIn s g (a .0 ++ u) (at + 18 + 2 * length (a .0)) m) _ (a .2) in
       let f = arrow-bits u at (a .1) in
       let r = arrows-bits (a .0 ++ u) (at + 18 + 2 * length (a .0)) m (f .1) (b .1) in
       let p : at + (18 + 2 * length (a .0)) ≡ at + 18 + 2 * length (a .0) = omega arith in
-      let q : at + (18 + 2 * length (a .0) + r .0) ≡ at + 18 + 2 * length (a .0) + r .0 = omega arith in
       rw (← ok-eq (b .2)) (
         18 + 2 * length (a .0) + r .0,
         rw (f .0, r .1) (sym (bits-append s at (18 + 2 * length (a .0)) (r .0) ∙ rw p refl)),
         omega (arith, r .2),
-        rw q (r .3),
-        rw (length-append (a .0) (arrowCells (b .0))) (omega (arith, r .4)),
+        rw (length-append (a .0) (arrowCells (b .0))) (omega (arith, r .3)),
       )
 
--- the bits of a record that is read are those of its puzzle, and the filler behind them
-pub record-bits : (s : List ℕ) {p : Puzzle} → readRecord s ≡ ok p
-    → (n : ℕ) × (recordBits p ≡ bitsAt s 0 n) × (n ≤ 8 * length s) × (filler s n ≡ true) × (n ≡ 21 + 2 * size (p .grid) + 18 * length (p .arrows) + 2 * length (arrowCells (p .arrows)))
-unfolding readRecord recordBits
-record-bits s e =
+-- the bits of fields that are read are those of the puzzle
+pub fields-bits : (s : List ℕ) {p : Puzzle} → readFields s ≡ ok p → (recordBits p ≡ bitsAt s 0 (headBits p)) × (headBits p ≤ 8 * length s)
+unfolding readFields recordBits
+fields-bits s e =
     let a = bind-ok (field s 0 5) _ e in
     let b = bind-ok (field s 5 5) _ (a .2) in
     let c = bind-ok (field s 10 11) _ (b .2) in
     let g : Grid = record { height = a .0 + 1; width = b .0 + 1 } in
     let d = bind-ok (cellCodes s 21 (size g)) _ (c .2) in
-    let f = bind-ok (arrowsAt s g [] (21 + 2 * size g) (c .0)) _ (d .2) in
+    let f = bind-ok (arrowsIn s g [] (21 + 2 * size g) (c .0)) _ (d .2) in
     rw (← ok-eq (f .2)) (parts (a .0) (b .0) (c .0) (d .0) (f .0) (a .1) (b .1) (c .1) (d .1) (f .1))
   where
     sheet : ℕ → ℕ → Grid
     sheet h w = record { height = h + 1; width = w + 1 }
 
+    total : (g : Grid) (m : ℕ) (cs : List ℕ) (l : List (List ℕ)) (n : ℕ) → n ≡ 18 * m + 2 * length (arrowCells l) → length l ≡ m
+        → 5 + (5 + (11 + (2 * size g + n))) ≡ headBits (made g cs l)
+    total g m cs l n e k = unfold headBits in omega arith
+
     parts : (h w m : ℕ) (cs : List ℕ) (l : List (List ℕ)) → field s 0 5 ≡ ok h → field s 5 5 ≡ ok w → field s 10 11 ≡ ok m
-        → cellCodes s 21 (size (sheet h w)) ≡ ok cs → arrowsAt s (sheet h w) [] (21 + 2 * size (sheet h w)) m ≡ ok l
-        → (n : ℕ) × (recordBits (record { grid = sheet h w; given = cs; arrows = l }) ≡ bitsAt s 0 n) × (n ≤ 8 * length s) × (filler s n ≡ true)
-        × (n ≡ 21 + 2 * size (sheet h w) + 18 * length l + 2 * length (arrowCells l))
+        → cellCodes s 21 (size (sheet h w)) ≡ ok cs → arrowsIn s (sheet h w) [] (21 + 2 * size (sheet h w)) m ≡ ok l
+        → (recordBits (made (sheet h w) cs l) ≡ bitsAt s 0 (headBits (made (sheet h w) cs l))) × (headBits (made (sheet h w) cs l) ≤ 8 * length s)
     parts h w m cs l eh ew em ec el =
         let g = sheet h w in
         let fa = field-bits s 0 5 eh in
@@ -211,10 +209,13 @@ record-bits s e =
         ∙ ap (λ (t : List ℕ). bitsAt s 0 5 ++ t) (bits-append s 5 5 (11 + (2 * size g + n))
         ∙ ap (λ (t : List ℕ). bitsAt s 5 5 ++ t) (bits-append s 10 11 (2 * size g + n)
         ∙ ap (λ (t : List ℕ). bitsAt s 10 11 ++ t) (bits-append s 21 (2 * size g) n))) in
-        let q : 21 + 2 * size g + n ≡ 5 + (5 + (11 + (2 * size g + n))) = omega arith in (
-          5 + (5 + (11 + (2 * size g + n))),
-          rw (ph, pw, k, fa .0, fb .0, fc .0, fd .0, r .1) (sym whole),
-          omega (arith, r .2),
-          rw (← q) (r .3),
-          omega (arith, r .4, k),
-        )
+        let q : 5 + (5 + (11 + (2 * size g + n))) ≡ headBits (made g cs l) = total g m cs l n (r .3) k in
+        (rw (ph, pw, k, fa .0, fb .0, fc .0, fd .0, r .1) (sym whole) ∙ ap (bitsAt s 0) q, omega (arith, r .2, q))
+
+-- so it is with a record, whose fields have the filler behind them
+pub record-bits : (s : List ℕ) {p : Puzzle} → readRecord s ≡ ok p → (recordBits p ≡ bitsAt s 0 (headBits p)) × (headBits p ≤ 8 * length s) × (filler s (headBits p) ≡ true)
+record-bits s {p} e =
+    let a = bind-ok (readFields s) _ (sym (record-fields s) ∙ e) in
+    let b = bind-ok (unless (filler s (headBits (a .0))) 5) _ (a .2) in
+    let f = fields-bits s (a .1) in
+    rw (← ok-eq (b .2)) (f .0, f .1, unless-ok (filler s (headBits (a .0))) 5 (b .1))

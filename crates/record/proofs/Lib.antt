@@ -8,9 +8,11 @@ pub mod ProblemLaws
 pub mod LinesLaws
 pub mod CellLaws
 pub mod KeptLaws
+pub mod FieldsLaws
 pub mod ArrowLaws
 pub mod ArrowsLaws
 pub mod WholeLaws
 pub mod BitLaws
 pub mod Accepted
+pub mod HeadLaws
 pub mod Longest

@@ -53,12 +53,12 @@ unfolding puzzleOf problemOf gridOf
 problem-puzzle p v = rw (cells-kept (size (p .grid)) (p .given) (v .total), arrows-kept (p .arrows)) refl
 
 -- what was read is refused, or it is a puzzle
-outcome-refused : (o : Outcome Puzzle) (k : ℕ) → reading o .answer ≡ Refused k → o ≡ refused k
+pub outcome-refused : (o : Outcome Puzzle) (k : ℕ) → reading o .answer ≡ Refused k → o ≡ refused k
 unfolding reading
 outcome-refused (refused j) k e = let z : j ≡ k = cc in ap refused z
 outcome-refused (ok p) k e = let z : _≡_ {A = ℕ} 0 1 = cc in absurd (omega arith)
 
-outcome-done : (o : Outcome Puzzle) → reading o .answer ≡ Done → (p : Puzzle) × (o ≡ ok p) × (reading o .problem ≡ problemOf p)
+pub outcome-done : (o : Outcome Puzzle) → reading o .answer ≡ Done → (p : Puzzle) × (o ≡ ok p) × (reading o .problem ≡ problemOf p)
 unfolding reading
 outcome-done (refused j) e = let z : _≡_ {A = ℕ} 0 1 = cc in absurd (omega arith)
 outcome-done (ok p) e = (p, refl, refl)

@@ -2,19 +2,21 @@
 -- Assumes nothing.
 use Prim.Native.Nat.{ℕ, _*_, _+_, _<_}
 use mathlib.Core.Path.{_≡_}
-use mathlib.Core.Bool.{not}
+use mathlib.Core.Bool.{Bool, true, false, not}
 use mathlib.Core.List.{List, [], _∷_, _++_, List·Memᴰ}
 use lib.ListN.{length}
 use Rattle.grid.specs.Lists.{member, arrayOf}
 use Rattle.grid.specs.Marks.{Marks}
 use Rattle.grid.specs.Grid.{Grid}
-use Rattle.fields.specs.Fields.{Outcome, ok, refused, _>>=_, unless}
+use Rattle.fields.specs.Fields.{Outcome, ok, refused, _>>=_, unless, filler, restZero}
 use Rattle.fields.specs.Inside.{stepAt}
 use Rattle.fields.specs.declared.Field.{Field}
 use Rattle.fields.specs.declared.Field.the-variants.{Value, Fault}
 use Rattle.fields.specs.declared.Place.{Place}
 use Rattle.fields.specs.declared.Place.the-variants.{At, Lost}
-use Rattle.record.specs.Record.{arrowAt}
+use Rattle.record.specs.Record.{Puzzle, arrowAt}
+use Rattle.record.specs.Problem.{arrowCells}
+use Rattle.record.specs.Head.{arrowsIn, readFields, headBits}
 use Rattle.record.specs.Valid.{Fresh}
 use Rattle.record.specs.declared.Answer.{Answer}
 use Rattle.record.specs.declared.Answer.the-variants.{Done, Refused}
@@ -48,3 +50,22 @@ pub data StepTaken (s : List ℕ) (g : Grid) (l : List ℕ) (i at : ℕ) (line m
 pub data ArrowRead (s : List ℕ) (g : Grid) (l : List ℕ) (at : ℕ) (line marks : List ℕ) : Field → Type 0 where
   arrow : {a : List ℕ} → arrowAt s g l at ≡ ok a → Kept (l ++ a) line marks → ArrowRead s g l at line marks (Value (length (l ++ a)))
   fault : {k : ℕ} → arrowAt s g l at ≡ refused k → ArrowRead s g l at line marks (Fault k)
+
+-- whether a record's fields may end at `at`: those of a whole record, or of one at the head of a file
+unfoldable pub ended : Bool → List ℕ → ℕ → Bool
+ended true = filler
+ended false = restZero
+
+-- m arrows from at, and what stands behind them
+unfoldable pub arrowsEnded : Bool → List ℕ → Grid → ℕ → ℕ → Outcome (List (List ℕ))
+arrowsEnded whole s g at m =
+    arrowsIn s g [] at m >>= λ l.
+    unless (ended whole s (at + 18 * m + 2 * length (arrowCells l))) 5 >>= λ _.
+    ok l
+
+-- the puzzle of a whole record, or of one at the head of a file
+unfoldable pub readAs : Bool → List ℕ → Outcome Puzzle
+readAs whole s =
+    readFields s >>= λ p.
+    unless (ended whole s (headBits p)) 5 >>= λ _.
+    ok p

@@ -8,10 +8,11 @@ ghost use mathlib.Core.List.{List, [], _∷_, _++_};
 ghost use Prim.Native.Nat.{ℕ, _+_, _*_, _≤_, _<_};
 ghost use lib.ListN.{length, take};
 ghost use Rattle.grid.specs.Lists.{member, last, arrayOf};
-ghost use Rattle.fields.specs.Fields.{refused, unless};
-ghost use Rattle.record.specs.Record.{cellCodes, stepCells, arrowsAt};
+ghost use Rattle.fields.specs.Fields.{refused, unless, bytesFor};
+ghost use Rattle.record.specs.Record.{cellCodes, stepCells};
 ghost use Rattle.record.specs.Problem.{arrowCells, endsFrom, reading, readOf};
-ghost use Rattle.record.specs.Inside.{Answered, Kept, StepTaken, ArrowRead};
+ghost use Rattle.record.specs.Head.{readHead, puzzleIn};
+ghost use Rattle.record.specs.Inside.{Answered, Kept, StepTaken, ArrowRead, ended, arrowsEnded, readAs};
 ghost use Rattle.grid.specs.Side.{sized};
 
 // What an accepted record says. `cells` has a code for each cell (0 plain, 1 black, 2 given square), `arrows` the cells of the
@@ -31,7 +32,7 @@ pub enum Answer {
     Refused(u8),
 }
 
-// The answer of `read`, with the problem where it is Done, and a blank one of no cells where it is not.
+// The answer of `read` and of `read_head`, with the problem where it is Done, and a blank one of no cells where it is not.
 pub struct Reading {
     pub answer: Answer,
     pub problem: Problem,
@@ -185,6 +186,17 @@ fn read_arrow(
     }
 }
 
+// Whether a record's fields may end at `at`: only zero bits to the end of the byte, and behind those of a whole record nothing more.
+fn may_end(s: &[u8], at: usize, whole: bool) -> bool
+    requires { ⌜ at ≤ 65536 ⌝ }
+    ensures { λ r. ⌜ r ≡ ended whole (now (s .entry)) at ⌝ }
+{
+    if whole {
+        return fields::is_filler(s, at);
+    }
+    fields::is_rest_zero(s, at)
+}
+
 // Reads the arrows, from `at` on, and the filler behind them; the arrays come empty.
 fn read_arrows(
     s: &[u8],
@@ -192,12 +204,13 @@ fn read_arrows(
     width: usize,
     at: usize,
     arrows: usize,
+    whole: bool,
     line: &mut [u16; 1024],
     ends: &mut [u16; 1024],
     used: &mut [u8; 1024],
 ) -> Answer
     requires { ⌜ (height ≤ 32) × (width ≤ 32) × (at ≤ 10000) × (arrows ≤ 2048) × (now line ≡ arrayOf 0 []) × (now ends ≡ arrayOf 0 []) × (now used ≡ arrayOf 0 []) ⌝ }
-    ensures { λ r. ⌜ Answered (arrowsAt (now (s .entry)) (sized height width) [] at arrows) (λ l. (now (line .exit) ≡ arrayOf 0 (arrowCells l)) × (now (ends .exit) ≡ arrayOf 0 (endsFrom 0 l))) r ⌝ }
+    ensures { λ r. ⌜ Answered (arrowsEnded whole (now (s .entry)) (sized height width) at arrows) (λ l. (now (line .exit) ≡ arrayOf 0 (arrowCells l)) × (now (ends .exit) ≡ arrayOf 0 (endsFrom 0 l))) r ⌝ }
 {
     let mut count = 0;
     let mut i = 0;
@@ -214,7 +227,7 @@ fn read_arrows(
         }
         i += 1;
     }
-    if fields::is_filler(s, at + 18 * i + 2 * count) {
+    if may_end(s, at + 18 * i + 2 * count, whole) {
         return Answer::Done;
     }
     Answer::Refused(5)
@@ -251,9 +264,9 @@ pub fn refusal(k: u8) -> Reading
     }
 }
 
-// The problem of a record, or the refusal of its first fault.
-pub fn read(s: &[u8]) -> Reading
-    ensures { λ r. ⌜ r ≡ readOf (now (s .entry)) ⌝ }
+// The problem of a whole record, or of one at the head of a file, or the refusal of its first fault.
+fn read_as(s: &[u8], whole: bool) -> Reading
+    ensures { λ r. ⌜ r ≡ reading (readAs whole (now (s .entry))) ⌝ }
 {
     let h = fields::read_field(s, 0, 5);
     let Field::Value(rows) = h else {
@@ -283,6 +296,7 @@ pub fn read(s: &[u8]) -> Reading
         width,
         21 + 2 * (height * width),
         count,
+        whole,
         &mut arrows,
         &mut ends,
         &mut used,
@@ -303,6 +317,20 @@ pub fn read(s: &[u8]) -> Reading
     }
 }
 
+// The problem of a record, or the refusal of its first fault.
+pub fn read(s: &[u8]) -> Reading
+    ensures { λ r. ⌜ r ≡ readOf (now (s .entry)) ⌝ }
+{
+    read_as(s, true)
+}
+
+// The problem of the record at the head of a file, or the refusal of its first fault; here 5 counts filler of the record only.
+pub fn read_head(s: &[u8]) -> Reading
+    ensures { λ r. ⌜ r ≡ reading (puzzleIn (readHead (now (s .entry)))) ⌝ }
+{
+    read_as(s, false)
+}
+
 // How many cells the arrows have together: the end of the last one.
 pub fn arrow_total(ends: &[u16; 1024], number: usize) -> usize
     requires { ⌜ (number ≤ 1024) × (number ≤ length (now ends)) ⌝ }
@@ -312,4 +340,14 @@ pub fn arrow_total(ends: &[u16; 1024], number: usize) -> usize
         return 0;
     }
     grid::wide(ends[number - 1])
+}
+
+// How many bytes the record of a problem has: where it ends in a file that it is the head of.
+pub fn record_length(height: usize, width: usize, ends: &[u16; 1024], number: usize) -> usize
+    requires { ⌜ (height ≤ 32) × (width ≤ 32) × (number ≤ 1024) × (number ≤ length (now ends)) × (last 0 (take number (now ends)) ≤ 1024) ⌝ }
+    ensures { λ r. ⌜ r ≡ bytesFor (21 + 2 * (height * width) + 18 * number + 2 * last 0 (take number (now (ends .entry)))) ⌝ }
+{
+    let total = arrow_total(ends, number);
+    let bits = 21 + 2 * (height * width) + 18 * number + 2 * total;
+    (bits + 7) / 8
 }

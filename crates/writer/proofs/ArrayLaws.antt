@@ -10,7 +10,9 @@ use Rattle.grid.specs.Lists.{upto, last, flatMap, arrayOf}
 use Rattle.grid.specs.Grid.{size}
 use Rattle.grid.proofs.ListLaws.{length-map-upto, map-upto-at, map-at, at-mem}
 use Rattle.grid.proofs.ArrayLaws.{array-length, array-in}
+use Rattle.fields.specs.Fields.{bytesFor}
 use Rattle.record.specs.Record.{Puzzle}
+use Rattle.record.specs.Head.{headBits}
 use Rattle.record.specs.Valid.{Valid}
 use Rattle.record.specs.Problem.{endsFrom, arrowCells, problemOf}
 use Rattle.record.specs.declared.Problem.{Problem}
@@ -54,6 +56,12 @@ pub record Parts (q : Problem) : Type 0 where
 module _ (p : Puzzle) (v : Valid p) where
   pub total-is : total (arrayOf 0 (endsFrom 0 (p .arrows))) (length (p .arrows)) ≡ length (arrowCells (p .arrows))
   total-is = ap (last 0) (ends-taken p v) ∙ last-end p v
+
+  -- how many bytes the record has
+  pub length-in : (q : Problem) → q ≡ problemOf p → bytesFor (21 + 2 * (q .height * q .width) + 18 * q .count + 2 * total (q .ends) (q .count)) ≡ bytesFor (headBits p)
+  unfolding headBits problemOf size
+  length-in q e = ap (λ (x : Problem). bytesFor (21 + 2 * (x .height * x .width) + 18 * x .count + 2 * total (x .ends) (x .count))) e
+      ∙ ap (λ (n : ℕ). bytesFor (21 + 2 * (p .grid .height * p .grid .width) + 18 * length (p .arrows) + 2 * n)) total-is
 
   pub few : length (arrowCells (p .arrows)) ≤ 1024
   unfolding arrowCells

@@ -12,9 +12,11 @@ use Rattle.grid.specs.Grid.{Grid, size}
 use Rattle.grid.specs.Side.{sized}
 use Rattle.grid.proofs.ArrayLaws.{array-in}
 use Rattle.grid.proofs.SideLaws.{area}
+use Rattle.fields.specs.Fields.{bytesFor}
 use Rattle.record.specs.Record.{Puzzle}
+use Rattle.record.specs.Head.{headBits}
 use Rattle.record.specs.Valid.{Valid, arrow, Arrows}
-use Rattle.record.specs.Problem.{arrowCells, problemOf, puzzleOf}
+use Rattle.record.specs.Problem.{problemOf, puzzleOf}
 use Rattle.record.specs.declared.Problem.{Problem}
 use Rattle.record.specs.Lines.{startAt, Lines}
 use Rattle.record.specs.Write.{bitsOf, pack, direction, stepBits, arrowBits, recordBits, writeRecord}
@@ -172,8 +174,8 @@ pub one-puzzle : (p r : Puzzle) → Valid p → Valid r → problemOf p ≡ prob
 one-puzzle p r v w e = sym (problem-puzzle p v) ∙ ap puzzleOf e ∙ problem-puzzle r w
 
 -- how long the record of a puzzle is, known before it is written
-pub written-length : (p : Puzzle) → Valid p → length (writeRecord p) ≡ (21 + 2 * size (p .grid) + 18 * length (p .arrows) + 2 * length (arrowCells (p .arrows)) + 7) / 8
-unfolding writeRecord
+pub written-length : (p : Puzzle) → Valid p → length (writeRecord p) ≡ bytesFor (headBits p)
+unfolding writeRecord bytesFor
 written-length p v =
     let r = record-bits (writeRecord p) (round-trip p v) in
-    length-pack ((length (recordBits p) + 7) / 8) (recordBits p) ∙ ap (λ (n : ℕ). (n + 7) / 8) (ap length (r .1) ∙ length-bitsAt (writeRecord p) 0 (r .0) ∙ r .4)
+    length-pack ((length (recordBits p) + 7) / 8) (recordBits p) ∙ ap (λ (n : ℕ). (n + 7) / 8) (ap length (r .0) ∙ length-bitsAt (writeRecord p) 0 (headBits p))

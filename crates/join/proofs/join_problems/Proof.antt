@@ -14,7 +14,8 @@ use Rattle.record.specs.Problem.{problemOf}
 use Rattle.record.specs.Write.{writeRecord}
 use Rattle.record.proofs.Accepted.{record-length}
 use Rattle.writer.specs.Wrote.{Recorded}
-use Rattle.writer.proofs.ArrayLaws.{parts}
+use Rattle.writer.proofs.ArrayLaws.{Parts, parts, length-in}
+use Rattle.writer.proofs.BridgeLaws.{written-length}
 use Rattle.exported.proofs.WrittenLaws.{told-refused, told-ok}
 use Rattle.join.specs.Join.{joinedGrid, joined, joinPuzzles}
 use Rattle.join.proofs.JoinLaws.{joined-valid, joined-read}
@@ -89,17 +90,27 @@ returns-2 c =
 put-beside-requires : tie.Need-put-beside-requires
 put-beside-requires c κs = search needs
 
+-- the joined problem, seen from the call for its length
+abbrev made : tie.After-record-length → tie.After-put-beside
+made c = c .before .before .before
+
 record-length-requires : tie.Need-record-length-requires
 record-length-requires c κs =
-    let k = c .before in
+    let m = c .before .before in
+    let k = m .before in
     let p = start k .pre .0 in
     let q = start k .pre .1 in
-    (joined (p .0) (q .0), good k (p .0) (q .0) (p .1) (q .1) (p .2) (q .2), c .put-beside .ensures (p .0) (q .0) (p .1) (q .1) (p .2) (q .2))
+    let g = good k (p .0) (q .0) (p .1) (q .1) (p .2) (q .2) in
+    let b : Parts (m .put-beside .result) = parts (joined (p .0) (q .0)) g (m .put-beside .result) (m .put-beside .ensures (p .0) (q .0) (p .1) (q .1) (p .2) (q .2)) in
+    (b .tall, b .wide, b .few, b .ended, b .short)
 
 -- the length that is found
-long : (c : tie.After-record-length) (p q : Puzzle) → Valid p → Valid q → start (c .before .before) .args .left ≡ problemOf p → start (c .before .before) .args .right ≡ problemOf q
+long : (c : tie.After-record-length) (p q : Puzzle) → Valid p → Valid q → start (made c .before) .args .left ≡ problemOf p → start (made c .before) .args .right ≡ problemOf q
     → c .record-length .result ≡ length (writeRecord (joined p q))
-long c p q v w e f = let b = c .before in c .record-length .ensures (joined p q) (good (b .before) p q v w e f) (b .put-beside .ensures p q v w e f)
+long c p q v w e f =
+    let m = made c in
+    let g = good (m .before) p q v w e f in
+    c .record-length .ensures ∙ length-in (joined p q) g (m .put-beside .result) (m .put-beside .ensures p q v w e f) ∙ sym (written-length (joined p q) g)
 
 negated-requires-3 : tie.Need-negated-requires-3
 negated-requires-3 c κs = search needs
@@ -108,7 +119,7 @@ negated-requires-3 c κs = search needs
 returns-3 : tie.Need-returns-3
 returns-3 c =
     let i = c .before in
-    let k = i .before .before .before in
+    let k = made (i .before) .before in
     let s = start k in
     let n = c .negated3 in
     λ p q v w e f.
@@ -119,7 +130,7 @@ returns-3 c =
 write-requires : tie.Need-write-requires
 write-requires c κs =
     let i = c .before in
-    let b = i .before .before in
+    let b = made (i .before) in
     let k = b .before in
     let p = start k .pre .0 in
     let q = start k .pre .1 in (
@@ -131,11 +142,11 @@ write-requires c κs =
 
 -- the record that is written
 abbrev way : tie.After-write → tie.Else2
-way z = z .before .before .before .before .before
+way z = made (z .before .before .before) .before
 
 written-is : (z : tie.After-write) (p q : Puzzle) → Valid p → Valid q → start (way z) .args .left ≡ problemOf p → start (way z) .args .right ≡ problemOf q
     → Recorded (joined p q) (start (way z) .args .output .now) (z .write .last .1 .0) (z .write .result)
-written-is z p q v w e f = z .write .ensures (joined p q) (good (way z) p q v w e f) (z .before .before .before .before .put-beside .ensures p q v w e f)
+written-is z p q v w e f = z .write .ensures (joined p q) (good (way z) p q v w e f) (made (z .before .before .before) .put-beside .ensures p q v w e f)
 
 counted-requires : tie.Need-counted-requires
 counted-requires c κs =

@@ -11,18 +11,18 @@ use Rattle.record.specs.Record.{arrowAt}
 use Rattle.record.specs.Problem.{arrowCells}
 use Rattle.grid.specs.Grid.{Grid}
 use Rattle.grid.specs.Side.{sized}
-use Rattle.record.specs.Inside.{fault, Kept}
+use Rattle.record.specs.Inside.{Kept}
 use Rattle.record.proofs.KeptLaws.{kept-length}
 use Rattle.record.proofs.ArrowsLaws.{read-arrow, read-fault, ArrowsSoFar, arrows-start, arrows-fault, arrows-room, arrows-more, arrows-filled, arrows-unfilled}
 use Rattle.record.proofs.read_arrows.Statement.{statement}
 use Rattle.record.proofs.read_arrows.Tie as tie
 
 abbrev Inv-loop : tie.InvT-loop
-Inv-loop s height width at arrows line₀ ends₀ used₀ count₀ i₀ line ends used count i =
+Inv-loop s height width at arrows whole line₀ ends₀ used₀ count₀ i₀ line ends used count i =
     (i ≤ arrows) × (count ≤ 1024) × ArrowsSoFar s (sized height width) at arrows i count line ends used
 
 abbrev μ-loop : tie.MeasureT-loop
-μ-loop s height width at arrows line₀ ends₀ used₀ count₀ i₀ line ends used count i = arrows - i
+μ-loop s height width at arrows whole line₀ ends₀ used₀ count₀ i₀ line ends used count i = arrows - i
 
 -- the places passed: the start, and the head of the loop
 abbrev start : tie.At-loop Inv-loop μ-loop → tie.Start Inv-loop μ-loop
@@ -106,7 +106,7 @@ returns c =
     let a = start h in
     let w = t .inv .2 in
     let lost = read-fault (f .read-arrow .ensures (arrowCells (w .read)) (w .cells) (w .kept)) (c .before .f2 .given .1) in
-    fault (arrows-fault (a .args .s .now) (grid a) (a .args .at) (a .args .arrows) (t .i) (t .count) w (f .before .before .before .loop-test .taken) lost)
+    arrows-fault (a .args .s .now) (grid a) (a .args .at) (a .args .arrows) (t .i) (t .count) w (a .args .whole) (f .before .before .before .loop-test .taken) lost
 
 add-i : tie.Need-add-i Inv-loop μ-loop
 add-i c = search needs
@@ -123,34 +123,34 @@ loop-again c =
     let r = next c in
     (omega arith, room c .1, arrows-more (a .args .s .now) (grid a) (a .args .at) (a .args .arrows) (t .i) (t .count) (t .inv .2) (f .before .before .before .loop-test .taken) (r .1) (r .2) (r .3))
 
-mul-is-filler : tie.Need-mul-is-filler Inv-loop μ-loop
-mul-is-filler c = search needs
+mul-may-end : tie.Need-mul-may-end Inv-loop μ-loop
+mul-may-end c = search needs
 
-add-is-filler : tie.Need-add-is-filler Inv-loop μ-loop
-add-is-filler c = search needs
+add-may-end : tie.Need-add-may-end Inv-loop μ-loop
+add-may-end c = search needs
 
-mul-is-filler-2 : tie.Need-mul-is-filler-2 Inv-loop μ-loop
-mul-is-filler-2 c = search needs
+mul-may-end-2 : tie.Need-mul-may-end-2 Inv-loop μ-loop
+mul-may-end-2 c = search needs
 
-add-is-filler-2 : tie.Need-add-is-filler-2 Inv-loop μ-loop
-add-is-filler-2 c = search needs
+add-may-end-2 : tie.Need-add-may-end-2 Inv-loop μ-loop
+add-may-end-2 c = search needs
 
-is-filler-requires : tie.Need-is-filler-requires Inv-loop μ-loop
-is-filler-requires c κs = search needs
+may-end-requires : tie.Need-may-end-requires Inv-loop μ-loop
+may-end-requires c κs = search needs
 
 returns-2 : tie.Need-returns-2 Inv-loop μ-loop
 returns-2 c =
     let h = c .before .before .before in
     let t = h .loop in
     let a = start h in
-    arrows-filled (a .args .s .now) (grid a) (a .args .at) (a .args .arrows) (t .i) (t .count) (t .inv .2) (t .inv .0) (c .before .before .loop-test .left) (sym (c .before .is-filler .ensures) ∙ c .if1 .taken)
+    arrows-filled (a .args .s .now) (grid a) (a .args .at) (a .args .arrows) (t .i) (t .count) (t .inv .2) (a .args .whole) (t .inv .0) (c .before .before .loop-test .left) (sym (c .before .may-end .ensures) ∙ c .if1 .taken)
 
 returns-3 : tie.Need-returns-3 Inv-loop μ-loop
 returns-3 c =
     let h = c .before .before .before in
     let t = h .loop in
     let a = start h in
-    arrows-unfilled (a .args .s .now) (grid a) (a .args .at) (a .args .arrows) (t .i) (t .count) (t .inv .2) (t .inv .0) (c .before .before .loop-test .left) (sym (c .before .is-filler .ensures) ∙ c .if1 .left)
+    arrows-unfilled (a .args .s .now) (grid a) (a .args .at) (a .args .arrows) (t .i) (t .count) (t .inv .2) (a .args .whole) (t .inv .0) (c .before .before .loop-test .left) (sym (c .before .may-end .ensures) ∙ c .if1 .left)
 
 pub read-arrows-spec : {M : Type 1} → statement M
 read-arrows-spec =
@@ -173,10 +173,10 @@ read-arrows-spec =
     add-i
     loop-less
     loop-again
-    mul-is-filler
-    add-is-filler
-    mul-is-filler-2
-    add-is-filler-2
-    is-filler-requires
+    mul-may-end
+    add-may-end
+    mul-may-end-2
+    add-may-end-2
+    may-end-requires
     returns-2
     returns-3)

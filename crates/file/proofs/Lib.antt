@@ -1,0 +1,4 @@
+pub mod TailLaws
+pub mod FileLaws
+pub mod AnswerLaws
+pub mod Leaves

@@ -1,0 +1,4 @@
+pub mod File
+pub mod Answers
+pub mod Call
+pub mod Inside
