@@ -1,12 +1,13 @@
 /* The proved Evolmino constraint, for C and C++. `rt staticlib host` writes the library, target/staticlib/libhost.a. The calls are for edition 1
- * of the rules (README, The puzzle), but evolmino_setter_file takes the edition; a record that is turned or joined is so for both. */
+ * of the rules (README, The puzzle) and leaves without sizes, but for those that take an edition and sizes, whose names end in _with, and
+ * evolmino_setter_file, which takes the edition; a record that is turned or joined is so for both editions. */
 #ifndef EVOLMINO_H
 #define EVOLMINO_H
 
 #include <stddef.h>
 #include <stdint.h>
 
-/* The length in bytes of an output that is long enough for evolmino_find and every record: 2 * (3 * 32 * 32 + 1). */
+/* The length in bytes of an output that is long enough for evolmino_find, evolmino_find_with and every record: 2 * (3 * 32 * 32 + 1). */
 #define EVOLMINO_OUTPUT 6146
 
 /* The length in bytes of the longest clause sheet, where one arrow runs through all cells of a grid of 32 by 32 and each is black or given:
@@ -17,7 +18,7 @@
 /* The length in bytes of an output that is long enough for evolmino_shades and every record: 4 * 32 * 32. */
 #define EVOLMINO_SHADES 4096
 
-/* The length in bytes of an output that is long enough for evolmino_certain and every record: 8 + 32 * 32. */
+/* The length in bytes of an output that is long enough for evolmino_certain, evolmino_certain_with and every record: 8 + 32 * 32. */
 #define EVOLMINO_CERTAIN 1032
 
 /* The length in bytes of the longest record, so the same for evolmino_turn and evolmino_join. */
@@ -43,14 +44,15 @@ enum {
     EVOLMINO_SHEET_SHORT = 13,  /* the output is too short for the whole clause sheet */
     EVOLMINO_TURNING = 14,      /* the number of a turning is above 7 */
     EVOLMINO_RECORD_OUTPUT_SHORT = 15, /* the output is shorter than the record that is to be written */
-    EVOLMINO_EDITION = 16,      /* an edition that is not 1 or 2: evolmino_setter_file alone returns it */
+    EVOLMINO_EDITION = 16,      /* an edition that is not 1 or 2 */
     EVOLMINO_UNEQUAL_HEIGHTS = 18, /* the records that are to be joined are not of equal height */
     EVOLMINO_TOO_WIDE = 19,     /* the joined leaf would be wider than 32 */
     EVOLMINO_TAIL = 20,         /* what stands behind a file's record is too short or too long, or its filler is not zero */
-    EVOLMINO_UNFINISHED = 21    /* the solution of a setter's file is not finished in the edition */
+    EVOLMINO_UNFINISHED = 21,   /* the solution of a setter's file is not finished in the edition */
+    EVOLMINO_SIZES = 22         /* the sizes end inside a range, or one of them starts at 0, is upside down, sits off an arrow or does not rise */
 };
 
-/* What evolmino_certain returns where it does not refuse. */
+/* What evolmino_certain and evolmino_certain_with return where they do not refuse. */
 enum {
     EVOLMINO_TOLD = 0,     /* each cell is told */
     EVOLMINO_NO_BOARD = 1, /* no finished board agrees with the decisions */
@@ -118,13 +120,56 @@ int32_t evolmino_shades(const uint8_t *record, size_t record_len,
  * a refusal, which changes no byte. Decisions and pointers are as for evolmino_find, and so is the order of the refusals; 11 is an output shorter
  * than 8 + height * width bytes. Where it does not refuse, the output's first eight bytes are the number of steps, most significant first; after
  * 2 that is the budget. After 0 one byte follows for each cell in row order: 0 for empty, 1 for square, 2 for open. Bytes behind those written
- * are unchanged. A larger budget alters no answer but 2, and with a budget of 0 it is 2. It keeps nothing either, and takes up to about 300
+ * are unchanged. A larger budget alters no answer but 2, and with a budget of 0 it is 2. It keeps nothing either, and takes up to about 370
  * kilobytes of stack.
  */
 int32_t evolmino_certain(const uint8_t *record, size_t record_len,
                          const uint8_t *decisions, size_t decisions_len,
                          uint64_t budget,
                          uint8_t *output, size_t output_len);
+
+/* As evolmino_find, on a leaf in an edition and with sizes. Edition 1 or 2: in 2 a block may have one square more than the one before it on the
+ * arrow, or several. A size is six bytes, three numbers of 16 bits, most significant first: an arrow cell, and the lowest and the highest size that
+ * its block may have where the cell is square, ends included; the cells rise from size to size, and a length of 0 is a leaf without sizes. Behind
+ * the reasons of evolmino_find, by rising cell: the cell and what shuts its block in, where that cannot reach the lowest size; otherwise the
+ * cells of the block, where it is larger than the highest.
+ *
+ * Returns what evolmino_find returns. The refusals, in this order: the record's 1 to 5; 16 for an edition that is not 1 or 2; 22 for sizes that
+ * end inside a range, or have a range that starts at 0, is upside down, sits off an arrow or does not rise above the cell before it; 11 for an
+ * output shorter than 2 * (3 * height * width + 1) bytes; then for each decision in turn 12, 7, 9, and 12 for a single byte that is left over. In
+ * edition 1 and without sizes it is evolmino_find. Pointers are as there, and the output does not overlap the sizes either. It keeps nothing
+ * either, and takes up to about 105 kilobytes of stack.
+ */
+int32_t evolmino_find_with(const uint8_t *record, size_t record_len,
+                           uint32_t edition,
+                           const uint8_t *sizes, size_t sizes_len,
+                           const uint8_t *decisions, size_t decisions_len,
+                           uint8_t *output, size_t output_len);
+
+/* As evolmino_finished, on a leaf in an edition and with sizes, which are as for evolmino_find_with: the block rules are those of the edition, and
+ * each sized cell that is square is in a block of a size in its range.
+ *
+ * Returns 1 for yes, 0 for no, or the negated number of a refusal, in this order: the record's 1 to 5, 16, 22, then for each decision in turn 12,
+ * 7, 9, and 12 for a single byte that is left over. In edition 1 and without sizes it is evolmino_finished. With no decisions it tells whether a
+ * leaf can be opened. It keeps nothing either, and takes up to about 45 kilobytes of stack.
+ */
+int32_t evolmino_finished_with(const uint8_t *record, size_t record_len,
+                               uint32_t edition,
+                               const uint8_t *sizes, size_t sizes_len,
+                               const uint8_t *decisions, size_t decisions_len);
+
+/* As evolmino_certain, on a leaf in an edition and with sizes, which are as for evolmino_find_with: its finished boards, by its find.
+ *
+ * Returns what evolmino_certain returns, and writes the same. The refusals, in this order: the record's 1 to 5, 16, 22; 11 for an output shorter
+ * than 8 + height * width bytes; then for each decision in turn 12, 7, 9, and 12 for a single byte that is left over. In edition 1 and without
+ * sizes it is evolmino_certain. It keeps nothing either, and takes up to about 370 kilobytes of stack.
+ */
+int32_t evolmino_certain_with(const uint8_t *record, size_t record_len,
+                              uint32_t edition,
+                              const uint8_t *sizes, size_t sizes_len,
+                              const uint8_t *decisions, size_t decisions_len,
+                              uint64_t budget,
+                              uint8_t *output, size_t output_len);
 
 /* Turns a record for the page, by turning k, 0 to 7: it flips left and right first if k is 4 or more, then makes k modulo 4 quarter turns
  * clockwise. The turned record has its grid, its cells and its arrows turned; the arrows keep their order. Turning k is undone by turning k

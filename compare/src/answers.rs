@@ -38,7 +38,7 @@ pub fn by_reading(board: &mut Board, call: Call) -> Answer {
 }
 
 /// None where the original has no such answer: it takes no value above 1, no player and no buffer, and
-/// finds in edition 1 only. Its panics are refusals 7 and 9 of decide and 10 of undo.
+/// finds in edition 1 and without sizes only. Its panics are refusals 7 and 9 of decide and 10 of undo.
 pub fn by_original(board: &Board, original: &mut Original, call: Call) -> Option<Answer> {
     let size = board.puzzle().size;
     let or_refused = |result: Result<(), Panicked>, refusal: Refusal| {
@@ -57,6 +57,7 @@ pub fn by_original(board: &Board, original: &mut Original, call: Call) -> Option
         Call::Undo => Some(or_refused(original.undo(), Refusal::NothingDecided)),
         Call::Find { player, buffer } if player > 3 || buffer < most_literals(size) => None,
         Call::Find { .. } if board.edition() != Edition::ExactlyOne => None,
+        Call::Find { .. } if !board.leaf().sizes.is_empty() => None,
         Call::Find { .. } => Some(original.find().map_or(Answer::Panicked, Answer::Found)),
         Call::Cells => Some(Answer::Cells(original.access.cells())),
     }

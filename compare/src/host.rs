@@ -2,6 +2,7 @@
 
 use crate::reading::certain::Answer;
 use crate::reading::clauses::Clause;
+use crate::reading::leaf::Opening;
 use crate::reading::{Edition, Literal};
 
 /// Record, decisions, output; the literal count or the negated refusal number.
@@ -47,9 +48,11 @@ pub const SHADES_CALL: Option<HostCall> = Some(shades_call);
 #[cfg(not(feature = "host"))]
 pub const SHADES_CALL: Option<HostCall> = None;
 
-/// Record, decisions; of each block its first cell, its size and its cells, by the package, or the
-/// refusal number.
-pub type PackageBlocks = fn(&[u8], &[Literal]) -> Result<Vec<(usize, usize, Vec<usize>)>, u32>;
+/// Of each block its first cell, its size and its cells, or the refusal number.
+pub type Blocks = Result<Vec<(usize, usize, Vec<usize>)>, u32>;
+
+/// Record, decisions; the blocks by the package.
+pub type PackageBlocks = fn(&[u8], &[Literal]) -> Blocks;
 
 /// The package's blocks of a board, if this program was built with it.
 #[cfg(feature = "host")]
@@ -142,31 +145,65 @@ pub const PACKAGE_FILES: Option<PackageFiles> = Some(PackageFiles {
 #[cfg(not(feature = "host"))]
 pub const PACKAGE_FILES: Option<PackageFiles> = None;
 
+/// The calls in an edition and with sizes: what is opened, decisions and, where there is one, a budget
+/// and an output; each returns what the call without returns.
+#[derive(Clone, Copy)]
+pub struct WithCalls {
+    pub find: fn(Opening, &[u8], &mut [u8]) -> i32,
+    pub finished: fn(Opening, &[u8]) -> i32,
+    pub certain: fn(Opening, &[u8], u64, &mut [u8]) -> i32,
+}
+
+/// These calls, if this program was built with them.
+#[cfg(feature = "host")]
+pub const WITH_CALLS: Option<WithCalls> = Some(WithCalls {
+    find: |opening, decisions, output| number(leaf(opening).find_bytes(decisions, output)),
+    finished: |opening, decisions| number(leaf(opening).finished_bytes(decisions).map(usize::from)),
+    certain: |opening, decisions, budget, output| {
+        number(leaf(opening).certain_bytes(decisions, budget, output))
+    },
+});
+#[cfg(not(feature = "host"))]
+pub const WITH_CALLS: Option<WithCalls> = None;
+
+/// What the package's leaf says of decisions of different cells, or the refusal number.
+#[derive(Debug, PartialEq, Eq)]
+pub struct OfLeaf {
+    pub find: Result<Option<Vec<Literal>>, u32>,
+    pub finished: Result<bool, u32>,
+    /// Without and with black and given cells decided first.
+    pub certain: [Result<Answer, u32>; 2],
+    pub blocks: Blocks,
+    /// What its constraint finds behind the decisions, behind the first half of them when the others are
+    /// taken back, and when they are made again.
+    pub constraint: Result<[Option<Vec<Literal>>; 3], u32>,
+}
+
+/// Record, edition, ranges, decisions, budget.
+pub type PackageLeaf = fn(&[u8], u32, &[[u16; 3]], &[Literal], u64) -> OfLeaf;
+
+/// The package's leaf, if this program was built with it.
+#[cfg(feature = "host")]
+pub const PACKAGE_LEAF: Option<PackageLeaf> = Some(package_leaf);
+#[cfg(not(feature = "host"))]
+pub const PACKAGE_LEAF: Option<PackageLeaf> = None;
+
 pub const MISSING: &str = "the host call is not linked: build with --features host, \
                            with libhost.a in the folder that EVOLMINO_HOST names";
 
 #[cfg(feature = "host")]
 fn call(record: &[u8], decisions: &[u8], output: &mut [u8]) -> i32 {
-    match evolmino::find_bytes(record, decisions, output) {
-        Ok(count) => count as i32,
-        Err(refusal) => -(refusal.number() as i32),
-    }
+    number(evolmino::find_bytes(record, decisions, output))
 }
 
 #[cfg(feature = "host")]
 fn finished_call(record: &[u8], decisions: &[u8]) -> i32 {
-    match evolmino::finished_bytes(record, decisions) {
-        Ok(yes) => i32::from(yes),
-        Err(refusal) => -(refusal.number() as i32),
-    }
+    number(evolmino::finished_bytes(record, decisions).map(usize::from))
 }
 
 #[cfg(feature = "host")]
 fn clauses_call(record: &[u8], output: &mut [u8]) -> i32 {
-    match evolmino::clauses_bytes(record, output) {
-        Ok(length) => length as i32,
-        Err(refusal) => -(refusal.number() as i32),
-    }
+    number(evolmino::clauses_bytes(record, output))
 }
 
 #[cfg(feature = "host")]
@@ -179,18 +216,16 @@ fn package_clauses(record: &[u8]) -> Result<Vec<Clause>, u32> {
 
 #[cfg(feature = "host")]
 fn shades_call(record: &[u8], decisions: &[u8], output: &mut [u8]) -> i32 {
-    match evolmino::shades_bytes(record, decisions, output) {
-        Ok(length) => length as i32,
-        Err(refusal) => -(refusal.number() as i32),
-    }
+    number(evolmino::shades_bytes(record, decisions, output))
 }
 
 #[cfg(feature = "host")]
-fn package_blocks(
-    record: &[u8],
-    decisions: &[Literal],
-) -> Result<Vec<(usize, usize, Vec<usize>)>, u32> {
-    let blocks = evolmino::blocks(record, &packaged(decisions));
+fn package_blocks(record: &[u8], decisions: &[Literal]) -> Blocks {
+    listed(evolmino::blocks(record, &packaged(decisions)))
+}
+
+#[cfg(feature = "host")]
+fn listed(blocks: Result<evolmino::Blocks, evolmino::Refusal>) -> Blocks {
     let blocks = blocks.map_err(|refusal| refusal.number())?;
     let block = |block: evolmino::Block| (block.first, block.size, block.cells);
     Ok(blocks.map(block).collect())
@@ -205,18 +240,12 @@ fn packaged(decisions: &[Literal]) -> Vec<evolmino::Literal> {
 
 #[cfg(feature = "host")]
 fn turn_call(record: &[u8], k: u32, output: &mut [u8]) -> i32 {
-    match evolmino::turn_bytes(record, k, output) {
-        Ok(count) => count as i32,
-        Err(refusal) => -(refusal.number() as i32),
-    }
+    number(evolmino::turn_bytes(record, k, output))
 }
 
 #[cfg(feature = "host")]
 fn certain_call(record: &[u8], decisions: &[u8], budget: u64, output: &mut [u8]) -> i32 {
-    match evolmino::certain_bytes(record, decisions, budget, output) {
-        Ok(number) => number as i32,
-        Err(refusal) => -(refusal.number() as i32),
-    }
+    number(evolmino::certain_bytes(record, decisions, budget, output))
 }
 
 #[cfg(feature = "host")]
@@ -229,13 +258,17 @@ fn package_certain(
     decisions: &[Literal],
     budget: u64,
 ) -> Result<Answer, u32> {
+    answered(way(record, &packaged(decisions), budget))
+}
+
+#[cfg(feature = "host")]
+fn answered(answer: Result<evolmino::Certain, evolmino::Refusal>) -> Result<Answer, u32> {
     use crate::reading::certain::{Certain, Fact};
     let fact = |fact: evolmino::Fact| match fact {
         evolmino::Fact::Empty => Fact::Empty,
         evolmino::Fact::Square => Fact::Square,
         evolmino::Fact::Open => Fact::Open,
     };
-    let answer = way(record, &packaged(decisions), budget);
     let answer = answer.map_err(|refusal| refusal.number())?;
     let steps = answer.steps();
     let certain = match answer {
@@ -250,26 +283,26 @@ fn package_certain(
 
 #[cfg(feature = "host")]
 fn join_call(left: &[u8], right: &[u8], output: &mut [u8]) -> i32 {
-    match evolmino::join_bytes(left, right, output) {
-        Ok(count) => count as i32,
+    number(evolmino::join_bytes(left, right, output))
+}
+
+/// The number that an exported call returned.
+#[cfg(feature = "host")]
+fn number(answer: Result<usize, evolmino::Refusal>) -> i32 {
+    match answer {
+        Ok(number) => number as i32,
         Err(refusal) => -(refusal.number() as i32),
     }
 }
 
 #[cfg(feature = "host")]
 fn setter_file_call(file: &[u8], edition: u32, output: &mut [u8]) -> i32 {
-    match evolmino::setter_file_bytes(file, edition, output) {
-        Ok(length) => length as i32,
-        Err(refusal) => -(refusal.number() as i32),
-    }
+    number(evolmino::setter_file_bytes(file, edition, output))
 }
 
 #[cfg(feature = "host")]
 fn player_file_call(file: &[u8], output: &mut [u8]) -> i32 {
-    match evolmino::player_file_bytes(file, output) {
-        Ok(length) => length as i32,
-        Err(refusal) => -(refusal.number() as i32),
-    }
+    number(evolmino::player_file_bytes(file, output))
 }
 
 #[cfg(feature = "host")]
@@ -294,4 +327,75 @@ fn package_player_file(file: &[u8]) -> PackageRead {
 fn package_written(record: &[u8], grade: u8, solution: &[u8]) -> Option<Vec<u8>> {
     let solution: Vec<bool> = solution.iter().map(|&cell| cell == 1).collect();
     evolmino::write_file(record, grade, &solution).ok()
+}
+
+#[cfg(feature = "host")]
+fn leaf<'a>(opening: Opening<'a>) -> evolmino::Leaf<'a> {
+    evolmino::Leaf::new(opening.record)
+        .edition(opening.edition)
+        .sizes_bytes(opening.sizes)
+}
+
+#[cfg(feature = "host")]
+fn package_leaf(
+    record: &[u8],
+    edition: u32,
+    ranges: &[[u16; 3]],
+    decisions: &[Literal],
+    budget: u64,
+) -> OfLeaf {
+    let size = |&[cell, lowest, highest]: &[u16; 3]| (usize::from(cell), lowest, highest);
+    let sizes: Vec<evolmino::Size> = ranges.iter().map(size).collect();
+    let leaf = evolmino::Leaf::new(record).edition(edition).sizes(&sizes);
+    let decisions = packaged(decisions);
+    OfLeaf {
+        find: leaf
+            .find(&decisions)
+            .map(unpackaged)
+            .map_err(|refusal| refusal.number()),
+        finished: leaf
+            .finished(&decisions)
+            .map_err(|refusal| refusal.number()),
+        certain: [
+            answered(leaf.certain(&decisions, budget)),
+            answered(leaf.certain_given_first(&decisions, budget)),
+        ],
+        blocks: listed(leaf.blocks(&decisions)),
+        constraint: leaf
+            .constraint()
+            .map(|constraint| found_by(constraint, &decisions).map(unpackaged))
+            .map_err(|refusal| refusal.number()),
+    }
+}
+
+/// What a constraint finds behind decisions, behind the first half of them, and behind all of them again.
+#[cfg(feature = "host")]
+fn found_by(
+    mut constraint: evolmino::Constraint,
+    decisions: &[evolmino::Literal],
+) -> [Option<Vec<evolmino::Literal>>; 3] {
+    let (half, rest) = decisions.split_at(decisions.len() / 2);
+    for &(index, value) in half {
+        constraint.notify(index, value);
+    }
+    let mut found = || {
+        for &(index, value) in rest {
+            constraint.notify(index, value);
+        }
+        let all = constraint.find_inconsistency();
+        for _ in rest {
+            constraint.undo();
+        }
+        [all, constraint.find_inconsistency()]
+    };
+    let [all, first_half] = found();
+    let [again, _] = found();
+    [all, first_half, again]
+}
+
+/// A reason as the reading has it.
+#[cfg(feature = "host")]
+fn unpackaged(reason: Option<Vec<evolmino::Literal>>) -> Option<Vec<Literal>> {
+    let literal = |(index, value)| (index, u8::from(value));
+    reason.map(|literals| literals.into_iter().map(literal).collect())
 }

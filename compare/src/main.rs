@@ -59,7 +59,7 @@ compare program PATH [--seed N] [--count N]
 compare bench|steps [--seed N] [--count ROUNDS]
 compare host [--seed N] [--count N]
 compare constraint [--seed N] [--count N]
-compare fuzz|finished|clauses|shades|turn|certain|join|file [--seed N] [--count N]
+compare fuzz|finished|clauses|shades|turn|certain|join|file|sizes [--seed N] [--count N]
 compare reason < INPUT
 compare original";
 
@@ -97,6 +97,7 @@ fn run(options: &Options) -> Outcome {
         "steps" => commands::steps::run(seed, count(20)),
         "join" => commands::join::run(seed, count(10_000)),
         "file" => commands::file::run(seed, count(10_000)),
+        "sizes" => commands::sizes::run(seed, count(2_000)),
         "finds" | "calls" | "groups" | "lists" | "bench" | "host" | "constraint" | "original"
             if !original::AT_HAND =>
         {

@@ -1,7 +1,9 @@
 //! A line now and then, and facts that reproduce a difference.
 
 use crate::random::Random;
+use crate::reading::leaf::Leaf;
 use crate::reading::record::{encode, Puzzle};
+use crate::reading::sizes::Range;
 use crate::reading::Literal;
 use std::time::{Duration, Instant};
 
@@ -59,5 +61,16 @@ pub fn facts(puzzle: &Puzzle, decisions: &[Literal]) -> String {
         puzzle.size.height,
         puzzle.size.width,
         hexadecimal(&encode(puzzle)),
+    )
+}
+
+/// The same of a leaf in an edition, with its sizes as cell, lowest and highest.
+pub fn leaf_facts(leaf: &Leaf, decisions: &[Literal]) -> String {
+    let range = |range: &Range| (range.cell, range.lowest, range.highest);
+    let sizes: Vec<_> = leaf.sizes.iter().map(range).collect();
+    format!(
+        "{}, edition {}, sizes {sizes:?}",
+        facts(&leaf.puzzle, decisions),
+        leaf.edition.number()
     )
 }

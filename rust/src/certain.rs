@@ -60,7 +60,7 @@ impl Certain {
 /// for empty, 1 for square, 2 for open. The bytes behind these, and where it refuses the whole output, are unchanged.
 ///
 /// It refuses in the order of [`find_bytes`](crate::find_bytes). It keeps nothing, takes nothing from the heap and up to about
-/// 300 kilobytes of stack, on a large grid.
+/// 370 kilobytes of stack, on a large grid.
 pub fn certain_bytes(
     record: &[u8],
     decisions: &[u8],
@@ -113,15 +113,25 @@ pub fn certain_bytes(
 /// assert_eq!(spent, Certain::Spent { steps: 36 });
 /// ```
 pub fn certain(record: &[u8], decisions: &[Literal], budget: u64) -> Result<Certain, Refusal> {
+    asked(record, decisions, budget, |bytes, budget, output| {
+        certain_bytes(record, bytes, budget, output)
+    })
+}
+
+/// What a call for decisions, a budget and an output says of the cells of a record.
+pub(crate) fn asked(
+    record: &[u8],
+    decisions: &[Literal],
+    budget: u64,
+    call: impl FnOnce(&[u8], u64, &mut [u8]) -> Result<usize, Refusal>,
+) -> Result<Certain, Refusal> {
     // Decisions that can't be handed over are refused whatever is found, so that nothing has to be searched then.
     let budget = match decisions.iter().all(|&decision| encode(decision).is_some()) {
         true => budget,
         false => 0,
     };
     let mut output = [0; OUTPUT_LIMIT];
-    let answer = decided(decisions, |bytes| {
-        certain_bytes(record, bytes, budget, &mut output)
-    })?;
+    let answer = decided(decisions, |bytes| call(bytes, budget, &mut output))?;
     let (count, facts) = output.split_at(STEPS);
     let steps = u64::from_be_bytes(count.try_into().expect("eight bytes"));
     Ok(match answer {
@@ -187,6 +197,11 @@ pub fn certain_given_first(
     decisions: &[Literal],
     budget: u64,
 ) -> Result<Certain, Refusal> {
+    certain(record, &given_first(record, decisions), budget)
+}
+
+/// The decisions, and behind them black cells as empty and given ones as squares, where they are undecided.
+pub(crate) fn given_first(record: &[u8], decisions: &[Literal]) -> Vec<Literal> {
     let undecided = |&(cell, _): &Literal| decisions.iter().all(|&(other, _)| other != cell);
     let given = cells_of(record).into_iter().enumerate();
     let given = given.filter_map(|(cell, code)| match code {
@@ -194,10 +209,9 @@ pub fn certain_given_first(
         ProblemCell::Black => Some((cell, false)),
         ProblemCell::Square => Some((cell, true)),
     });
-    let all: Vec<Literal> = decisions
+    decisions
         .iter()
         .copied()
         .chain(given.filter(undecided))
-        .collect();
-    certain(record, &all, budget)
+        .collect()
 }

@@ -1,6 +1,7 @@
 //! A constraint with the original's calls.
 
-use crate::host::{decode, encode, find_bytes, literals, Literal};
+use crate::host::{decode, encode, literals, Literal};
+use crate::leaf::Leaf;
 use crate::record::{Problem, Record, RecordError};
 
 /// Stands where `EvolminoConstraint` stood: the calls of cspuz_core's `SimpleCustomConstraint`, with the same signatures, the same
@@ -45,16 +46,18 @@ use crate::record::{Problem, Record, RecordError};
 /// ```
 #[derive(Clone, Debug)]
 pub struct Constraint {
-    record: Record,
+    /// One that the exported call accepts.
+    leaf: Leaf<'static>,
     decided: Vec<bool>,
     /// The decisions that stand, in order, as the exported call takes them.
     decisions: Vec<u8>,
-    /// Room for the longest reason of this record, kept from call to call.
+    /// Room for the longest reason of this leaf, kept from call to call.
     output: Vec<u8>,
 }
 
 impl Constraint {
-    /// A constraint for a puzzle, with nothing decided.
+    /// A constraint for a puzzle in edition 1 and without sizes, as the original's, with nothing decided.
+    /// [`Leaf::constraint`] has one in either edition and with sizes.
     ///
     /// The original has `None` for a puzzle that uses an arrow cell twice, and `solve_evolmino` hands it on, as it says `None` for a puzzle
     /// without a solution. `Constraint::new(&problem).ok()?` in its place would say so of every puzzle that has no record, also of one 33
@@ -85,12 +88,18 @@ impl Constraint {
     pub fn new(problem: &Problem) -> Result<Constraint, RecordError> {
         let record = Record::new(problem)?;
         let cells = record.height() * record.width();
-        Ok(Constraint {
-            record,
+        let leaf = Leaf::new(record.bytes()).into_owned();
+        Ok(Constraint::of_leaf(leaf, cells))
+    }
+
+    /// A constraint for a leaf that is accepted and has so many cells.
+    pub(crate) fn of_leaf(leaf: Leaf<'static>, cells: usize) -> Constraint {
+        Constraint {
+            leaf,
             decided: vec![false; cells],
             decisions: vec![],
             output: vec![0; 2 * (3 * cells + 1)],
-        })
+        }
     }
 
     /// `true`, as in the original: the solver asks for an inconsistency only when no further value waits to be notified.
@@ -133,8 +142,10 @@ impl Constraint {
     /// A list of decisions that no board that meets the block rules agrees with, if the decisions that stand give one. A decision may
     /// stand in it twice, as in the original.
     pub fn find_inconsistency(&mut self) -> Option<Vec<Literal>> {
-        let count = find_bytes(self.record.bytes(), &self.decisions, &mut self.output)
-            .expect("a record of our own and decisions tested by notify are accepted");
+        let count = self
+            .leaf
+            .find_bytes(&self.decisions, &mut self.output)
+            .expect("an accepted leaf and decisions tested by notify are accepted");
         literals(&self.output, count)
     }
 }

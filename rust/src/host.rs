@@ -24,11 +24,12 @@ extern "C" {
 pub type Literal = (usize, bool);
 
 /// The bytes that suffice for a reason on the largest grid: 2 × (3 × 32 × 32 + 1).
-const OUTPUT_LIMIT: usize = 2 * (3 * 32 * 32 + 1);
+pub(crate) const OUTPUT_LIMIT: usize = 2 * (3 * 32 * 32 + 1);
 
 /// Why there is no answer, by its number in README. The exported calls never give [`Refusal::Board`],
-/// [`Refusal::Value`], [`Refusal::NothingDecided`] and [`Refusal::Player`]: their board is their own, a decision has one bit of value,
-/// and they find as player 0. [`Refusal::Edition`] is given of a setter's file alone: the other calls are for edition 1, or for both.
+/// [`Refusal::Value`], [`Refusal::NothingDecided`] and [`Refusal::Player`]: their board is their own, a decision has one bit of
+/// value, and they find as player 0. [`Refusal::Edition`] is given of a setter's file and of a [`Leaf`](crate::Leaf), and
+/// [`Refusal::Sizes`] of a leaf alone: the other calls are for edition 1 and leaves without sizes, or for both editions.
 ///
 /// The table grows, so a `match` needs an arm for the refusals that it doesn't name.
 #[derive(Clone, Copy, Debug, PartialEq, Eq, Hash)]
@@ -76,6 +77,9 @@ pub enum Refusal {
     Tail,
     /// 21: the solution of a setter's file is not finished in the edition.
     Unfinished,
+    /// 22: the list of sizes ends inside a range, or one of its ranges starts at 0, is upside down, sits off an arrow or doesn't rise
+    /// above the cell before it.
+    Sizes,
     /// Another number: the linked library has refusals that this package doesn't know.
     Unknown(u32),
 }
@@ -105,6 +109,7 @@ impl Refusal {
             19 => Refusal::TooWide,
             20 => Refusal::Tail,
             21 => Refusal::Unfinished,
+            22 => Refusal::Sizes,
             _ => Refusal::Unknown(number),
         }
     }
@@ -133,6 +138,7 @@ impl Refusal {
             Refusal::TooWide => 19,
             Refusal::Tail => 20,
             Refusal::Unfinished => 21,
+            Refusal::Sizes => 22,
             Refusal::Unknown(number) => number,
         }
     }
@@ -166,6 +172,9 @@ impl fmt::Display for Refusal {
             Refusal::TooWide => "the joined leaf would be wider than 32",
             Refusal::Tail => "what stands behind the file's record is not as long as it must be, or its filler is not zero",
             Refusal::Unfinished => "the file's solution is not finished in this edition",
+            Refusal::Sizes => {
+                "the sizes end inside a range, or one starts at 0, is upside down, sits off an arrow or doesn't rise above the cell before it"
+            }
             Refusal::Unknown(_) => "this package doesn't know why",
         };
         write!(f, "refused {}: {}", self.number(), what)

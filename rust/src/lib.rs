@@ -5,7 +5,8 @@
 //! two on one leaf, and [`setter_file`] and [`player_file`] read a file with grade and solution, which [`write_file`] writes; [`Record`] writes a
 //! [`Problem`] in the form that they read; and [`Constraint`] has `notify`, `undo` and `find_inconsistency` with the signatures of cspuz_core's
 //! `SimpleCustomConstraint`, so that it can stand where `EvolminoConstraint` stood. All of them are for edition 1 of the rules (README, The
-//! puzzle), but [`setter_file`] takes the [`Edition`]; records that are turned or joined are so for both.
+//! puzzle) and leaves without sizes, but [`setter_file`] takes the [`Edition`]; records that are turned or joined are so for both editions. A
+//! [`Leaf`] is a record in either edition and with sizes: the same questions are its methods.
 //!
 //! What is proved are the library's exported calls. This package around them, which writes records, keeps decisions and reads the
 //! answer, is plain Rust: `compare constraint` holds it beside the original.
@@ -30,6 +31,7 @@ mod constraint;
 mod file;
 mod host;
 mod join;
+mod leaf;
 mod record;
 mod shades;
 mod turn;
@@ -43,6 +45,7 @@ pub use file::{
 };
 pub use host::{find, find_bytes, finished, finished_bytes, Literal, Refusal};
 pub use join::{join, join_bytes};
+pub use leaf::{Leaf, Size};
 pub use record::{Problem, ProblemCell, Record, RecordError};
 pub use shades::{blocks, shades_bytes, Block, Blocks};
 pub use turn::{turn, turn_bytes, Turning};

@@ -251,7 +251,7 @@ fn nothing_to_undo() {
 
 #[test]
 fn refusals_have_their_numbers() {
-    for number in 1..=17 {
+    for number in 1..=22 {
         let refusal = Refusal::from_number(number);
         assert_eq!(refusal.number(), number);
         assert_ne!(refusal, Refusal::Unknown(number));

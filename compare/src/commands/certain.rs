@@ -9,14 +9,15 @@ use crate::generate::puzzles::{any_size, size_up_to};
 use crate::generate::small::{decisions, finished_leaves, small_puzzle};
 use crate::guarded::{self, Due};
 use crate::host::{CertainCall, PackageCertain, CERTAIN_CALL, MISSING, PACKAGE_CERTAIN};
-use crate::progress::{facts, hexadecimal, repeatedly, Outcome};
+use crate::progress::{facts, hexadecimal, leaf_facts, repeatedly, Outcome};
 use crate::random::Random;
 use crate::reading::board::Board;
 use crate::reading::certain::{certain, opened_and_searched, Answer, Certain, Fact};
 use crate::reading::finished::finished;
 use crate::reading::host::literal_bytes;
+use crate::reading::leaf::Leaf;
 use crate::reading::record::{encode, plain, Code, Puzzle};
-use crate::reading::{Edition, Refusal};
+use crate::reading::{Edition, Literal, Refusal};
 use std::thread;
 
 /// So many leaves that have a finished board for certain.
@@ -26,10 +27,10 @@ const FINISHED: usize = 50;
 const LENGTHS: usize = 10;
 
 /// The bytes of a stack in which the deepest search has room where there is no arrow.
-const STACK: usize = 256 * 1024;
+const STACK: usize = 320 * 1024;
 
 /// And where an arrow stands behind all other cells: the walk inside find is as deep as the search then.
-const STACK_WITH_ARROW: usize = 320 * 1024;
+const STACK_WITH_ARROW: usize = 384 * 1024;
 
 /// What the calls said.
 #[derive(Default)]
@@ -148,37 +149,36 @@ fn small_leaf(random: &mut Random, leaves: &[Decided]) -> Decided {
 /// The reading's answer in edition 1 with no end to the budget. In both editions it tells what every
 /// finished board that agrees with the decisions has, of all full boards.
 fn by_exhaustion(leaf: &Decided) -> Result<Answer, String> {
-    let answer = |edition| -> Result<Answer, String> {
-        let board = Board::after(&leaf.puzzle, edition, &leaf.decisions);
-        let answer = certain(&board, u64::MAX);
-        let expected = in_every_one(leaf, edition).map_or(Certain::NoBoard, Certain::Cells);
-        match answer.certain == expected {
-            true => Ok(answer),
-            false => Err(format!(
-                "{}, edition {}\nthe reading's search tells {:?}, and the full boards {expected:?}",
-                facts(&leaf.puzzle, &leaf.decisions),
-                edition.number(),
-                answer.certain
-            )),
-        }
-    };
-    answer(Edition::OneOrMore)?;
-    answer(Edition::ExactlyOne)
+    let Decided { puzzle, decisions } = leaf;
+    as_in_every_one(&Leaf::unsized_in(Edition::OneOrMore, puzzle), decisions)?;
+    as_in_every_one(&Leaf::unsized_in(Edition::ExactlyOne, puzzle), decisions)
+}
+
+/// The reading's answer on a leaf with no end to the budget, if it tells what every finished board that
+/// agrees with the decisions has.
+pub fn as_in_every_one(leaf: &Leaf, decisions: &[Literal]) -> Result<Answer, String> {
+    let answer = certain(&Board::of_leaf(leaf, decisions), u64::MAX);
+    let expected = in_every_one(leaf, decisions).map_or(Certain::NoBoard, Certain::Cells);
+    match answer.certain == expected {
+        true => Ok(answer),
+        false => Err(format!(
+            "{}\nthe reading's search tells {:?}, and the full boards {expected:?}",
+            leaf_facts(leaf, decisions),
+            answer.certain
+        )),
+    }
 }
 
 /// For each cell what it is in every finished board that agrees with the decisions, by trying every
 /// full board; none where there is no such board.
-fn in_every_one(leaf: &Decided, edition: Edition) -> Option<Vec<Fact>> {
+fn in_every_one(leaf: &Leaf, standing: &[Literal]) -> Option<Vec<Fact>> {
     let cells = leaf.puzzle.size.cells();
     let mut boards = 0;
     let mut squares = vec![0; cells];
     for number in 0..1 << cells {
         let full = decisions(number, cells, 2);
-        let agrees = leaf
-            .decisions
-            .iter()
-            .all(|decision| full.contains(decision));
-        if agrees && finished(&Board::after(&leaf.puzzle, edition, &full)) {
+        let agrees = standing.iter().all(|decision| full.contains(decision));
+        if agrees && finished(&Board::of_leaf(leaf, &full)) {
             boards += 1;
             for (cell, value) in full {
                 squares[cell] += usize::from(value);
@@ -365,7 +365,7 @@ fn check(
 /// against it: 2,049 steps, and all cells are empty, unless a square is given. With an arrow behind all
 /// other cells no reason is met before it is reached, and all these cells are one floating group, so that
 /// the walk inside find is as deep as the search.
-fn deepest(call: CertainCall) -> Outcome {
+pub fn deepest(call: CertainCall) -> Outcome {
     let empty = plain(32, 32, vec![]);
     let mut given = empty.clone();
     given.codes[1_023] = Code::Given;

@@ -248,7 +248,7 @@ fn every_full_board_in(edition: Edition, puzzle: &Puzzle, counts: &mut Counts) -
         let board = Board::after(puzzle, edition, &full);
         let cells = board.cells();
         let every = clauses.iter().all(|clause| satisfied(clause, &cells));
-        let rules = block_rules_hold(puzzle, edition, &cells);
+        let rules = block_rules_hold(board.leaf(), &cells);
         if (every && rules) != finished(&board) {
             return Err(format!(
                 "{}, edition {}\nevery clause: {every}, the block rules: {rules}, finished: {}",

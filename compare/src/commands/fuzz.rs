@@ -9,6 +9,7 @@ use super::clauses::FuzzedSheets;
 use super::file::FuzzedFiles;
 use super::join::FuzzedJoins;
 use super::shades::FuzzedShades;
+use super::sizes::FuzzedSizes;
 use super::turn::FuzzedTurnings;
 use crate::answers::host_facts;
 use crate::generate::boards::{board_of_size, Decided};
@@ -55,6 +56,7 @@ pub fn run(seed: u64, count: usize) -> Outcome {
     let mut certain = FuzzedCertain::new(seed)?;
     let mut joins = FuzzedJoins::new(seed)?;
     let mut files = FuzzedFiles::new(seed)?;
+    let mut sizes = FuzzedSizes::new(seed)?;
     let leaves = finished_leaves(&mut random, FINISHED);
     let mut done = 0;
     while done < count {
@@ -73,6 +75,7 @@ pub fn run(seed: u64, count: usize) -> Outcome {
             certain.check(&input)?;
             joins.check(&input.record)?;
             files.check(&board)?;
+            sizes.check(&board, &input)?;
             match check(&mut random, host_call, &input)? {
                 Ok(reason) => counts.found[Tally::column(reason.as_ref())] += 1,
                 Err(refusal) => counts.refused[usize::from(refusal.number())] += 1,
@@ -96,6 +99,7 @@ pub fn run(seed: u64, count: usize) -> Outcome {
     println!("{}", certain.line());
     println!("{}", joins.line());
     files.print();
+    println!("{}", sizes.line());
     Ok(())
 }
 

@@ -1,15 +1,17 @@
-//! `compare small`: on small grids, in both editions, each reason against every full board, and full
-//! boards against the block rules.
+//! `compare small`: on small grids, in both editions, without sizes and with them, each reason against
+//! every full board, and full boards against the block rules.
 
 use super::finds::compare;
 use crate::generate::boards::{board_of_puzzle, Decided};
+use crate::generate::sizes::{as_read, small_sizes};
 use crate::generate::small::{decisions, small_puzzle};
 use crate::original::AT_HAND;
-use crate::progress::{facts, repeatedly, Outcome};
+use crate::progress::{leaf_facts, repeatedly, Outcome};
 use crate::random::Random;
 use crate::reading::board::{Board, Cell};
 use crate::reading::finished::finished;
 use crate::reading::groups::{block_rules_hold, blocks};
+use crate::reading::leaf::Leaf;
 use crate::reading::reasons::{find_reason, Reason};
 use crate::reading::record::{Code, Puzzle};
 use crate::reading::{Edition, Literal};
@@ -21,36 +23,56 @@ const ALL_BOARDS: usize = 8;
 const RANDOM_BOARDS: usize = 500;
 
 pub fn run(seed: u64, count: usize) -> Outcome {
-    let mut met = Edition::BOTH.map(|edition| (edition, Met::default()));
+    let mut met = KINDS.map(|kind| (kind, Met::default()));
     repeatedly("small", seed, count, |random| {
         let puzzle = small_puzzle(random);
         let boards = boards(random, puzzle.clone());
-        for (edition, met) in &mut met {
-            met.every_board(&puzzle, *edition, &boards)?;
+        let sizes = small_sizes(random, &puzzle);
+        for ((edition, sized), met) in &mut met {
+            let leaf = Leaf {
+                puzzle: puzzle.clone(),
+                edition: *edition,
+                sizes: match sized {
+                    true => as_read(&sizes),
+                    false => Vec::new(),
+                },
+            };
+            met.every_board(&leaf, &boards)?;
         }
         Ok(())
     })?;
-    for (
-        edition,
-        Met {
-            partly,
-            full,
-            solved,
-        },
-    ) in &met
-    {
+    for ((edition, sized), met) in &met {
+        let sizes = match sized {
+            true => "with sizes",
+            false => "without sizes",
+        };
         println!(
-            "small: {count} puzzles in edition {}; reasons tried against every full board:",
+            "small: {count} puzzles in edition {}, {sizes}; reasons tried against every full board:",
             edition.number()
         );
-        partly.print();
+        met.partly.print();
+        let solved = met.solved;
         println!("every full board of these puzzles ({solved} meet the block rules):");
-        full.print();
+        met.full.print();
+        if count >= ENOUGH && !met.all_kinds(*edition, *sized) {
+            return Err("not every reason was met".to_string());
+        }
     }
     Ok(())
 }
 
-/// The boards met in an edition.
+/// Each edition without sizes and with them.
+const KINDS: [(Edition, bool); 4] = [
+    (Edition::ExactlyOne, false),
+    (Edition::OneOrMore, false),
+    (Edition::ExactlyOne, true),
+    (Edition::OneOrMore, true),
+];
+
+/// Among so many puzzles each reason is met, and full boards that meet the rules.
+const ENOUGH: usize = 200;
+
+/// The boards met on leaves of one kind.
 #[derive(Default)]
 struct Met {
     partly: Tally,
@@ -60,18 +82,31 @@ struct Met {
 }
 
 impl Met {
-    /// Every full board of a puzzle, and the reasons on these boards against all of them.
-    fn every_board(&mut self, puzzle: &Puzzle, edition: Edition, boards: &[Decided]) -> Outcome {
-        let rules = every_full_board(puzzle, edition, &mut self.full)?;
+    /// Every full board of a leaf, and the reasons on these boards against all of them.
+    fn every_board(&mut self, leaf: &Leaf, boards: &[Decided]) -> Outcome {
+        let rules = every_full_board(leaf, &mut self.full)?;
         self.solved += rules.iter().filter(|&&hold| hold).count();
         for board in boards {
-            let reason = find(board, edition)?;
+            let reason = find(leaf, &board.decisions)?;
             if let Some(reason) = &reason {
-                sound(board, edition, reason, &rules)?;
+                sound(leaf, &board.decisions, &reason.literals, &rules)?;
             }
-            self.partly.add(puzzle.size, reason.as_ref());
+            self.partly.add(leaf.puzzle.size, reason.as_ref());
         }
         Ok(())
+    }
+
+    /// Whether none and each reason that there is on such leaves were met, partly decided and full.
+    fn all_kinds(&self, edition: Edition, sized: bool) -> bool {
+        let exists = |column: usize| match column {
+            5 => edition == Edition::ExactlyOne,
+            _ => sized || column < Tally::COLUMNS,
+        };
+        let met = |tally: &Tally| {
+            let sums = tally.sums();
+            (0..sums.len()).all(|column| (sums[column] > 0) == exists(column))
+        };
+        met(&self.partly) && met(&self.full) && self.solved > 0
     }
 }
 
@@ -89,41 +124,36 @@ fn boards(random: &mut Random, puzzle: Puzzle) -> Vec<Decided> {
     (0..RANDOM_BOARDS).map(board).collect()
 }
 
-/// The reading's reason; in edition 1, and where the original is at hand, it has the same.
-fn find(board: &Decided, edition: Edition) -> Result<Option<Reason>, String> {
-    if AT_HAND && edition == Edition::ExactlyOne {
-        return compare(board);
+/// The reading's reason; in edition 1, without sizes, and where the original is at hand, it has the same.
+fn find(leaf: &Leaf, decisions: &[Literal]) -> Result<Option<Reason>, String> {
+    if AT_HAND && leaf.edition == Edition::ExactlyOne && leaf.sizes.is_empty() {
+        return compare(&Decided {
+            puzzle: leaf.puzzle.clone(),
+            decisions: decisions.to_vec(),
+        });
     }
-    let cells = Board::after(&board.puzzle, edition, &board.decisions).cells();
-    Ok(find_reason(&board.puzzle, edition, &cells))
+    let cells = Board::of_leaf(leaf, decisions).cells();
+    Ok(find_reason(leaf, &cells))
 }
 
 /// For each full board, by its number, whether the block rules hold. Find says none exactly then,
 /// and it is finished exactly when black and given cells are kept too, and each arrow passes two
 /// different blocks or more.
-fn every_full_board(
-    puzzle: &Puzzle,
-    edition: Edition,
-    tally: &mut Tally,
-) -> Result<Vec<bool>, String> {
-    let cells = puzzle.size.cells();
+fn every_full_board(leaf: &Leaf, tally: &mut Tally) -> Result<Vec<bool>, String> {
+    let size = leaf.puzzle.size;
     let mut rules = Vec::new();
-    for number in 0..1 << cells {
-        let board = Decided {
-            puzzle: puzzle.clone(),
-            decisions: decisions(number, cells, 2),
-        };
-        let after = Board::after(puzzle, edition, &board.decisions);
-        let hold = block_rules_hold(puzzle, edition, &after.cells());
-        let reason = find(&board, edition)?;
-        tally.add(puzzle.size, reason.as_ref());
+    for number in 0..1 << size.cells() {
+        let full = decisions(number, size.cells(), 2);
+        let after = Board::of_leaf(leaf, &full);
         let cells = after.cells();
-        let solved = hold && kept(puzzle, &cells) && passes_two_blocks(puzzle, &cells);
+        let hold = block_rules_hold(leaf, &cells);
+        let reason = find(leaf, &full)?;
+        tally.add(size, reason.as_ref());
+        let solved = hold && kept(&leaf.puzzle, &cells) && passes_two_blocks(&leaf.puzzle, &cells);
         if hold != reason.is_none() || finished(&after) != solved {
             return Err(format!(
-                "{}, edition {}\nthe block rules: {hold}, finished: {}, find: {reason:?}",
-                facts(puzzle, &board.decisions),
-                edition.number(),
+                "{}\nthe block rules: {hold}, finished: {}, find: {reason:?}",
+                leaf_facts(leaf, &full),
                 finished(&after),
             ));
         }
@@ -150,20 +180,19 @@ fn passes_two_blocks(puzzle: &Puzzle, cells: &[Cell]) -> bool {
 }
 
 /// Every literal stands, and no full board that agrees with all of them meets the block rules.
-fn sound(board: &Decided, edition: Edition, reason: &Reason, rules: &[bool]) -> Outcome {
-    let stands = |literal: &Literal| board.decisions.contains(literal);
+pub fn sound(leaf: &Leaf, standing: &[Literal], literals: &[Literal], rules: &[bool]) -> Outcome {
+    let stands = |literal: &Literal| standing.contains(literal);
     let agrees = |number: usize| {
         let value = |index: usize| (number >> index & 1) as u8;
-        reason.literals.iter().all(|&(index, v)| value(index) == v)
+        literals.iter().all(|&(index, v)| value(index) == v)
     };
     let counterexample = (0..rules.len()).find(|&number| rules[number] && agrees(number));
-    if reason.literals.iter().all(stands) && counterexample.is_none() {
+    if literals.iter().all(stands) && counterexample.is_none() {
         return Ok(());
     }
     Err(format!(
-        "{}, edition {}\n{reason:?} is refuted by the full board {:?}",
-        facts(&board.puzzle, &board.decisions),
-        edition.number(),
-        counterexample.map(|number| decisions(number, board.puzzle.size.cells(), 2)),
+        "{}\n{literals:?} is refuted by the full board {:?}",
+        leaf_facts(leaf, standing),
+        counterexample.map(|number| decisions(number, leaf.puzzle.size.cells(), 2)),
     ))
 }

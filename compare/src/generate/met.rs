@@ -89,8 +89,8 @@ mod tests {
     /// The reason, which ends with the fence of the block with this first cell. That fence meets each other arrow block as
     /// often as is said, once for each side of an undecided cell that touches the reach, and has its cells once.
     fn met_in(board: &Decided, block: usize, others: &[(usize, usize)]) -> Reason {
-        let edition = Edition::ExactlyOne;
-        let cells = Board::after(&board.puzzle, edition, &board.decisions).cells();
+        let after = Board::after(&board.puzzle, Edition::ExactlyOne, &board.decisions);
+        let cells = after.cells();
         let kinds = Kinds::of(&board.puzzle, &cells);
         let size = board.puzzle.size;
         let reach = kinds.reach(block);
@@ -106,7 +106,7 @@ mod tests {
                 assert_eq!(fence.iter().filter(|&&it| it == (cell, 1)).count(), 1);
             }
         }
-        let reason = find_reason(&board.puzzle, edition, &cells).expect("a reason applies");
+        let reason = find_reason(after.leaf(), &cells).expect("a reason applies");
         assert!(reason.literals.ends_with(&fence));
         reason
     }

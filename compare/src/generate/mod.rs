@@ -12,5 +12,6 @@ pub mod mutations;
 pub mod patterns;
 pub mod puzzles;
 pub mod records;
+pub mod sizes;
 pub mod small;
 pub mod solved;

@@ -23,6 +23,7 @@ pub fn mutated(random: &mut Random, input: &HostInput) -> HostInput {
     }
 }
 
+/// Changes bytes in one of several ways.
 pub fn change(random: &mut Random, bytes: &mut Vec<u8>) {
     match random.below(8) {
         0 => bytes.truncate(random.below(bytes.len() + 1)),

@@ -96,7 +96,8 @@ mod tests {
     fn each_has_a_finished_board() {
         let mut random = Random::new(1);
         for side in [3, 3, 3, 3, 4] {
-            let board = Board::fresh(solved(&mut random, square(side)), Edition::ExactlyOne);
+            let puzzle = solved(&mut random, square(side));
+            let board = Board::after(&puzzle, Edition::ExactlyOne, &[]);
             let answer = certain(&board, u64::MAX);
             assert!(matches!(answer.certain, Certain::Cells(_)), "{board:?}");
         }

@@ -7,31 +7,35 @@ use crate::answers::{by_original, by_reading, Answer};
 use crate::generate::boards::{any_board, board_of_size, full_board, Decided};
 use crate::generate::calls::{by_players, calls, two_players, Call};
 use crate::generate::puzzles::square;
+use crate::generate::sizes::any_sizes;
 use crate::original::Original;
 use crate::progress::facts;
 use crate::random::Random;
 use crate::reading::board::{Board, Hints};
 use crate::reading::grid::Size;
+use crate::reading::leaf::Leaf;
 use crate::reading::record::{encode, plain};
+use crate::reading::sizes::ranges;
 use crate::reading::{Edition, Literal};
 
 const WHOSE: [&str; 3] = [
     "Its panics are refusals 9 and 10, and 7; it has no counterpart to 8, 11 and 17, and none to",
-    "players, to counts of hints, to open and to find in edition 2: there the answers are the",
-    "literal reading's.",
+    "players, to counts of hints, to open, and to find in edition 2 or with sizes: there the answers",
+    "are the literal reading's.",
 ];
 
-const FORMAT: [&str; 10] = [
-    "Entries to the end of the file: u16 record length, the record, u8 edition, u8 expected refusal",
-    "of open or 0, and where it is 0 the counts of hints, u16 number of calls, the calls; after each",
-    "call the expected counts of hints on the board.",
+const FORMAT: [&str; 11] = [
+    "Entries to the end of the file: u16 record length, the record, u8 edition, u16 how many numbers",
+    "of sizes, the u16 numbers, u8 expected refusal of open or 0, and where it is 0 the counts of",
+    "hints, u16 number of calls, the calls; after each call the expected counts of hints on the",
+    "board.",
     "Counts of hints are four u16, those of players 0 to 3. A call is u8 kind and:",
     "  0 decide: u16 index, u8 value, u8 expected refusal or 0",
     "  1 undo: u8 expected refusal or 0",
     "  2 find: u8 player, u16 buffer length in literals, u8 expected refusal or 0; if 0, u16 count",
     "    (0 for none) and that many u16 literals, value * 32768 + index",
     "  3 cells: height * width bytes, the expected cells (0 empty, 1 square, 2 undecided)",
-    "Each entry starts on a fresh board of its record, handed in with those counts of hints.",
+    "Each entry starts on a fresh board of its record with its sizes, handed in with those counts.",
 ];
 
 /// The calls on boards of at most so many cells stand there in edition 2 too.
@@ -69,7 +73,7 @@ pub fn call_lists(seed: u64) -> Result<List, String> {
     }
     for record in records() {
         for edition in [0, 1, 2, 3, 255] {
-            add_refused(&mut list, &record, edition);
+            add_refused(&mut list, &record, edition, &[]);
         }
     }
     let mut random = Random::new(seed);
@@ -93,8 +97,57 @@ pub fn call_lists(seed: u64) -> Result<List, String> {
         let goal = too_large_later();
         add_entry(&mut list, &goal, edition, [0; 4], &last_again(&goal))?;
     }
+    add_sized(&mut list, &mut Random::new(seed.rotate_left(32)))?;
     Ok(list)
 }
+
+/// Boards with sizes: both kinds of reason 5 with undo on the way to them, lists that are refused, and
+/// random calls.
+fn add_sized(list: &mut List, random: &mut Random) -> Result<(), String> {
+    let record = encode(&too_large_later().puzzle);
+    for edition in [1, 2, 3] {
+        for sizes in REFUSED {
+            add_refused(list, &record, edition, sizes);
+        }
+    }
+    for edition in Edition::BOTH {
+        for sizes in [[0, 1, 1], [0, 2, 2], [4, 9, 65_535], [4, 1, 2]] {
+            let goal = too_large_later();
+            add_sized_entry(list, &goal, edition, &sizes, [0; 4], &there_and_back(&goal))?;
+            add_sized_entry(list, &goal, edition, &sizes, [0; 4], &last_again(&goal))?;
+        }
+    }
+    let mut left = 60;
+    while left > 0 {
+        let goal = any_board(random);
+        let sizes = any_sizes(random, &goal);
+        if goal.puzzle.size.cells() > 100 || sizes.is_empty() {
+            continue;
+        }
+        left -= 1;
+        let wanted = length(random, &goal);
+        let calls = calls(random, &goal, wanted);
+        let calls = shared_calls(random, &goal, &calls);
+        let hints = HANDED_IN[left % HANDED_IN.len()];
+        for edition in Edition::BOTH {
+            add_sized_entry(list, &goal, edition, sizes.as_flattened(), hints, &calls)?;
+        }
+    }
+    Ok(())
+}
+
+/// Sizes that may not stand on the leaf of 4 (b), whose arrow has the cells 0 to 4.
+const REFUSED: [&[u16]; 9] = [
+    &[0],
+    &[0, 1],
+    &[0, 1, 3, 2],
+    &[0, 0, 5],
+    &[0, 3, 2],
+    &[5, 1, 1],
+    &[65_535, 1, 1],
+    &[2, 1, 1, 0, 1, 1],
+    &[1, 1, 1, 1, 1, 1],
+];
 
 /// Lists of the four players and of others, and each player's count near the limit.
 fn add_players(list: &mut List, fresh: &Decided) -> Result<(), String> {
@@ -251,12 +304,13 @@ fn length(random: &mut Random, goal: &Decided) -> usize {
     }
 }
 
-/// A record that isn't opened in this edition; nothing where it is.
-fn add_refused(list: &mut List, record: &[u8], edition: u8) {
-    if let Err(refusal) = Board::open(record, edition) {
+/// A record that isn't opened in this edition with these sizes; nothing where it is.
+fn add_refused(list: &mut List, record: &[u8], edition: u8, sizes: &[u16]) {
+    if let Err(refusal) = Board::open(record, edition.into(), sizes) {
         list.entries += 1;
         list.long_bytes(record);
         list.u8(edition);
+        add_sizes(list, sizes);
         list.u8(refusal.number());
     }
 }
@@ -268,11 +322,27 @@ fn add_entry(
     hints: Hints,
     calls: &[Call],
 ) -> Result<(), String> {
-    let mut board = Board::with_hints(goal.puzzle.clone(), edition, hints);
+    add_sized_entry(list, goal, edition, &[], hints, calls)
+}
+
+fn add_sized_entry(
+    list: &mut List,
+    goal: &Decided,
+    edition: Edition,
+    sizes: &[u16],
+    hints: Hints,
+    calls: &[Call],
+) -> Result<(), String> {
+    let leaf = Leaf {
+        sizes: ranges(&goal.puzzle, sizes).expect("a good list"),
+        ..Leaf::unsized_in(edition, &goal.puzzle)
+    };
+    let mut board = Board::handed_in(leaf, hints);
     let mut original = Original::open(&goal.puzzle).expect("no arrow cell is used twice");
     list.entries += 1;
     list.long_bytes(&encode(&goal.puzzle));
     list.u8(edition.number());
+    add_sizes(list, sizes);
     list.u8(0);
     list.numbers(&hints.map(usize::from));
     list.u16(calls.len());
@@ -286,6 +356,13 @@ fn add_entry(
         list.numbers(&board.hints().map(usize::from));
     }
     Ok(())
+}
+
+fn add_sizes(list: &mut List, sizes: &[u16]) {
+    list.u16(sizes.len());
+    for &number in sizes {
+        list.u16(number.into());
+    }
 }
 
 fn add_call(list: &mut List, call: Call, answer: &Answer) {

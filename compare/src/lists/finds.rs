@@ -92,8 +92,8 @@ fn in_edition_2(random: &mut Random, boards: &[Known]) -> Vec<Known> {
     };
     let some = boards.iter().filter(stays).map(|(board, _)| board.clone());
     let with_reason = |board: Decided| {
-        let cells = Board::after(&board.puzzle, edition, &board.decisions).cells();
-        let reason = find_reason(&board.puzzle, edition, &cells);
+        let after = Board::after(&board.puzzle, edition, &board.decisions);
+        let reason = find_reason(after.leaf(), &after.cells());
         (board, reason)
     };
     let grown = freely_grown_leaves(random, FINISHED);

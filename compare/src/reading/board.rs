@@ -1,7 +1,8 @@
 //! "Board": the plain machine of document 01, a puzzle with its list of standing decisions; and
-//! beside it the counts of hints of document 02, §2 and §9, and the edition of §7.
+//! beside it the counts of hints of document 02, §2 and §9, the edition of §7 and the sizes of §12.
 
-use super::record::{decode, Puzzle};
+use super::leaf::Leaf;
+use super::record::Puzzle;
 use super::{Edition, Literal, Refusal};
 
 #[derive(Clone, Copy, Debug, PartialEq, Eq)]
@@ -16,38 +17,49 @@ pub type Hints = [u16; 4];
 
 #[derive(Clone, Debug)]
 pub struct Board {
-    puzzle: Puzzle,
-    edition: Edition,
+    leaf: Leaf,
     standing: Vec<Literal>,
     /// The accepted find calls since open, of each player.
     hints: Hints,
 }
 
 impl Board {
-    /// A fresh board: all undecided. The record's refusals come before that of the edition.
-    pub fn open(record: &[u8], edition: u8) -> Result<Board, Refusal> {
-        let puzzle = decode(record)?;
-        Ok(Board::fresh(puzzle, Edition::numbered(u32::from(edition))?))
+    /// A fresh board: all undecided. The record's refusals come before that of the edition, and that
+    /// before the sizes'.
+    pub fn open(record: &[u8], edition: u32, sizes: &[u16]) -> Result<Board, Refusal> {
+        Ok(Board::fresh(Leaf::open(record, edition, sizes)?))
     }
 
-    pub fn fresh(puzzle: Puzzle, edition: Edition) -> Board {
-        Board::with_hints(puzzle, edition, [0; 4])
-    }
-
-    /// A board with nothing decided that was handed in with these counts of hints. There are no
-    /// counts that a board can't have.
-    pub fn with_hints(puzzle: Puzzle, edition: Edition, hints: Hints) -> Board {
+    pub fn fresh(leaf: Leaf) -> Board {
         Board {
-            puzzle,
-            edition,
+            leaf,
             standing: Vec::new(),
-            hints,
+            hints: [0; 4],
         }
     }
 
-    /// A fresh board after decisions that aren't refused.
+    /// A board of a leaf without sizes with nothing decided that was handed in with these counts of
+    /// hints. There are no counts that a board can't have.
+    pub fn with_hints(puzzle: Puzzle, edition: Edition, hints: Hints) -> Board {
+        Board::handed_in(Leaf::unsized_in(edition, &puzzle), hints)
+    }
+
+    /// The same of any leaf.
+    pub fn handed_in(leaf: Leaf, hints: Hints) -> Board {
+        Board {
+            hints,
+            ..Board::fresh(leaf)
+        }
+    }
+
+    /// A fresh board of a leaf without sizes after decisions that aren't refused.
     pub fn after(puzzle: &Puzzle, edition: Edition, decisions: &[Literal]) -> Board {
-        let mut board = Board::fresh(puzzle.clone(), edition);
+        Board::of_leaf(&Leaf::unsized_in(edition, puzzle), decisions)
+    }
+
+    /// A fresh board after decisions that aren't refused.
+    pub fn of_leaf(leaf: &Leaf, decisions: &[Literal]) -> Board {
+        let mut board = Board::fresh(leaf.clone());
         for &(index, value) in decisions {
             board
                 .decide(index, value)
@@ -56,16 +68,20 @@ impl Board {
         board
     }
 
+    pub fn leaf(&self) -> &Leaf {
+        &self.leaf
+    }
+
     pub fn puzzle(&self) -> &Puzzle {
-        &self.puzzle
+        &self.leaf.puzzle
     }
 
     pub fn edition(&self) -> Edition {
-        self.edition
+        self.leaf.edition
     }
 
     pub fn decide(&mut self, index: usize, value: u8) -> Result<(), Refusal> {
-        if index >= self.puzzle.size.cells() {
+        if index >= self.puzzle().size.cells() {
             return Err(Refusal::Index);
         }
         if value > 1 {
@@ -96,7 +112,7 @@ impl Board {
     }
 
     pub fn cells(&self) -> Vec<Cell> {
-        let mut cells = vec![Cell::Undecided; self.puzzle.size.cells()];
+        let mut cells = vec![Cell::Undecided; self.puzzle().size.cells()];
         for &(index, value) in &self.standing {
             cells[index] = if value == 1 {
                 Cell::Square

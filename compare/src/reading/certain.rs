@@ -4,6 +4,7 @@
 use super::board::{Board, Cell};
 use super::finished::finished;
 use super::host::decide_all;
+use super::leaf::Opening;
 use super::reasons::find_reason;
 use super::Refusal;
 
@@ -76,7 +77,7 @@ impl Search {
         self.steps += 1;
         let cells = board.cells();
         // not the board's find: it doesn't count as a hint
-        if find_reason(board.puzzle(), board.edition(), &cells).is_some() {
+        if find_reason(board.leaf(), &cells).is_some() {
             return Ok(());
         }
         match cells.iter().position(|&cell| cell == Cell::Undecided) {
@@ -120,7 +121,17 @@ pub fn opened_and_searched(
     budget: u64,
     output_length: usize,
 ) -> Result<Answer, Refusal> {
-    let mut board = Board::open(record, 1)?;
+    searched_with(Opening::of(record), decisions, budget, output_length)
+}
+
+/// The same in an edition and with sizes: 16 and 22 come behind 1 to 5.
+pub fn searched_with(
+    opening: Opening,
+    decisions: &[u8],
+    budget: u64,
+    output_length: usize,
+) -> Result<Answer, Refusal> {
+    let mut board = Board::fresh(opening.leaf()?);
     if output_length < 8 + board.puzzle().size.cells() {
         return Err(Refusal::OutputShort);
     }

@@ -1,11 +1,12 @@
-//! "Finished", with document 02 §1: two squares or more on every arrow; and §7: in an edition.
+//! "Finished", with document 02 §1: two squares or more on every arrow; §7: in an edition; and §12: with
+//! sizes.
 
 use super::board::{Board, Cell};
 use super::groups::block_rules_hold;
 use super::record::Code;
 
 /// Every cell is decided, black cells are empty, given squares are square, the block rules of the
-/// board's edition hold, and two squares or more stand on every arrow.
+/// board's leaf hold, and two squares or more stand on every arrow.
 pub fn finished(board: &Board) -> bool {
     let puzzle = board.puzzle();
     let cells = board.cells();
@@ -20,6 +21,6 @@ pub fn finished(board: &Board) -> bool {
     };
     !cells.contains(&Cell::Undecided)
         && puzzle.codes.iter().zip(&cells).all(kept)
-        && block_rules_hold(puzzle, board.edition(), &cells)
+        && block_rules_hold(board.leaf(), &cells)
         && puzzle.arrows.iter().all(two_squares)
 }

@@ -1,8 +1,10 @@
-//! "Groups": blocks, potential groups, and the block rules.
+//! "Groups": blocks, potential groups, and the block rules, those of document 02 §12 among them.
 
 use super::board::Cell;
 use super::grid::Size;
+use super::leaf::Leaf;
 use super::record::Puzzle;
+use super::sizes::sizes_hold;
 use super::Edition;
 
 /// Largest side-connected sets of the cells that pass a test, each named by its first cell.
@@ -110,8 +112,9 @@ pub fn some_shift_lies_in(size: Size, cells: &[usize], set: impl Fn(usize) -> bo
     })
 }
 
-/// The block rules of an edition, for a fully decided board.
-pub fn block_rules_hold(puzzle: &Puzzle, edition: Edition, cells: &[Cell]) -> bool {
+/// The block rules of a leaf, for a fully decided board.
+pub fn block_rules_hold(leaf: &Leaf, cells: &[Cell]) -> bool {
+    let puzzle = &leaf.puzzle;
     let size = puzzle.size;
     let blocks = blocks(size, cells);
     let on_arrow = puzzle.arrow_cells();
@@ -125,11 +128,13 @@ pub fn block_rules_hold(puzzle: &Puzzle, edition: Edition, cells: &[Cell]) -> bo
         let earlier = blocks.cells(earlier);
         let later_size = blocks.name_of.iter().filter(|&&name| name == later).count();
         // a shifted copy inside the later block that leaves so many squares over
-        let enough = match edition {
+        let enough = match leaf.edition {
             Edition::ExactlyOne => later_size == earlier.len() + 1,
             Edition::OneOrMore => later_size > earlier.len(),
         };
         enough && some_shift_lies_in(size, &earlier, |cell| blocks.name_of[cell] == later)
     };
-    blocks.names.iter().all(one_arrow_cell) && pairs(puzzle, cells).iter().all(grown)
+    blocks.names.iter().all(one_arrow_cell)
+        && pairs(puzzle, cells).iter().all(grown)
+        && sizes_hold(puzzle, &leaf.sizes, cells)
 }

@@ -1,8 +1,10 @@
-//! The exported calls: a record, decisions and, for find, an output as bytes, a number back. They stay
-//! with edition 1 and find as player 0 (document 02 §7, §9).
+//! The exported calls: a record, decisions and, for find, an output as bytes, a number back. They find
+//! as player 0 (document 02 §9). Those that take no edition stay with edition 1 and have no sizes (§7,
+//! §12).
 
 use super::board::Board;
 use super::finished::finished;
+use super::leaf::Opening;
 use super::reasons::{find, most_literals, Reason};
 use super::{Literal, Refusal};
 
@@ -34,7 +36,16 @@ pub fn opened_and_found(
     decisions: &[u8],
     output_length: usize,
 ) -> Result<Option<Reason>, Refusal> {
-    let mut board = Board::open(record, 1)?;
+    found_with(Opening::of(record), decisions, output_length)
+}
+
+/// The same in an edition and with sizes: 16 and 22 come behind 1 to 5.
+pub fn found_with(
+    opening: Opening,
+    decisions: &[u8],
+    output_length: usize,
+) -> Result<Option<Reason>, Refusal> {
+    let mut board = Board::fresh(opening.leaf()?);
     if output_length < 2 * most_literals(board.puzzle().size) {
         return Err(Refusal::OutputShort);
     }
@@ -53,7 +64,12 @@ pub fn finished_call(record: &[u8], decisions: &[u8]) -> i32 {
 /// Opens, decides in order and tells whether the leaf is finished.
 /// Refusals: 1 to 5, then per decision 12, 7, 9, the odd byte last.
 pub fn opened_and_judged(record: &[u8], decisions: &[u8]) -> Result<bool, Refusal> {
-    let mut board = Board::open(record, 1)?;
+    judged_with(Opening::of(record), decisions)
+}
+
+/// The same in an edition and with sizes: 16 and 22 come behind 1 to 5.
+pub fn judged_with(opening: Opening, decisions: &[u8]) -> Result<bool, Refusal> {
+    let mut board = Board::fresh(opening.leaf()?);
     decide_all(&mut board, decisions)?;
     Ok(finished(&board))
 }

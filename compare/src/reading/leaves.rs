@@ -2,9 +2,11 @@
 //! leaves that document 02 names.
 
 use super::board::{Board, Cell};
+use super::certain::searched_with;
 use super::finished::finished;
 use super::groups::{block_rules_hold, blocks, potential_groups, Groups};
-use super::host::{finished_call, host_call, literal_bytes};
+use super::host::{finished_call, found_with, host_call, judged_with, literal_bytes};
+use super::leaf::{Leaf, Opening};
 use super::program::reason;
 use super::reasons::{find, find_reason};
 use super::record::{decode, encode, plain, Code};
@@ -30,9 +32,9 @@ fn found(record: &[u8], decisions: &[Literal]) -> Option<Vec<Literal>> {
     found_in(Edition::ExactlyOne, record, decisions)
 }
 
-/// The block rules of the board's edition, on a full board.
+/// The block rules of the board's leaf, on a full board.
 fn rules_hold(full: &Board) -> bool {
-    block_rules_hold(full.puzzle(), full.edition(), &full.cells())
+    block_rules_hold(full.leaf(), &full.cells())
 }
 
 #[test]
@@ -199,10 +201,7 @@ fn finished_boards() {
     let decisions = filling(&[1, 0, 1, 0, 0, 1]);
     let solved = board(&encode(&puzzle), &decisions);
     assert!(finished(&solved));
-    assert_eq!(
-        find_reason(&puzzle, Edition::ExactlyOne, &solved.cells()),
-        None
-    );
+    assert_eq!(find_reason(solved.leaf(), &solved.cells()), None);
     assert!(!finished(&board(&encode(&puzzle), &decisions[..5])));
     puzzle.codes[0] = Code::Black;
     let black_square = board(&encode(&puzzle), &decisions);
@@ -321,19 +320,138 @@ fn refused_in_both_editions() {
 /// The record's refusals come first; the board keeps its edition.
 #[test]
 fn opened_in_an_edition() {
-    for edition in [0, 3, 16, 255] {
-        assert_eq!(Board::open(&S, edition).err(), Some(Refusal::Edition));
-        let cut = Board::open(&S[..6], edition);
+    for edition in [0, 3, 16, 255, 256, 257, 258, u32::MAX] {
+        let open = |record: &[u8]| Board::open(record, edition, &[]);
+        assert_eq!(open(&S).err(), Some(Refusal::Edition));
+        let cut = open(&S[..6]);
         assert_eq!(cut.err(), Some(Refusal::RecordEnds));
-        let filler = Board::open(&[&S[..], &[0]].concat(), edition);
+        let filler = open(&[&S[..], &[0]].concat());
         assert_eq!(filler.err(), Some(Refusal::Filler));
     }
     for edition in Edition::BOTH {
-        let mut leaf = Board::open(&S, edition.number()).unwrap();
+        let mut leaf = Board::open(&S, edition.number().into(), &[]).unwrap();
         assert_eq!(leaf.decide(0, 1), Ok(()));
         assert_eq!(find(&mut leaf, 0, 10), Ok(None));
         assert_eq!(leaf.undo(), Ok(()));
         assert_eq!(leaf.edition(), edition);
+    }
+}
+
+/// A leaf in each edition with sizes, given as cell, lowest and highest for each.
+fn sized(record: &[u8], sizes: &[u16]) -> [Leaf; 2] {
+    [1, 2].map(|edition| Leaf::open(record, edition, sizes).unwrap())
+}
+
+/// Document 02 §12: both editions find the same. A full board has no reason exactly when the rules hold;
+/// with two squares on its arrow it is finished then.
+fn found_sized(record: &[u8], sizes: &[u16], decisions: &[Literal]) -> Option<Vec<Literal>> {
+    let [in_1, in_2] = sized(record, sizes).map(|leaf| {
+        let mut board = Board::of_leaf(&leaf, decisions);
+        let found = find(&mut board, 0, 100).unwrap();
+        if !board.cells().contains(&Cell::Undecided) {
+            assert_eq!(rules_hold(&board), found.is_none());
+            assert_eq!(finished(&board), found.is_none());
+        }
+        found.map(|reason| reason.literals)
+    });
+    assert_eq!(in_1, in_2);
+    in_1
+}
+
+#[test]
+fn sizes_of_a_full_board() {
+    let row = encode(&plain(1, 6, vec![vec![0, 1, 2, 3]]));
+    let full = filling(&[1, 0, 0, 1, 1, 0]);
+    // both ends are in the range, and a cell that isn't square asks for nothing
+    let kept: [&[u16]; 5] = [
+        &[],
+        &[3, 2, 2],
+        &[3, 1, 2],
+        &[0, 1, 1, 1, 9, 9, 3, 2, 65_535],
+        &[2, 65_535, 65_535],
+    ];
+    for sizes in kept {
+        assert_eq!(found_sized(&row, sizes, &full), None, "{sizes:?}");
+    }
+    let block = Some(vec![(3, 1), (4, 1)]);
+    assert_eq!(found_sized(&row, &[3, 1, 1], &full), block);
+    let shut_in = Some(vec![(3, 1), (2, 0), (5, 0)]);
+    assert_eq!(found_sized(&row, &[3, 3, 3], &full), shut_in);
+}
+
+/// The reach counts and not the block: a block that may still grow is no reason.
+#[test]
+fn sizes_and_reach() {
+    let row = encode(&plain(1, 6, vec![vec![0, 1, 2, 3]]));
+    let open = [(3, 1), (4, 1), (2, 0)];
+    assert_eq!(found_sized(&row, &[3, 3, 3], &open), None);
+    let reason = Some(vec![(3, 1), (2, 0)]);
+    assert_eq!(found_sized(&row, &[3, 4, 9], &open), reason);
+    // of a cell that is undecided or empty nothing is asked
+    assert_eq!(found_sized(&row, &[2, 9, 9], &[(3, 0), (2, 0)]), None);
+    assert_eq!(found_sized(&row, &[3, 9, 9], &[(4, 1)]), None);
+    // cell 1 is a barrier, and the other block is in the fence
+    let between = [(0, 1), (2, 1), (5, 0)];
+    let grid = encode(&plain(2, 3, vec![vec![0, 1, 2]]));
+    let fence = Some(vec![(2, 1), (0, 1), (5, 0)]);
+    assert_eq!(found_sized(&grid, &[2, 2, 9], &between[..2]), None);
+    let shorter = encode(&plain(2, 3, vec![vec![0], vec![2]]));
+    assert_eq!(found_sized(&shorter, &[2, 2, 9], &between), fence);
+}
+
+/// The sized cells by index, whichever end is missed; and reason 4 before them.
+#[test]
+fn which_size_comes_first() {
+    let row = encode(&plain(1, 6, vec![vec![0, 1, 2, 3]]));
+    let full = filling(&[1, 0, 0, 1, 1, 0]);
+    let low = Some(vec![(0, 1), (1, 0)]);
+    assert_eq!(found_sized(&row, &[0, 2, 9, 3, 1, 1], &full), low);
+    let turned = encode(&plain(1, 6, vec![vec![5, 4, 3, 2]]));
+    let back = filling(&[0, 1, 1, 0, 0, 1]);
+    let high = Some(vec![(1, 1), (2, 1)]);
+    assert_eq!(found_sized(&turned, &[2, 1, 1, 5, 2, 9], &back), high);
+    let by_two = filling(&[1, 0, 0, 1, 1, 1]);
+    let found = sized(&row, &[0, 2, 9]).map(|leaf| {
+        let cells = Board::of_leaf(&leaf, &by_two).cells();
+        find_reason(&leaf, &cells).map(|reason| reason.literals)
+    });
+    let too_large = Some(vec![(3, 1), (4, 1), (5, 1), (0, 1), (1, 0)]);
+    assert_eq!(found, [too_large, low]);
+}
+
+/// 1 to 5, 16, 22, and then the refusals of the calls without sizes.
+#[test]
+fn opened_with_sizes() {
+    let refused = |record: &[u8], edition, sizes: &[u8], decisions: &[u8], output| {
+        let opening = Opening {
+            record,
+            edition,
+            sizes,
+        };
+        let found = found_with(opening, decisions, output).unwrap_err();
+        let searched = searched_with(opening, decisions, 0, output / 2).unwrap_err();
+        assert_eq!(found, searched);
+        if found != Refusal::OutputShort {
+            assert_eq!(judged_with(opening, decisions), Err(found));
+        }
+        found
+    };
+    let bad = [0, 0, 0, 0, 0, 5];
+    let good = [0, 0, 0, 1, 0, 1];
+    assert_eq!(refused(&S[..6], 0, &bad, &[4], 0), Refusal::RecordEnds);
+    for edition in [0, 3, 258, u32::MAX] {
+        assert_eq!(refused(&S, edition, &bad, &[4], 0), Refusal::Edition);
+    }
+    for edition in [1, 2] {
+        assert_eq!(refused(&S, edition, &bad, &[4], 0), Refusal::Sizes);
+        for cut in 1..6 {
+            let cut = &good[..cut];
+            assert_eq!(refused(&S, edition, cut, &[4], 0), Refusal::Sizes);
+        }
+        let odd = [&good[..], &[0]].concat();
+        assert_eq!(refused(&S, edition, &odd, &[4], 0), Refusal::Sizes);
+        assert_eq!(refused(&S, edition, &good, &[4], 19), Refusal::OutputShort);
+        assert_eq!(refused(&S, edition, &good, &[4], 22), Refusal::Decision);
     }
 }
 

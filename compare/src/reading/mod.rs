@@ -14,10 +14,12 @@ pub mod groups;
 pub mod host;
 pub mod join;
 pub mod kinds;
+pub mod leaf;
 pub mod program;
 pub mod reasons;
 pub mod record;
 pub mod shades;
+pub mod sizes;
 pub mod turn;
 
 #[cfg(test)]
@@ -50,6 +52,7 @@ pub enum Refusal {
     TooWide = 19,
     Tail = 20,
     Unfinished = 21,
+    Sizes = 22,
 }
 
 impl Refusal {

@@ -1,10 +1,12 @@
-//! "Reasons": the first of 1 to 4 that applies.
+//! "Reasons": the first of 1 to 4 that applies, and after them those of document 02 §12.
 
 use super::board::{Board, Cell};
 use super::grid::Size;
 use super::groups::{blocks, pairs, potential_groups, some_shift_lies_in, Groups, Pair};
 use super::kinds::Kinds;
+use super::leaf::Leaf;
 use super::record::Puzzle;
+use super::sizes::Range;
 use super::{Edition, Literal, Refusal};
 
 #[derive(Clone, Copy, Debug, PartialEq, Eq)]
@@ -14,6 +16,10 @@ pub enum Which {
     Three,
     FourA,
     FourB,
+    /// The reach of a sized cell's block is smaller than the lowest.
+    FiveLow,
+    /// A sized cell's block is larger than the highest.
+    FiveHigh,
 }
 
 #[derive(Clone, Debug, PartialEq, Eq)]
@@ -37,13 +43,14 @@ pub fn find(board: &mut Board, player: u8, buffer: usize) -> Result<Option<Reaso
         return Err(Refusal::OutputShort);
     }
     board.count_hint(player);
-    Ok(find_reason(board.puzzle(), board.edition(), &board.cells()))
+    Ok(find_reason(board.leaf(), &board.cells()))
 }
 
-pub fn find_reason(puzzle: &Puzzle, edition: Edition, cells: &[Cell]) -> Option<Reason> {
+pub fn find_reason(leaf: &Leaf, cells: &[Cell]) -> Option<Reason> {
+    let puzzle = &leaf.puzzle;
     reason_1(puzzle, cells)
         .or_else(|| reason_2(puzzle, cells))
-        .or_else(|| reason_3_or_4(puzzle, edition, cells))
+        .or_else(|| reason_3_to_5(leaf, cells))
 }
 
 /// A potential group with a square and no arrow cell.
@@ -109,19 +116,26 @@ fn path(size: Size, blocks: &Groups, a: usize, b: usize) -> Vec<usize> {
     path
 }
 
-/// 4 only when no pair on any arrow meets 3.
-fn reason_3_or_4(puzzle: &Puzzle, edition: Edition, cells: &[Cell]) -> Option<Reason> {
+/// 4 only when no pair on any arrow meets 3, and 5 only when none meets 4.
+fn reason_3_to_5(leaf: &Leaf, cells: &[Cell]) -> Option<Reason> {
+    let puzzle = &leaf.puzzle;
     let view = View {
         size: puzzle.size,
         cells,
         kinds: Kinds::of(puzzle, cells),
     };
     let pairs = pairs(puzzle, cells);
-    let reason_3 = pairs.iter().find_map(|pair| view.reason_3(pair));
-    reason_3.or_else(|| pairs.iter().find_map(|pair| view.reason_4(edition, pair)))
+    let reason_3 = || pairs.iter().find_map(|pair| view.reason_3(pair));
+    let reason_4 = || {
+        let of_pair = |pair| view.reason_4(leaf.edition, pair);
+        pairs.iter().find_map(of_pair)
+    };
+    reason_3()
+        .or_else(reason_4)
+        .or_else(|| view.reason_5(&leaf.sizes))
 }
 
-/// A board as reasons 3 and 4 look at it. Blocks are spoken of by an arrow cell in them.
+/// A board as reasons 3 to 5 look at it. Blocks are spoken of by an arrow cell in them.
 struct View<'a> {
     size: Size,
     cells: &'a [Cell],
@@ -162,6 +176,33 @@ impl View<'_> {
         let last_reach = count(&self.reach(pair.last_cell()));
         if last_reach + 1 + self.most_between(pair) < self.block(pair.cur_cell()).len() {
             return Some(self.cur_is_too_large(pair));
+        }
+        None
+    }
+
+    /// The sized cells that are square, by index: the reach of the cell's block is smaller than the
+    /// lowest; otherwise the block is larger than the highest.
+    fn reason_5(&self, sizes: &[Range]) -> Option<Reason> {
+        for cell in 0..self.size.cells() {
+            for range in sizes.iter().filter(|range| range.cell == cell) {
+                if self.cells[cell] != Cell::Square {
+                    continue;
+                }
+                if count(&self.reach(cell)) < range.lowest {
+                    let mut literals = vec![(cell, 1)];
+                    literals.extend(self.fence(cell));
+                    return Some(Reason {
+                        which: Which::FiveLow,
+                        literals,
+                    });
+                }
+                if self.block(cell).len() > range.highest {
+                    return Some(Reason {
+                        which: Which::FiveHigh,
+                        literals: squares(&self.block(cell)),
+                    });
+                }
+            }
         }
         None
     }

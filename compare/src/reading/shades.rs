@@ -36,7 +36,7 @@ pub fn opened_and_shaded(
     decisions: &[u8],
     output_length: usize,
 ) -> Result<Vec<u8>, Refusal> {
-    let mut board = Board::open(record, 1)?;
+    let mut board = Board::open(record, 1, &[])?;
     let size = board.puzzle().size;
     if output_length < 4 * size.cells() {
         return Err(Refusal::OutputShort);

@@ -17,19 +17,25 @@ use Rattle.grid.proofs.AppendLaws.{eqb-sym}
 use Rattle.grid.proofs.ArrayLaws.{array-length, array-take, array-in}
 use Rattle.grid.proofs.GridLaws.{size-most}
 use Rattle.record.specs.Valid.{Fresh}
-use Rattle.record.specs.Leaf.{Leaf, inEdition, isEdition}
+use Rattle.record.specs.Leaf.{Leaf, isEdition}
 use Rattle.record.specs.Problem.{problemOf, puzzleOf, gridOf}
 use Rattle.record.proofs.FreshLaws.{fresh-length}
 use Rattle.record.proofs.LeafLaws.{ValidLeaf}
+use Rattle.record.proofs.LineLaws.{valid-arrows}
+use Rattle.record.proofs.ProblemLaws.{problem-puzzle}
 use Rattle.record.proofs.RecordLaws.{valid-size}
 use Rattle.form.specs.Form.{long, behind, fresh, problemFormed, shown, stated, ordered}
 use Rattle.form.proofs.ArrayTests.{behind-kept, kept-behind, fresh-is, is-fresh}
-use Rattle.form.proofs.ProblemForm.{Formed, formed-is, is-formed, formed-again, valid-formed}
+use Rattle.form.proofs.ProblemForm.{Formed, formed-is, is-formed, formed-valid, formed-again, valid-formed}
+use Rattle.sizes.specs.Kept.{lowestOf, highestOf}
+use Rattle.sizes.specs.Form.{SizeArrays}
+use Rattle.sizes.proofs.KeptLaws.{kept-sizes}
+use Rattle.sizes.proofs.FormLaws.{sizes-is, is-sizes, arrays-good, lowest-back, highest-back, good-arrays}
 use Rattle.board.specs.declared.Board.{Board}
 use Rattle.grid.specs.Cells.{Literal}
 use Rattle.board.specs.Board.{valueAt, cellsAfter, decided}
-use Rattle.board.specs.Kept.{boardOf}
-use Rattle.board.specs.Form.{Counts, countsFormed, wellFormed}
+use Rattle.board.specs.Kept.{boardOf, sizesOn, leafOn}
+use Rattle.board.specs.Form.{Counts, countsFormed, sizesGood, wellFormed}
 use Rattle.board.proofs.HintLaws.{counts-is, is-counts}
 use Rattle.board.proofs.Standing.{Standing, none, more, index, standing-low, standing-distinct, cell-value, cells-length}
 
@@ -131,6 +137,7 @@ pub record Whole (b : Board) : Type 0 where
   pub order-long : length (b .order) ≡ 1024
   pub counts : Counts (b .hints)
   pub edition : isEdition (b .edition) ≡ true
+  pub sizes : SizeArrays (puzzleOf (b .problem) .arrows) (b .lowest) (b .highest)
   pub few : b .decided ≤ 1024
   pub once : fresh (size (gridOf (b .problem))) [] (listed b) ≡ true
   pub zeros : behind 0 (b .decided) (b .order) ≡ true
@@ -138,12 +145,13 @@ pub record Whole (b : Board) : Type 0 where
   pub twos : behind 2 (size (gridOf (b .problem))) (b .cells) ≡ true
 
 pub whole-is : (b : Board) → wellFormed b ≡ true → Whole b
-unfolding wellFormed long ordered stated
+unfolding wellFormed sizesGood long ordered stated
 whole-is b h =
     let n : ℕ = size (gridOf (b .problem)) in
-    let a = and-true (problemFormed (b .problem) && (long (b .cells) && long (b .order) && countsFormed (b .hints) && isEdition (b .edition))) (ordered n (b .decided) (b .order) && stated n (listed b) (b .cells)) h in
-    let c = and-true (problemFormed (b .problem)) (long (b .cells) && long (b .order) && countsFormed (b .hints) && isEdition (b .edition)) (a .0) in
-    let v = and-true (long (b .cells) && long (b .order) && countsFormed (b .hints)) (isEdition (b .edition)) (c .1) in
+    let a = and-true (problemFormed (b .problem) && (long (b .cells) && long (b .order) && countsFormed (b .hints) && isEdition (b .edition) && sizesGood b)) (ordered n (b .decided) (b .order) && stated n (listed b) (b .cells)) h in
+    let c = and-true (problemFormed (b .problem)) (long (b .cells) && long (b .order) && countsFormed (b .hints) && isEdition (b .edition) && sizesGood b) (a .0) in
+    let z = and-true (long (b .cells) && long (b .order) && countsFormed (b .hints) && isEdition (b .edition)) (sizesGood b) (c .1) in
+    let v = and-true (long (b .cells) && long (b .order) && countsFormed (b .hints)) (isEdition (b .edition)) (z .0) in
     let l = and-true (long (b .cells) && long (b .order)) (countsFormed (b .hints)) (v .0) in
     let d = and-true (long (b .cells)) (long (b .order)) (l .0) in
     let e = and-true (ordered n (b .decided) (b .order)) (stated n (listed b) (b .cells)) (a .1) in
@@ -156,6 +164,7 @@ whole-is b h =
       order-long = eqb-true (length (b .order)) 1024 (d .1);
       counts = counts-is (b .hints) (l .1);
       edition = v .1;
+      sizes = sizes-is (puzzleOf (b .problem) .arrows) (b .lowest) (b .highest) (z .1);
       few = leb-true (b .decided) 1024 (k .0);
       once = k .1;
       zeros = f .1;
@@ -164,11 +173,12 @@ whole-is b h =
     }
 
 pub is-whole : (b : Board) → Whole b → wellFormed b ≡ true
-unfolding wellFormed long ordered stated
+unfolding wellFormed sizesGood long ordered stated
 is-whole b w =
     true-and
     (true-and (is-formed (b .problem) (w .problem))
-    (true-and (true-and (true-and (eq-eqb (length (b .cells)) 1024 (w .cells-long)) (eq-eqb (length (b .order)) 1024 (w .order-long))) (is-counts (b .hints) (w .counts))) (w .edition)))
+    (true-and (true-and (true-and (true-and (eq-eqb (length (b .cells)) 1024 (w .cells-long)) (eq-eqb (length (b .order)) 1024 (w .order-long))) (is-counts (b .hints) (w .counts))) (w .edition))
+    (is-sizes (puzzleOf (b .problem) .arrows) (b .lowest) (b .highest) (w .sizes))))
     (true-and (true-and (true-and (le-leb (b .decided) 1024 (w .few)) (w .once)) (w .zeros)) (true-and (w .states) (w .twos)))
 
 -- the decisions that a board lists, with the values of their cells
@@ -230,15 +240,33 @@ module _ (b : Board) (w : Whole b) where
       sym (length-map (decisionsOf b) index) ∙ ap length (valued-index (λ i. getD (b .cells) i 0) (listed b))
       ∙ length-take-le (b .decided) (b .order) (omega (arith, w .few, w .order-long))
 
-  -- it is the board of its puzzle, its edition, its decisions and its counts
-  pub whole-again : boardOf (inEdition (b .edition) (puzzleOf (b .problem))) (decisionsOf b) (b .hints) ≡ b
-  unfolding boardOf puzzleOf g
+  -- its leaf is one that is accepted
+  pub whole-leaf : ValidLeaf (leafOn b)
+  unfolding leafOn sizesOn g
+  whole-leaf = record {
+    puzzle = formed-valid (b .problem) (w .problem);
+    edition = w .edition;
+    sizes = arrays-good (puzzleOf (b .problem)) (b .lowest) (b .highest) (w .sizes) (size g) most;
+  }
+
+  -- its arrays of sizes are those of the sizes that it keeps
+  sizes-again : (lowestOf (sizesOn b) ≡ b .lowest) × (highestOf (sizesOn b) ≡ b .highest)
+  unfolding sizesOn g
+  sizes-again =
+      let p = puzzleOf (b .problem) in
+      let v = valid-arrows p (formed-valid (b .problem) (w .problem)) in
+      let over : size (p .grid) ≤ size g = unfold puzzleOf in omega arith in
+      (lowest-back p (b .lowest) (b .highest) (w .sizes) v (size g) over, highest-back p (b .lowest) (b .highest) (w .sizes) v (size g) over)
+
+  -- it is the board of its leaf, its decisions and its counts
+  pub whole-again : boardOf (leafOn b) (decisionsOf b) (b .hints) ≡ b
+  unfolding boardOf leafOn puzzleOf g
   whole-again =
       let c : arrayOf 2 (cellsAfter (gridOf (b .problem)) (decisionsOf b)) ≡ b .cells = ap (arrayOf 2) cells-are ∙ behind-kept 2 (size g) (b .cells) (w .cells-long) most (w .twos) in
       let e : map index (decisionsOf b) ≡ listed b = unfold decisionsOf in valued-index (λ i. getD (b .cells) i 0) (listed b) in
       let o : arrayOf 0 (map index (decisionsOf b)) ≡ b .order = ap (arrayOf 0) e ∙ behind-kept 0 (b .decided) (b .order) (w .order-long) (w .few) (w .zeros) in
       let q : problemOf (puzzleOf (b .problem)) ≡ b .problem = formed-again (b .problem) (w .problem) in
-      rw (q, c, o, whole-length) refl
+      rw (q, c, o, whole-length, sizes-again .0, sizes-again .1) refl
 
   -- an undecided cell leaves room for one more decision
   pub whole-room : (i : ℕ) → i < size (gridOf (b .problem)) → getD (b .cells) i 0 ≡ 2 → b .decided < 1024
@@ -280,6 +308,10 @@ module _ (l : Leaf) (v : ValidLeaf l) {ds : List Literal} (s : Standing (l .puzz
       go true e = le-leb (valueAt ds i) 1 (value-listed ds i (λ d m. standing-low s d m .1) e)
       go false e = eq-eqb (valueAt ds i) 2 (value-free ds i e)
 
+  -- its arrays of sizes keep sizes that may stand
+  kept : SizeArrays (puzzleOf (problemOf (l .puzzle)) .arrows) (lowestOf (l .sizes)) (highestOf (l .sizes))
+  kept = rw (problem-puzzle (l .puzzle) (v .puzzle)) (good-arrays (l .puzzle) (l .sizes) (v .sizes))
+
   -- the board of an accepted leaf with standing decisions passes the test, with any counts
   pub standing-whole : {ns : List ℕ} → Counts ns → Whole (boardOf l ds ns)
   unfolding boardOf problemOf gridOf
@@ -292,9 +324,20 @@ module _ (l : Leaf) (v : ValidLeaf l) {ds : List Literal} (s : Standing (l .puzz
         order-long = array-length 0 (map index ds) (omega (arith, length-map ds index));
         counts = counts;
         edition = v .edition;
+        sizes = kept;
         few = n;
         once = rw order-taken (is-fresh (size (l .puzzle .grid)) (f .0) (f .1));
         zeros = kept-behind 0 (length ds) (map index ds) (length-map ds index);
         states = rw order-taken (mem-all (shown (map index ds) (arrayOf 2 (cellsAfter (l .puzzle .grid) ds))) (upto (size (l .puzzle .grid))) (λ i m. shows i (upto-mem (size (l .puzzle .grid)) m)));
         twos = kept-behind 2 (size (l .puzzle .grid)) (cellsAfter (l .puzzle .grid) ds) (cells-length (l .puzzle .grid) ds);
       }
+
+-- the board of an accepted leaf keeps the leaf
+module _ (l : Leaf) (v : ValidLeaf l) (ds : List Literal) (ns : List ℕ) where
+  pub board-sizes : sizesOn (boardOf l ds ns) ≡ l .sizes
+  unfolding sizesOn boardOf problemOf gridOf
+  board-sizes = kept-sizes (l .puzzle) (valid-arrows (l .puzzle) (v .puzzle)) (l .sizes) (v .sizes) (size (l .puzzle .grid)) (omega arith) (valid-size (v .puzzle))
+
+  pub board-leaf : leafOn (boardOf l ds ns) ≡ l
+  unfolding leafOn boardOf
+  board-leaf = rw (problem-puzzle (l .puzzle) (v .puzzle), board-sizes) refl

@@ -18,19 +18,21 @@ use Rattle.grid.proofs.ListLaws.{dec-so, so-false}
 use Rattle.grid.proofs.ArrayLaws.{array-set, array-more, array-less, array-in}
 use Rattle.grid.proofs.AppendLaws.{init-more}
 use Rattle.record.specs.Record.{Puzzle, Outcome, ok, refused}
-use Rattle.record.specs.Leaf.{Leaf, inEdition, leafOf}
+use Rattle.record.specs.Leaf.{Leaf, leafOf}
+use Rattle.record.specs.Sizes.{numbersOf, Words}
 use Rattle.record.specs.Write.{writeRecord}
 use Rattle.record.specs.Problem.{problemOf, puzzleOf, gridOf, numberOf, blank}
 use Rattle.record.specs.declared.Answer.the-variants.{Done}
 use Rattle.record.proofs.RecordLaws.{valid-size}
 use Rattle.record.proofs.LeafLaws.{ValidLeaf, leaf-ok, ok-leaf, leaf-valid}
+use Rattle.record.proofs.SizesLaws.{good-read}
 use Rattle.record.proofs.WriteLaws.{round-trip, written-bytes}
 use Rattle.form.specs.Form.{problemFormed, goodSize}
-use Rattle.form.proofs.ProblemForm.{formed-valid}
+use Rattle.sizes.proofs.FormLaws.{kept-words}
 use Rattle.board.specs.declared.Board.{Board}
 use Rattle.grid.specs.Cells.{Literal}
 use Rattle.board.specs.Board.{valueAt, cellsAfter, Call, decide, undo, find, decided, after, refusal, afterAll, SameCells, SameDecisions, enough, asks, howOften}
-use Rattle.board.specs.Kept.{noHints, boardOf, opening, openOf, blankBoard}
+use Rattle.board.specs.Kept.{noHints, boardOf, sizesOn, leafOn, opening, openOf, blankBoard}
 use Rattle.board.specs.Form.{Counts, wellFormed}
 use Rattle.board.specs.Decide.{area, decideRefusal, undoRefusal, placed, removed, answered, decideOf, undoOf}
 use Rattle.board.specs.Hints.{countOf, withHints, hinted, findRefusal, hintedBy, afterFind}
@@ -38,7 +40,7 @@ use Rattle.board.specs.Calls.{left, leftAll, Leaves, standing, countAfte
 use Rattle.board.proofs.HintLaws.{each-at, each-is, each-counts, no-hints, counted, counted-counts, counted-find, counted-none, asks-not, countedAll, count-none, count-cons, count-fresh, often-append, calls-append, asking, asking-often, asking-same}
 use Rattle.board.proofs.CountLaws.{others-keep}
 use Rattle.board.proofs.Standing.{Standing, none, more, index, after-standing, standing-low, cell-value, cells-length, calls-standing, standing-calls, same-board}
-use Rattle.board.proofs.BoardForm.{whole-is, is-whole, decisionsOf, whole-standing, whole-again, standing-whole, standing-length, cell-shown, value-listed, value-free}
+use Rattle.board.proofs.BoardForm.{Whole, whole-is, is-whole, decisionsOf, whole-standing, whole-leaf, whole-again, whole-most, standing-whole, board-sizes, standing-length, cell-shown, value-listed, value-free}
 
 -- ---- one more decision, and one less
 
@@ -218,34 +220,48 @@ outcome (refused k) e = let z : _≡_ {A = ℕ} 0 1 = cc in absurd (omega arith)
 outcome (ok l) e = (l, refl)
 
 -- an accepted leaf opens a fresh board
-open-done : (s : List ℕ) (e : ℕ) (l : Leaf) → leafOf s e ≡ ok l → openOf s e .answer ≡ Done
+open-done : (s : List ℕ) (e : ℕ) (ns : List ℕ) (l : Leaf) → leafOf s e ns ≡ ok l → openOf s e ns .answer ≡ Done
 unfolding openOf opening
-open-done s e l k = rw k refl
+open-done s e ns l k = rw k refl
 
-open-fresh : (s : List ℕ) (e : ℕ) (l : Leaf) → leafOf s e ≡ ok l → openOf s e .board ≡ boardOf l [] noHints
+open-fresh : (s : List ℕ) (e : ℕ) (ns : List ℕ) (l : Leaf) → leafOf s e ns ≡ ok l → openOf s e ns .board ≡ boardOf l [] noHints
 unfolding openOf opening
-open-fresh s e l k = rw k refl
+open-fresh s e ns l k = rw k refl
 
 -- a list of calls on the board of an accepted leaf leaves the board of the decisions that the machine keeps and of the accepted finds
-pub opened-left : (s : List ℕ) (e : ℕ) (l : Leaf) → leafOf s e ≡ ok l → (cs : List Call)
-    → leftAll (openOf s e .board) cs ≡ boardOf l (standing (l .puzzle) cs) (hintsAfter (l .puzzle) cs)
-opened-left s e l k cs =
-    rw (open-fresh s e l k) (calls-left l (leaf-valid s e k) cs no-hints none) ∙ ap (boardOf l (standing (l .puzzle) cs)) (count-fresh (l .puzzle .grid) cs)
+pub opened-left : (s : List ℕ) (e : ℕ) (ns : List ℕ) (l : Leaf) → leafOf s e ns ≡ ok l → (cs : List Call)
+    → leftAll (openOf s e ns .board) cs ≡ boardOf l (standing (l .puzzle) cs) (hintsAfter (l .puzzle) cs)
+opened-left s e ns l k cs =
+    rw (open-fresh s e ns l k) (calls-left l (leaf-valid s e ns k) cs no-hints none) ∙ ap (boardOf l (standing (l .puzzle) cs)) (count-fresh (l .puzzle .grid) cs)
 
 -- its counts are those that a board can have
 pub after-low : (p : Puzzle) (cs : List Call) → Counts (hintsAfter p cs)
 after-low p cs = each-counts (countAfter p cs) (λ q. min-le-right (howOften (p .grid) q cs) 65535)
 
--- refusal 6 is exact: a board passes the test exactly when some accepted record, some edition and some list of calls leave it
+-- the leaf of a board that passes the test is accepted, and its sizes are 16-bit numbers where the board's are
+whole-opens : (b : Board) → Whole b → leafOf (writeRecord (puzzleOf (b .problem))) (b .edition) (numbersOf (sizesOn b)) ≡ ok (leafOn b)
+unfolding leafOn
+whole-opens b w =
+    let p : Puzzle = puzzleOf (b .problem) in
+    let v = whole-leaf b w in
+    ok-leaf (writeRecord p) (b .edition) (numbersOf (sizesOn b)) p (sizesOn b) (round-trip p (v .puzzle)) (w .edition) (good-read p (sizesOn b) (v .sizes))
+
+whole-words : (b : Board) → Whole b → Words (b .highest) → Words (numbersOf (sizesOn b))
+unfolding sizesOn
+whole-words b w = kept-words (puzzleOf (b .problem)) (b .lowest) (b .highest) (w .sizes) (size (gridOf (b .problem))) (whole-most b w)
+
+-- refusal 6 is exact: a board passes the test exactly when some accepted record, some edition, some sizes and some list of calls leave it
 pub well-formed-exact : (b : Board) → (wellFormed b ≡ true) ↔ Leaves b
+unfolding leafOn
 well-formed-exact b = (forth, back)
   where
     forth : wellFormed b ≡ true → Leaves b
     forth h =
         let w = whole-is b h in
         let p : Puzzle = puzzleOf (b .problem) in
-        let l : Leaf = inEdition (b .edition) p in
-        let o : leafOf (writeRecord p) (b .edition) ≡ ok l = ok-leaf (writeRecord p) (b .edition) p (round-trip p (formed-valid (b .problem) (w .problem))) (w .edition) in
+        let l : Leaf = leafOn b in
+        let ns : List ℕ = numbersOf (sizesOn b) in
+        let o : leafOf (writeRecord p) (b .edition) ns ≡ ok l = whole-opens b w in
         let s : Standing (p .grid) (decisionsOf b) = unfold puzzleOf in whole-standing b w in
         let r = standing-calls (p .grid) s in
         let asked : List Call = asking (p .grid) 0 (b .hints) in
@@ -259,18 +275,20 @@ well-formed-exact b = (forth, back)
           bytes = writeRecord p;
           low = written-bytes p;
           edition = b .edition;
+          sizes = ns;
+          words = whole-words b w;
           calls = cs;
-          accepted = open-done (writeRecord p) (b .edition) l o;
-          leaves = opened-left (writeRecord p) (b .edition) l o cs ∙ ap₂ (boardOf l) stands count ∙ whole-again b w;
+          accepted = open-done (writeRecord p) (b .edition) ns l o;
+          leaves = opened-left (writeRecord p) (b .edition) ns l o cs ∙ ap₂ (boardOf l) stands count ∙ whole-again b w;
         }
 
     back : Leaves b → wellFormed b ≡ true
     back k =
-        let r = outcome (leafOf (k .bytes) (k .edition)) (unfold openOf in k .accepted) in
+        let r = outcome (leafOf (k .bytes) (k .edition) (k .sizes)) (unfold openOf in k .accepted) in
         let l = r .0 in
         let p : Puzzle = l .puzzle in
-        let e : boardOf l (standing p (k .calls)) (hintsAfter p (k .calls)) ≡ b = sym (opened-left (k .bytes) (k .edition) l (r .1) (k .calls)) ∙ k .leaves in
-        rw (← e) (standing-well l (leaf-valid (k .bytes) (k .edition) (r .1)) (after-low p (k .calls)) (calls-standing (p .grid) (k .calls)))
+        let e : boardOf l (standing p (k .calls)) (hintsAfter p (k .calls)) ≡ b = sym (opened-left (k .bytes) (k .edition) (k .sizes) l (r .1) (k .calls)) ∙ k .leaves in
+        rw (← e) (standing-well l (leaf-valid (k .bytes) (k .edition) (k .sizes) (r .1)) (after-low p (k .calls)) (calls-standing (p .grid) (k .calls)))
 
 -- the number of an answer
 pub number-answered : (k : ℕ) (b next : Board) → numberOf (answered k b next .answer) ≡ k
@@ -289,12 +307,12 @@ same-shown l v ms ns {cs} {ds} s t =
     )
 
 -- what holds after any two lists of calls, refused calls included
-pub after-calls : (s : List ℕ) (e : ℕ) (l : Leaf) → leafOf s e ≡ ok l → (cs ds : List Call) → AfterCalls s e l cs ds
-after-calls s e l k cs ds =
+pub after-calls : (s : List ℕ) (e : ℕ) (ns : List ℕ) (l : Leaf) → leafOf s e ns ≡ ok l → (cs ds : List Call) → AfterCalls s e ns l cs ds
+after-calls s e ns l k cs ds =
     let p : Puzzle = l .puzzle in
-    let v : ValidLeaf l = leaf-valid s e k in
-    let a = opened-left s e l k cs in
-    let b = opened-left s e l k ds in
+    let v : ValidLeaf l = leaf-valid s e ns k in
+    let a = opened-left s e ns l k cs in
+    let b = opened-left s e ns l k ds in
     let f = calls-standing (p .grid) cs in
     let h = calls-standing (p .grid) ds in
     let low = after-low p cs in
@@ -302,8 +320,9 @@ after-calls s e l k cs ds =
     record {
       board = a;
       count = λ q m. ap (λ (b : Board). countOf b q) a ∙ unfold boardOf in each-at (countAfter p cs) q m;
-      others = others-keep (leftAll (openOf s e .board) cs);
-      edition = ap (λ (b : Board). b .edition) a ∙ unfold boardOf in ap (λ (x : Leaf). x .edition) (sym (leaf-ok s e k .3));
+      others = others-keep (leftAll (openOf s e ns .board) cs);
+      edition = ap (λ (b : Board). b .edition) a ∙ unfold boardOf in leaf-ok s e ns k .edition;
+      sizes = ap sizesOn a ∙ board-sizes l v (standing p cs) (hintsAfter p cs);
       decides = λ i x. rw a (unfold decideOf in number-answered (decideRefusal z i x) z (placed z i x) ∙ decide-number l v low f i x);
       undoes = rw a (unfold undoOf in number-answered (undoRefusal z) z (removed z) ∙ undo-number l v low f);
       finds = λ q k. rw a (find-number l v low f q k);

@@ -1,5 +1,5 @@
 -- The counts of hints on any board: an accepted find raises that of its player and changes nothing else, no other call changes it, and any counts are well formed.
--- No call changes the edition.
+-- No call changes the edition or the sizes.
 -- Assumes nothing.
 use Prim.Native.Nat.{ℕ, zero, suc, _*_, _+_, _/_, _%_, _≤_, _<_}
 use native.Mathlib.Omega.{arith}
@@ -16,7 +16,8 @@ use Rattle.record.specs.declared.Answer.{Answer}
 use Rattle.record.specs.declared.Answer.the-variants.{Done, Refused}
 use Rattle.board.specs.declared.Board.{Board}
 use Rattle.board.specs.declared.Decided.{Decided}
-use Rattle.board.specs.Form.{Counts, wellFormed}
+use Rattle.board.specs.Kept.{sizesOn}
+use Rattle.board.specs.Form.{Counts, sizesGood, wellFormed}
 use Rattle.board.specs.Decide.{withDecisions, decideRefusal, undoRefusal, placed, removed, answered, decideOf, undoOf, refusedWith, onward, placedFrom, decideAllOf}
 use Rattle.board.specs.Board.{decide, undo, find, enough}
 use Rattle.board.specs.Hints.{raised, countOf, withHints, hinted, findRefusal, hintedBy, afterFind}
@@ -129,6 +130,22 @@ all-edition = all-same (λ b. b .edition) (λ b cells order n. refl)
 pub find-edition : (b : Board) (q k : ℕ) → afterFind b q k .edition ≡ b .edition
 find-edition b q k = ap (λ (x : Board). x .edition) (find-only-count b q k) ∙ unfold withHints in refl
 
+-- the sizes likewise
+pub decide-sizes : (b : Board) (i v : ℕ) → sizesOn (decideOf b i v .board) ≡ sizesOn b
+unfolding sizesOn
+decide-sizes = decide-same sizesOn (λ b cells order n. refl)
+
+pub undo-sizes : (b : Board) → sizesOn (undoOf b .board) ≡ sizesOn b
+unfolding sizesOn
+undo-sizes = undo-same sizesOn (λ b cells order n. refl)
+
+pub all-sizes : (b : Board) (bytes : List ℕ) → sizesOn (decideAllOf b bytes .board) ≡ sizesOn b
+unfolding sizesOn
+all-sizes = all-same sizesOn (λ b cells order n. refl)
+
+pub find-sizes : (b : Board) (q k : ℕ) → sizesOn (afterFind b q k) ≡ sizesOn b
+find-sizes b q k = ap sizesOn (find-only-count b q k) ∙ unfold sizesOn withHints in refl
+
 -- no call but a find of player q changes the count of player q
 pub others-keep : (b : Board) → OthersKeep b
 unfolding left
@@ -138,5 +155,5 @@ others-keep b (find r k) q n = find-others b r k q (λ e. n k (ap (λ (x : ℕ).
 
 -- no counts from 0 to 65,535 make a board ill formed
 pub any-counts : (b : Board) (ns : List ℕ) → Counts (b .hints) → Counts ns → wellFormed (withHints b ns) ≡ wellFormed b
-unfolding wellFormed withHints
+unfolding wellFormed sizesGood withHints
 any-counts b ns h k = rw (is-counts (b .hints) h, is-counts ns k) refl

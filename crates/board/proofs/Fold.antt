@@ -10,20 +10,20 @@ use lib.ListN.{length, getD, drop, drop-of-length-le}
 use lib.Seq.{drop-cons}
 use borrow.Author.Tests.{eq-eqb, ne-eqb}
 use Rattle.grid.specs.Grid.{size}
-use Rattle.record.specs.Leaf.{Leaf, inEdition}
+use Rattle.record.specs.Leaf.{Leaf}
 use Rattle.record.specs.Problem.{puzzleOf, gridOf}
 use Rattle.record.specs.declared.Answer.{Answer}
 use Rattle.record.specs.declared.Answer.the-variants.{Done, Refused}
 use Rattle.record.proofs.LeafLaws.{ValidLeaf}
-use Rattle.form.proofs.ProblemForm.{formed-valid}
 use Rattle.board.specs.declared.Board.{Board}
 use Rattle.board.specs.declared.Decided.{Decided}
 use Rattle.board.specs.Board.{decide}
+use Rattle.board.specs.Kept.{leafOn}
 use Rattle.board.specs.Form.{wellFormed}
 use Rattle.board.specs.Decide.{area, withDecisions, placed, decideOf, refusedWith, onward, decideAllOf, placedFrom, allPlaced}
 use Rattle.board.specs.Inside.{Placing, bits, off, twice, put}
 use Rattle.board.proofs.Standing.{Standing, after-standing}
-use Rattle.board.proofs.BoardForm.{whole-is, decisionsOf, whole-standing, whole-again}
+use Rattle.board.proofs.BoardForm.{whole-is, decisionsOf, whole-standing, whole-leaf, whole-again}
 use Rattle.board.proofs.CallLaws.{standing-well, decide-left}
 use Rattle.board.proofs.Answers.{decide-7, decide-9, decide-done}
 
@@ -31,9 +31,9 @@ use Rattle.board.proofs.Answers.{decide-7, decide-9, decide-done}
 pub decide-well : (b : Board) → wellFormed b ≡ true → (i v : ℕ) → wellFormed (decideOf b i v .board) ≡ true
 decide-well b h i v =
     let w = whole-is b h in
-    let l : Leaf = inEdition (b .edition) (puzzleOf (b .problem)) in
-    let ok : ValidLeaf l = record { puzzle = formed-valid (b .problem) (w .problem); edition = w .edition } in
-    let s : Standing (l .puzzle .grid) (decisionsOf b) = unfold puzzleOf in whole-standing b w in
+    let l : Leaf = leafOn b in
+    let ok : ValidLeaf l = whole-leaf b w in
+    let s : Standing (l .puzzle .grid) (decisionsOf b) = unfold leafOn puzzleOf in whole-standing b w in
     subst (λ (z : Board). wellFormed (decideOf z i v .board) ≡ true) (whole-again b w)
     (rw (decide-left l ok (w .counts) s i v) (standing-well l ok (w .counts) (after-standing (l .puzzle .grid) (decide i v) s)))
 

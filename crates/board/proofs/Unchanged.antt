@@ -58,9 +58,9 @@ unfolding decideAllOf
 all-unchanged b bytes = either-kept (wellFormed b) (placed-kept (placedFrom b bytes .answer) b (placedFrom b bytes) refl) (refused-kept 6 b)
 
 -- `open`: every later call on what stands beside a refusal is refused with 6
-pub no-board : (s : List ℕ) (e k : ℕ) → openOf s e .answer ≡ Refused k → wellFormed (openOf s e .board) ≡ false
+pub no-board : (s : List ℕ) (e : ℕ) (ns : List ℕ) (k : ℕ) → openOf s e ns .answer ≡ Refused k → wellFormed (openOf s e ns .board) ≡ false
 unfolding openOf opening
-no-board s e k = go (leafOf s e)
+no-board s e ns k = go (leafOf s e ns)
   where
     go : (o : Outcome Leaf) → opening o .answer ≡ Refused k → wellFormed (opening o .board) ≡ false
     go (refused m) h = blank-refused

@@ -25,9 +25,18 @@ decideRefusal b i v = cond (wellFormed b) (cond (ltb i (area b)) (cond (leb v 1)
 unfoldable pub undoRefusal : Board → ℕ
 undoRefusal b = cond (wellFormed b) (cond (eqb (b .decided) 0) 10 0) 6
 
--- the board with these decisions in place of its own: the puzzle, the edition and the hints taken stay
+-- the board with these decisions in place of its own: the puzzle, the edition, the sizes and the hints taken stay
 abbrev pub withDecisions : Board → List ℕ → List ℕ → ℕ → Board
-withDecisions b cells order n = record { problem = b .problem; edition = b .edition; cells = cells; order = order; decided = n; hints = b .hints }
+withDecisions b cells order n = record {
+  problem = b .problem;
+  edition = b .edition;
+  cells = cells;
+  order = order;
+  decided = n;
+  hints = b .hints;
+  lowest = b .lowest;
+  highest = b .highest;
+}
 
 -- the board with one more decision
 unfoldable pub placed : Board → ℕ → ℕ → Board

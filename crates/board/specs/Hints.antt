@@ -20,7 +20,16 @@ countOf b q = getD (b .hints) q 0
 
 -- the board with the counts ns in place of its own
 unfoldable pub withHints : Board → List ℕ → Board
-withHints b ns = record { problem = b .problem; edition = b .edition; cells = b .cells; order = b .order; decided = b .decided; hints = ns }
+withHints b ns = record {
+  problem = b .problem;
+  edition = b .edition;
+  cells = b .cells;
+  order = b .order;
+  decided = b .decided;
+  hints = ns;
+  lowest = b .lowest;
+  highest = b .highest;
+}
 
 -- the board with one more hint counted for player q, and for no other
 unfoldable pub hinted : Board → ℕ → Board

@@ -22,9 +22,9 @@ pub data Placing (n count word : ℕ) (cells order : List ℕ) : Answer → List
   twice : word % 32768 / 1024 ≡ 0 → word % 1024 < n → (getD cells (word % 1024) 0 ≡ 2 → ⊥) → Placing n count word cells order (Refused 9) cells order
   put : word % 32768 / 1024 ≡ 0 → word % 1024 < n → getD cells (word % 1024) 0 ≡ 2 → Placing n count word cells order Done (set cells (word % 1024) (word / 32768)) (set order count (word % 1024))
 
--- the board of a problem in an edition with nothing decided and no hint taken
-abbrev pub freshOf : Problem → ℕ → Board
-freshOf q e = record { problem = q; edition = e; cells = replicate 1024 2; order = replicate 1024 0; decided = 0; hints = noHints }
+-- the board of a problem in an edition with these sizes, nothing decided and no hint taken
+abbrev pub freshOf : Problem → ℕ → List ℕ → List ℕ → Board
+freshOf q e low high = record { problem = q; edition = e; cells = replicate 1024 2; order = replicate 1024 0; decided = 0; hints = noHints; lowest = low; highest = high }
 
 -- the arrays are those of a well-formed board of n cells
 pub record Held (n decided : ℕ) (cells order : List ℕ) : Type 0 where

@@ -1,5 +1,5 @@
-// A board: a problem in an edition, with its decided cells and a count of hints for each of four players. It is opened from a record; decide
-// adds a decision, undo removes the latest.
+// A board: a problem in an edition, with sizes beside some arrow cells, its decided cells and a count of hints for each of four players. It is
+// opened from a record; decide adds a decision, undo removes the latest.
 use record::Answer;
 use record::Problem;
 ghost use mathlib.Core.Path.{_≡_};
@@ -18,7 +18,7 @@ ghost use Rattle.board.specs.Inside.{Placing, freshOf, Held};
 
 // A problem with its decisions. `edition` is 1, or 2 for free growth; `cells` has the state of each cell (0 empty, 1 square, 2 undecided), with 2 behind the grid;
 // `order` has the decided cells in the order decided, `decided` of them, with 0 behind; `hints` counts for each player, 0 to 3, that
-// player's accepted finds since open, up to 65,535.
+// player's accepted finds since open, up to 65,535; `lowest` and `highest` have the ends of the range beside each cell, with 0 at a cell that has none.
 pub struct Board {
     pub problem: Problem,
     pub edition: u8,
@@ -26,6 +26,8 @@ pub struct Board {
     pub order: [u16; 1024],
     pub decided: usize,
     pub hints: [u16; 4],
+    pub lowest: [u16; 1024],
+    pub highest: [u16; 1024],
 }
 
 // The answer of `open`, with the board where it is Done, and a blank one of no cells where it is not.
@@ -139,9 +141,16 @@ fn no_hints() -> [u16; Board::PLAYERS]
     [0u16; Board::PLAYERS]
 }
 
-// A board of the problem with nothing decided and no hint taken.
-fn fresh(problem: Problem, edition: u8) -> Board
-    ensures { λ r. ⌜ r ≡ freshOf problem edition ⌝ }
+// The sizes of a leaf that has none.
+fn no_sizes() -> [u16; Board::CELLS]
+    ensures { λ r. ⌜ r ≡ replicate 1024 0 ⌝ }
+{
+    [0u16; Board::CELLS]
+}
+
+// A board of the problem with these sizes, nothing decided and no hint taken.
+fn fresh(problem: Problem, edition: u8, lowest: [u16; 1024], highest: [u16; 1024]) -> Board
+    ensures { λ r. ⌜ r ≡ freshOf problem edition lowest highest ⌝ }
 {
     Board {
         problem,
@@ -150,6 +159,8 @@ fn fresh(problem: Problem, edition: u8) -> Board
         order: no_order(),
         decided: 0,
         hints: no_hints(),
+        lowest,
+        highest,
     }
 }
 
@@ -160,7 +171,7 @@ fn not_opened(k: u8) -> Opened
     let blank = record::refusal(k);
     Opened {
         answer: Answer::Refused(k),
-        board: fresh(blank.problem, 1),
+        board: fresh(blank.problem, 1, no_sizes(), no_sizes()),
     }
 }
 
@@ -192,9 +203,10 @@ impl Board {
     // The most literals that a reason has.
     pub const LITERALS: usize = 3 * Board::CELLS + 1;
 
-    // The fresh board of a record in an edition. Refused: the record's first fault, 1 to 5, then 16 an edition that is not 1 or 2.
-    pub fn open(bytes: &[u8], edition: u8) -> Opened
-        ensures { λ r. ⌜ r ≡ openOf (now (bytes .entry)) edition ⌝ }
+    // The fresh board of a record in an edition with sizes: cell, lowest and highest for each, cells rising. Refused: the record's first fault, 1 to 5,
+    // then 16 an edition that is not 1 or 2, then 22 sizes that may not stand.
+    pub fn open(bytes: &[u8], edition: u8, sizes: &[u16]) -> Opened
+        ensures { λ r. ⌜ r ≡ openOf (now (bytes .entry)) edition (now (sizes .entry)) ⌝ }
     {
         let reading = record::read(bytes);
         let answer = reading.answer;
@@ -204,9 +216,22 @@ impl Board {
         if !is_edition(edition) {
             return not_opened(16);
         }
+        let mut lowest = no_sizes();
+        let mut highest = no_sizes();
+        let sized = sizes::read_sizes(
+            sizes,
+            &reading.problem.arrows,
+            &reading.problem.ends,
+            reading.problem.count,
+            &mut lowest,
+            &mut highest,
+        );
+        if let Answer::Refused(k) = sized {
+            return not_opened(k);
+        }
         Opened {
             answer,
-            board: fresh(reading.problem, edition),
+            board: fresh(reading.problem, edition, lowest, highest),
         }
     }
 
@@ -228,6 +253,16 @@ impl Board {
             return false;
         }
         if !is_edition(self.edition) {
+            return false;
+        }
+        let sized = sizes::good_sizes(
+            &self.problem.arrows,
+            &self.problem.ends,
+            count,
+            &self.lowest,
+            &self.highest,
+        );
+        if !sized {
             return false;
         }
         decisions::good_decisions(height * width, self.decided, &self.cells, &self.order)
@@ -321,6 +356,8 @@ impl Board {
         let mut cells = self.cells;
         let mut order = self.order;
         let hints = self.hints;
+        let lowest = self.lowest;
+        let highest = self.highest;
         let placed = place_all(
             &mut cells,
             &mut order,
@@ -339,6 +376,8 @@ impl Board {
                     order,
                     decided: placed.decided,
                     hints,
+                    lowest,
+                    highest,
                 },
             },
             Answer::Refused(_) => Decided {

@@ -22,7 +22,8 @@ use Rattle.record.specs.declared.Answer.{Answer}
 use Rattle.record.specs.declared.Answer.the-variants.{Done, Refused}
 use Rattle.record.proofs.ProblemLaws.{read-done, problem-puzzle}
 use Rattle.record.proofs.RecordLaws.{record-valid, valid-size}
-use Rattle.record.proofs.LeafLaws.{ValidLeaf}
+use Rattle.record.proofs.LeafLaws.{ValidLeaf, no-sizes}
+use Rattle.sizes.specs.Kept.{lowestOf, highestOf}
 use Rattle.form.proofs.ProblemForm.{Formed, valid-formed}
 use Rattle.board.specs.Board.{decide, after, refusal, cellsAfter}
 use Rattle.board.specs.Form.{wellFormed}
@@ -35,8 +36,9 @@ use Rattle.board.proofs.HintLaws.{no-hints}
 use Rattle.board.proofs.OpenLaws.{fresh-leaf}
 use Rattle.board.proofs.Standing.{Standing, none, after-standing, cells-valid}
 use Rattle.board.proofs.CallLaws.{standing-well, decide-number, decide-left}
-use Rattle.call.specs.Call.{acceptOr, decideBytes, hostCall}
+use Rattle.call.specs.Call.{acceptOr, decideBytes, callOn, hostCall, hostCallWith}
 use Rattle.call.specs.Inside.{Decides}
+use Rattle.call.proofs.Opened.{with-none}
 
 -- the board's answer to a list of decisions, by the machine's
 unfoldable pub decidedBy : Board → Leaf → Outcome (List Literal) → Decided
@@ -87,44 +89,44 @@ bytes-standing g (a ∷ b ∷ rest) {ds} {es} s e =
         accepted (refusal g (decide i x) ds) (decideBytes g (after g (decide i x) ds) rest)
         (next (after g (decide i x) ds) (after-standing g (decide i x) s)) q
 
--- ---- the fresh board of an accepted record
+-- ---- the fresh board of an accepted leaf
+
+module _ (l : Leaf) (v : ValidLeaf l) {b : Board} (fresh : b ≡ boardOf l [] noHints) where
+  -- the board is well formed
+  pub fresh-well : wellFormed b ≡ true
+  fresh-well = rw fresh (standing-well l v no-hints none)
+
+  -- the board's list of decisions answers as the machine does
+  pub all-decided : (decisions : List ℕ) → allPlaced b (placedFrom b decisions) ≡ decidedBy b l (decideBytes (l .puzzle .grid) [] decisions)
+  all-decided decisions = rw fresh (decided-bytes l v (boardOf l [] noHints) decisions none)
+
+  -- what placing all decisions answers, and the states that it leaves
+  module _ (decisions : List ℕ) (a : Answer) (cells order : List ℕ) (n : ℕ) (e : placedFrom b decisions ≡ record { answer = a; board = withDecisions b cells order n }) where
+    answered-as : {x : Answer} → a ≡ x → allPlaced b (record { answer = x; board = withDecisions b cells order n }) ≡ decidedBy b l (decideBytes (l .puzzle .grid) [] decisions)
+    answered-as f = sym (ap (λ (x : Answer). allPlaced b (record { answer = x; board = withDecisions b cells order n })) f) ∙ sym (ap (allPlaced b) e) ∙ all-decided decisions
+
+    pub decides : Decides (l .puzzle .grid) decisions a cells
+    unfolding onward decidedBy refusedWith boardOf
+    decides = record { done = λ f. accepted (decideBytes (l .puzzle .grid) [] decisions) refl (answered-as f); refusal = λ f. not-accepted (decideBytes (l .puzzle .grid) [] decisions) (answered-as f) }
+      where
+        accepted : (r : Outcome (List Literal)) → decideBytes (l .puzzle .grid) [] decisions ≡ r → _≡_ {A = Decided} (record { answer = Done; board = withDecisions b cells order n }) (decidedBy b l r)
+            → (ds : List Literal) × (decideBytes (l .puzzle .grid) [] decisions ≡ ok ds) × (cells ≡ arrayOf 2 (cellsAfter (l .puzzle .grid) ds))
+        accepted (refused m) q g = let a = ap (λ (d : Decided). d .answer) g in let z : _≡_ {A = ℕ} 0 1 = cc in absurd (omega arith)
+        accepted (ok ds) q g = (ds, q, ap (λ (d : Decided). d .board .cells) g)
+
+        not-accepted : {k : ℕ} (r : Outcome (List Literal)) → refusedWith k b ≡ decidedBy b l r → r ≡ refused k
+        not-accepted {k} (refused m) g = let a = ap (λ (d : Decided). d .answer) g in let z : m ≡ k = cc in ap refused z
+        not-accepted (ok ds) g = let a = ap (λ (d : Decided). d .answer) g in let z : _≡_ {A = ℕ} 0 1 = cc in absurd (omega arith)
 
 module _ (p : Puzzle) (v : Valid p) where
-  -- the leaf in edition 1 is an accepted one
+  -- the leaf in edition 1 without sizes is an accepted one
   pub first-leaf : ValidLeaf (inEdition 1 p)
   unfolding isEdition
-  first-leaf = record { puzzle = v; edition = refl }
+  first-leaf = record { puzzle = v; edition = refl; sizes = no-sizes p }
 
   -- its board, as the code keeps it
-  pub fresh-first : freshOf (problemOf p) 1 ≡ boardOf (inEdition 1 p) [] noHints
+  pub fresh-first : freshOf (problemOf p) 1 (lowestOf []) (highestOf []) ≡ boardOf (inEdition 1 p) [] noHints
   fresh-first = fresh-leaf (inEdition 1 p) (valid-size v)
-
-  module _ {b : Board} (fresh : b ≡ boardOf (inEdition 1 p) [] noHints) where
-    -- the board is well formed
-    pub fresh-well : wellFormed b ≡ true
-    fresh-well = rw fresh (standing-well (inEdition 1 p) first-leaf no-hints none)
-
-    -- the board's list of decisions answers as the machine does
-    pub all-decided : (decisions : List ℕ) → allPlaced b (placedFrom b decisions) ≡ decidedBy b (inEdition 1 p) (decideBytes (p .grid) [] decisions)
-    all-decided decisions = rw fresh (decided-bytes (inEdition 1 p) first-leaf (boardOf (inEdition 1 p) [] noHints) decisions none)
-
-    -- what placing all decisions answers, and the states that it leaves
-    module _ (decisions : List ℕ) (a : Answer) (cells order : List ℕ) (n : ℕ) (e : placedFrom b decisions ≡ record { answer = a; board = withDecisions b cells order n }) where
-      answered-as : {x : Answer} → a ≡ x → allPlaced b (record { answer = x; board = withDecisions b cells order n }) ≡ decidedBy b (inEdition 1 p) (decideBytes (p .grid) [] decisions)
-      answered-as f = sym (ap (λ (x : Answer). allPlaced b (record { answer = x; board = withDecisions b cells order n })) f) ∙ sym (ap (allPlaced b) e) ∙ all-decided decisions
-
-      pub decides : Decides (p .grid) decisions a cells
-      unfolding onward decidedBy refusedWith boardOf
-      decides = record { done = λ f. accepted (decideBytes (p .grid) [] decisions) refl (answered-as f); refusal = λ f. not-accepted (decideBytes (p .grid) [] decisions) (answered-as f) }
-        where
-          accepted : (r : Outcome (List Literal)) → decideBytes (p .grid) [] decisions ≡ r → _≡_ {A = Decided} (record { answer = Done; board = withDecisions b cells order n }) (decidedBy b (inEdition 1 p) r)
-              → (ds : List Literal) × (decideBytes (p .grid) [] decisions ≡ ok ds) × (cells ≡ arrayOf 2 (cellsAfter (p .grid) ds))
-          accepted (refused m) q g = let a = ap (λ (d : Decided). d .answer) g in let z : _≡_ {A = ℕ} 0 1 = cc in absurd (omega arith)
-          accepted (ok ds) q g = (ds, q, ap (λ (d : Decided). d .board .cells) g)
-
-          not-accepted : {k : ℕ} (r : Outcome (List Literal)) → refusedWith k b ≡ decidedBy b (inEdition 1 p) r → r ≡ refused k
-          not-accepted {k} (refused m) g = let a = ap (λ (d : Decided). d .answer) g in let z : m ≡ k = cc in ap refused z
-          not-accepted (ok ds) g = let a = ap (λ (d : Decided). d .answer) g in let z : _≡_ {A = ℕ} 0 1 = cc in absurd (omega arith)
 
 -- ---- the arrays of an accepted record
 
@@ -163,35 +165,34 @@ module _ {s : List ℕ} {q : Problem} (r : Reads s q) where
   pub reads-puzzle : puzzleOf q ≡ r .puzzle
   reads-puzzle = ap puzzleOf (r .is) ∙ problem-puzzle (r .puzzle) reads-valid
 
--- ---- a call, step by step
+-- ---- a call on a leaf, step by step
 
-module _ {A : Type 0} (need : Grid → ℕ) (says : Puzzle → List Literal → A) (s : List ℕ) where
-  -- a refused record
-  pub call-unread : {k : ℕ} → readRecord s ≡ refused k → (decisions : List ℕ) (n : ℕ) → hostCall need says s decisions n ≡ refused k
-  unfolding _>>=_
-  call-unread e decisions n = rw e refl
+module _ {A : Type 0} (need : Grid → ℕ) (says : Leaf → List Literal → A) (l : Leaf) (decisions : List ℕ) (n : ℕ) where
+  -- an output that is too short
+  pub call-short : n < need (l .puzzle .grid) → callOn need says decisions n l ≡ refused 11
+  unfolding _>>=_ unless
+  call-short h = rw (lt-leb (need (l .puzzle .grid)) n h) refl
 
-  module _ {p : Puzzle} (reads : readRecord s ≡ ok p) (decisions : List ℕ) (n : ℕ) where
-    -- an output that is too short
-    pub call-short : n < need (p .grid) → hostCall need says s decisions n ≡ refused 11
-    unfolding _>>=_ unless
-    call-short h = rw (reads, lt-leb (need (p .grid)) n h) refl
+  -- the decisions come next where it is long enough
+  pub call-long : need (l .puzzle .grid) ≤ n → callOn need says decisions n l ≡ (decideBytes (l .puzzle .grid) [] decisions >>= λ ds. ok (says l ds))
+  unfolding _>>=_ unless
+  call-long h = rw (le-leb (need (l .puzzle .grid)) n h) refl
 
-    -- the decisions come next where it is long enough
-    pub call-long : need (p .grid) ≤ n → hostCall need says s decisions n ≡ (decideBytes (p .grid) [] decisions >>= λ ds. ok (says p ds))
-    unfolding _>>=_ unless
-    call-long h = rw (reads, le-leb (need (p .grid)) n h) refl
+  -- what deciding in order answers, and the states that it leaves
+  module _ {a : Answer} {cells : List ℕ} (d : Decides (l .puzzle .grid) decisions a cells) (h : need (l .puzzle .grid) ≤ n) where
+    -- a decision is refused
+    pub call-refused : {k : ℕ} → a ≡ Refused k → callOn need says decisions n l ≡ refused k
+    unfolding _>>=_
+    call-refused f = call-long h ∙ rw (d .refusal f) refl
 
-    -- what deciding in order answers, and the states that it leaves
-    module _ {a : Answer} {cells : List ℕ} (d : Decides (p .grid) decisions a cells) (h : need (p .grid) ≤ n) where
-      -- a decision is refused
-      pub call-refused : {k : ℕ} → a ≡ Refused k → hostCall need says s decisions n ≡ refused k
-      unfolding _>>=_
-      call-refused f = call-long h ∙ rw (d .refusal f) refl
+    -- all are accepted: the call says what it says of the states that are left
+    pub call-done : a ≡ Done → (x : A) → ((ds : List Literal) → Standing (l .puzzle .grid) ds → cells ≡ arrayOf 2 (cellsAfter (l .puzzle .grid) ds) → says l ds ≡ x) → callOn need says decisions n l ≡ ok x
+    unfolding _>>=_
+    call-done f x said =
+        let y = d .done f in
+        call-long h ∙ rw (y .1) (ap ok (said (y .0) (bytes-standing (l .puzzle .grid) decisions none (y .1)) (y .2)))
 
-      -- all are accepted: the call says what it says of the states that are left
-      pub call-done : a ≡ Done → (x : A) → ((ds : List Literal) → Standing (p .grid) ds → cells ≡ arrayOf 2 (cellsAfter (p .grid) ds) → says p ds ≡ x) → hostCall need says s decisions n ≡ ok x
-      unfolding _>>=_
-      call-done f x said =
-          let y = d .done f in
-          call-long h ∙ rw (y .1) (ap ok (said (y .0) (bytes-standing (p .grid) decisions none (y .1)) (y .2)))
+-- a call without edition and sizes opens in edition 1 and has none
+pub call-plain : {A : Type 0} (need : Grid → ℕ) (says : Leaf → List Literal → A) (s decisions : List ℕ) (n : ℕ)
+    → hostCall need says s decisions n ≡ hostCallWith need says s 1 [] decisions n
+call-plain need says s decisions n = sym (with-none (callOn need says decisions n) s)

@@ -45,6 +45,16 @@ fn problems_differ(p: Problem, q: Problem) -> bool
     words_differ(&a, &b)
 }
 
+// Whether sizes differ, the lowest of one board and of another, and their highest.
+fn sizes_differ(a: &[u16; 1024], b: &[u16; 1024], c: &[u16; 1024], d: &[u16; 1024]) -> bool
+    ensures { λ r. ⌜ DiffersUnless r ((now (a .entry) ≡ now (b .entry)) × (now (c .entry) ≡ now (d .entry))) ⌝ }
+{
+    if words_differ(a, b) {
+        return true;
+    }
+    words_differ(c, d)
+}
+
 // Whether two boards differ in some field.
 pub fn boards_differ(x: Board, y: Board) -> bool
     ensures { λ r. ⌜ DiffersUnless r (x ≡ y) ⌝ }
@@ -69,7 +79,14 @@ pub fn boards_differ(x: Board, y: Board) -> bool
     }
     let a = x.order;
     let b = y.order;
-    words_differ(&a, &b)
+    if words_differ(&a, &b) {
+        return true;
+    }
+    let a = x.lowest;
+    let b = y.lowest;
+    let c = x.highest;
+    let d = y.highest;
+    sizes_differ(&a, &b, &c, &d)
 }
 
 // `decide` on a lent board: what it answers, with the board that it leaves.

@@ -14,10 +14,13 @@ use shades::Shaded;
 ghost use Prim.Native.Nat.{_≤_};
 
 // How many damages there are.
-const DAMAGES: usize = 35;
+const DAMAGES: usize = 41;
 
-// How many of them are to the problem; the others are to the edition and to what is decided.
+// How many of them are to the problem; the others are to the sizes, the edition and what is decided.
 const TO_PROBLEM: usize = 20;
+
+// How many are to the sizes.
+const TO_SIZES: usize = 6;
 
 // Whether an answer is not refusal 6 with the board b unchanged.
 fn taken(d: Decided, b: Board) -> bool {
@@ -96,6 +99,8 @@ fn with_problem(b: Board, problem: Problem) -> Board {
     let cells = b.cells;
     let order = b.order;
     let hints = b.hints;
+    let lowest = b.lowest;
+    let highest = b.highest;
     Board {
         problem,
         edition: b.edition,
@@ -103,6 +108,8 @@ fn with_problem(b: Board, problem: Problem) -> Board {
         order,
         decided: b.decided,
         hints,
+        lowest,
+        highest,
     }
 }
 
@@ -161,13 +168,40 @@ fn damaged_decisions(board: Board, k: usize) -> Board {
     b
 }
 
+// The k-th damage to the sizes of a board: one end without the other, a range that is upside down, and one that sits off an arrow.
+fn damaged_sizes(board: Board, k: usize) -> Board {
+    let mut b = board;
+    match k {
+        0 => b.lowest[0] = 1,
+        1 => b.highest[0] = 1,
+        2 => {
+            b.lowest[1] = 3;
+            b.highest[1] = 2;
+        }
+        3 => {
+            b.lowest[3] = 1;
+            b.highest[3] = 1;
+        }
+        4 => {
+            b.lowest[1023] = 1;
+            b.highest[1023] = 2;
+        }
+        _ => b.highest[1023] = 65535,
+    }
+    b
+}
+
 // The k-th damaged board.
 fn damaged(b: Board, k: usize) -> Board {
     if k < TO_PROBLEM {
         let q = b.problem;
         return with_problem(b, damaged_problem(q, k));
     }
-    damaged_decisions(b, k - TO_PROBLEM)
+    let rest = k - TO_PROBLEM;
+    if rest < TO_SIZES {
+        return damaged_sizes(b, rest);
+    }
+    damaged_decisions(b, rest - TO_SIZES)
 }
 
 // How many of the damaged boards are accepted.
@@ -185,7 +219,7 @@ fn count_accepted(b: Board) -> usize {
 
 // Prints how many damaged boards there are and how many of them are accepted.
 pub fn print() {
-    let o = Board::open(b"\x00\x80\x08\x00\x00\x05\xE0", 1);
+    let o = Board::open(b"\x00\x80\x08\x00\x00\x05\xE0", 1, &[]);
     let fresh = o.board;
     let d = fresh.decide(0, 1);
     let b = d.board;

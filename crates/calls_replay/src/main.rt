@@ -1,9 +1,9 @@
 // Replays lists of calls from standard input: each call is made by value and on a lent board, and what it answers, leaves and writes is
 // compared with what the list says. Then come boards that no list of calls could leave, which every call must refuse.
 //
-// A list has a head of lines that begin with `#`, an empty line, and entries to its end: u16 length, that many bytes of record, u8 edition, u8
-// refusal of open, and where that is 0 the counts of hints that the fresh board is handed in with, u16 number of calls, and the calls, with the
-// counts of hints behind each that the board then has. Counts are four u16, that of player 0 first.
+// A list has a head of lines that begin with `#`, an empty line, and entries to its end: u16 length, that many bytes of record, u8 edition, u16
+// length and that many u16 of sizes, u8 refusal of open, and where that is 0 the counts of hints that the fresh board is handed in with, u16
+// number of calls, and the calls, with the counts of hints behind each that the board then has. Counts are four u16, that of player 0 first.
 // A call is u8 kind, and for 0 (decide) u16 index, u8 value, u8 refusal; for 1 (undo) u8 refusal; for 2 (find) u8 player, u16 length of the
 // buffer, u8 refusal, and where that is 0 u16 number of literals (0 for no reason) and the u16 literals; for 3 (cells) a state for
 // each cell. A u16 has its high byte first; a refusal is 0 for none.
@@ -12,12 +12,16 @@ mod damaged;
 
 use board::Board;
 use board::Decided;
+use board::Opened;
 use finds::Made;
 use finds::Way;
 use replay::Run;
 use replay::Tally;
-ghost use Prim.Native.Nat.{_<_};
+ghost use Prim.Native.Nat.{_≤_, _<_};
 ghost use lib.ListN.{length};
+
+// The most numbers of sizes that an entry may have.
+const SIZES: usize = 4096;
 
 // What a call left: the board, whether something differed, and where the call ends in the list, far behind it where the list ends
 // inside the call.
@@ -213,28 +217,55 @@ fn hints_at(list: &[u8], at: usize) -> [u16; Board::PLAYERS]
     hints
 }
 
-// Opens the record of the entry at `at`, and where it is accepted makes its calls on the board with the counts of hints that it is handed in
-// with.
+// The sizes at `at`, so many numbers.
+fn sizes_at(list: &[u8], at: usize, count: usize) -> [u16; SIZES]
+    requires { ⌜ (at ≤ length (now list)) × (count ≤ 4096) ⌝ }
+{
+    let mut sizes = [0u16; SIZES];
+    let mut i = 0;
+    while i < count {
+        sizes[i] = replay::number_at(list, at + 2 * i) as u16;
+        i += 1;
+    }
+    sizes
+}
+
+// What opening the record in the edition answers, with the sizes at `at`, so many numbers.
+fn opened(list: &[u8], record: &[u8], edition: u8, at: usize, count: usize) -> Opened
+    requires { ⌜ (at ≤ length (now list)) × (count ≤ 4096) ⌝ }
+{
+    let sizes = sizes_at(list, at, count);
+    Board::open(record, edition, &sizes[..count])
+}
+
+// Opens the record of the entry at `at` with its sizes, and where it is accepted makes its calls on the board with the counts of hints that it
+// is handed in with.
 fn run_entry(list: &[u8], at: usize) -> Run
     requires { ⌜ at < length (now list) ⌝ }
 {
     let edition = at + 2 + replay::number_at(list, at);
-    if list.len() < edition + 2 {
+    let sizes = edition + 3;
+    if list.len() < sizes {
         return Run::broken();
     }
-    let o = Board::open(&list[at + 2..edition], list[edition]);
+    let count = replay::number_at(list, edition + 1);
+    let hints = sizes + 2 * count + 1;
+    if list.len() < hints || SIZES < count {
+        return Run::broken();
+    }
+    let o = opened(list, &list[at + 2..edition], list[edition], sizes, count);
     let answer = o.answer;
     let mut board = o.board;
-    let refusal = grid::byte(list[edition + 1]);
+    let refusal = grid::byte(list[hints - 1]);
     if refusal != 0 {
-        return Run::of(replay::number(answer) != refusal, edition + 2);
+        return Run::of(replay::number(answer) != refusal, hints);
     }
-    let calls = edition + 2 + 2 * Board::PLAYERS;
+    let calls = hints + 2 * Board::PLAYERS;
     if list.len() < calls + 2 || replay::number(answer) != 0 {
         return Run::broken();
     }
-    let hints = hints_at(list, edition + 2);
-    board.hints = hints;
+    let handed = hints_at(list, hints);
+    board.hints = handed;
     run_calls(list, calls + 2, replay::number_at(list, calls), board)
 }
 

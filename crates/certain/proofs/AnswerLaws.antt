@@ -14,7 +14,8 @@ use Rattle.grid.specs.Grid.{Grid, size}
 use Rattle.grid.specs.Cells.{Literal}
 use Rattle.grid.proofs.ArrayLaws.{array-length, array-in, array-out}
 use Rattle.grid.proofs.FilledLaws.{filled-at, filled-is}
-use Rattle.record.specs.Leaf.{inEdition}
+use Rattle.record.specs.Leaf.{Range, leafWith}
+use Rattle.record.specs.Sizes.{GoodSizes}
 use Rattle.record.specs.Problem.{puzzleOf, gridOf}
 use Rattle.record.specs.declared.Problem.{Problem}
 use Rattle.form.proofs.ProblemForm.{Formed, formed-valid}
@@ -69,15 +70,15 @@ nothing-yet n {facts} h e =
 
 -- ---- on the arrays
 
-module _ (q : Problem) (f : Formed q) (edition : ℕ) {states : List ℕ} (s : States states) (budget : ℕ) {left : Left} {states′ before facts : List ℕ} (blank : before ≡ replicate 1024 3)
-    (x : Searched (q .height * q .width) budget (search (inEdition edition (puzzleOf q)) (take (q .height * q .width) states)) left states states′ before facts) where
+module _ (q : Problem) (f : Formed q) (edition : ℕ) {sizes : List Range} (good : GoodSizes (puzzleOf q) sizes) {states : List ℕ} (s : States states) (budget : ℕ) {left : Left} {states′ before facts : List ℕ} (blank : before ≡ replicate 1024 3)
+    (x : Searched (q .height * q .width) budget (search (leafWith edition sizes (puzzleOf q)) (take (q .height * q .width) states)) left states states′ before facts) where
   -- how many cells
   abbrev n : ℕ
   n = q .height * q .width
 
   -- the search of the definition
   abbrev r : Reached
-  r = search (inEdition edition (puzzleOf q)) (take n states)
+  r = search (leafWith edition sizes (puzzleOf q)) (take n states)
 
   some-cells : 0 < n
   unfolding gridOf
@@ -105,7 +106,7 @@ module _ (q : Problem) (f : Formed q) (edition : ℕ) {states : List ℕ} (s : S
     first-is = ap (λ (z : List ℕ). getD z 0 0) facts-are ∙ filled-at 3 (factOf (r .boards)) n 0 some-cells
 
     low : (b : List ℕ) → List·Memᴰ b (r .boards) → getD b 0 0 ≤ 1
-    low b m = search-solves (inEdition edition (puzzleOf q)) (formed-valid q f) (take n states) (cells-valid q f edition s) b m .finished .decided .each 0 (unfold puzzleOf gridOf size in some-cells)
+    low b m = search-solves (leafWith edition sizes (puzzleOf q)) (formed-valid q f) good (take n states) (cells-valid q f edition sizes s) b m .finished .decided .each 0 (unfold puzzleOf gridOf size in some-cells)
 
     pub answer-none : getD facts 0 0 ≡ 3 → _≡_ {A = Facts} (record { answer = Impossible; steps = budget - rest; cells = facts }) (certainBy n budget r)
     unfolding known
@@ -136,7 +137,7 @@ standing-states {g} {ds} t few = record { long = long; three = λ i. low i (decL
 pub board-states : (b : Board) → wellFormed b ≡ true → States (b .cells)
 board-states b h =
     let w = whole-is b h in
-    let e : arrayOf 2 (cellsAfter (gridOf (b .problem)) (decisionsOf b)) ≡ b .cells = (unfold boardOf puzzleOf in ap (λ (z : Board). z .cells) (whole-again b w)) in
+    let e : arrayOf 2 (cellsAfter (gridOf (b .problem)) (decisionsOf b)) ≡ b .cells = (unfold boardOf leafOn puzzleOf in ap (λ (z : Board). z .cells) (whole-again b w)) in
     rw (← e) (standing-states (whole-standing b w) (whole-most b w))
 
 -- 6

@@ -18,7 +18,6 @@ use Rattle.record.specs.Record.{ok}
 use Rattle.record.specs.Leaf.{Leaf, leafOf}
 use Rattle.record.specs.Problem.{gridOf, problemOf}
 use Rattle.record.proofs.LeafLaws.{ValidLeaf, leaf-valid}
-use Rattle.record.proofs.ProblemLaws.{problem-puzzle}
 use Rattle.board.specs.Board.{Call, cellsAfter, enough}
 use Rattle.board.specs.Calls.{standing, hintsAfter}
 use Rattle.board.specs.Form.{Counts, wellFormed}
@@ -26,6 +25,7 @@ use Rattle.board.specs.Hints.{findRefusal}
 use Rattle.board.specs.Kept.{boardOf}
 use Rattle.board.specs.declared.Board.{Board}
 use Rattle.board.proofs.Standing.{Standing, calls-standing, cells-valid, standing-low, cell-stands, stands-cell, cells-length}
+use Rattle.board.proofs.BoardForm.{board-leaf}
 use Rattle.board.proofs.CallLaws.{standing-well, opened-left, after-low}
 use Rattle.literals.specs.Literals.{Found}
 use Rattle.literals.specs.Buffer.{findingBy}
@@ -170,14 +170,14 @@ module _ (l : Leaf) (v : ValidLeaf l) (counts : List ℕ) (few : Counts counts) 
       ∙ (unfold boardOf problemOf gridOf in ap (certainBy (size (l .puzzle .grid)) budget) search-is)
     where
       search-is : search (leafOn (boardOf l ds counts)) (cellsOn (boardOf l ds counts)) ≡ search l cells
-      search-is = rw (cells-on l v counts s) (unfold boardOf in rw (problem-puzzle (l .puzzle) (v .puzzle)) refl)
+      search-is = rw (cells-on l v counts s, board-leaf l v ds counts) refl
 
   true-of : (budget : ℕ) → search l cells .steps ≤ budget → TrueOf (size (l .puzzle .grid)) (Solution l ds) (certainBy (size (l .puzzle .grid)) budget (search l cells))
   true-of budget h =
       rw (by-known (size (l .puzzle .grid)) budget (search l cells) h)
       (known-true (size (l .puzzle .grid)) (search l cells) (Solution l ds)
-      (λ b m. solves-solution b (search-solves l (v .puzzle) cells (cells-valid s) b m))
-      (λ b x. solves-search l (v .puzzle) cells (cells-valid s) b (solution-solves b x))
+      (λ b m. solves-solution b (search-solves l (v .puzzle) (v .sizes) cells (cells-valid s) b m))
+      (λ b x. solves-search l (v .puzzle) (v .sizes) cells (cells-valid s) b (solution-solves b x))
       (λ b x i k. x .finished .decided .each i k))
 
   -- so it is answered, and so it is in every field
@@ -214,14 +214,14 @@ module _ (l : Leaf) (v : ValidLeaf l) (counts : List ℕ) (few : Counts counts) 
 
 -- ---- after any list of calls
 
-certain-cells : (s : List ℕ) (e : ℕ) (l : Leaf) → leafOf s e ≡ ok l → (cs : List Call) → CertainCells s e l cs
-certain-cells s e l k cs =
-    let v = leaf-valid s e k in
+certain-cells : (s : List ℕ) (e : ℕ) (ns : List ℕ) (l : Leaf) → leafOf s e ns ≡ ok l → (cs : List Call) → CertainCells s e ns l cs
+certain-cells s e ns l k cs =
+    let v = leaf-valid s e ns k in
     let c : List ℕ = hintsAfter (l .puzzle) cs in
     let few = after-low (l .puzzle) cs in
     let t = calls-standing (l .puzzle .grid) cs in
-    let b : Board = boardAfter s e cs in
-    let is = opened-left s e l k cs in
+    let b : Board = boardAfter s e ns cs in
+    let is = opened-left s e ns l k cs in
     record {
       search-is = said l v c few t b is;
       cells = on-true l v c few t b is;

@@ -15,6 +15,7 @@ use Rattle.grid.specs.Cells.{Literal, ValidCells}
 use Rattle.grid.proofs.ArrayLaws.{Entry, hit, miss, entry-at}
 use Rattle.record.specs.Leaf.{Leaf}
 use Rattle.record.specs.Valid.{Valid}
+use Rattle.record.specs.Sizes.{GoodSizes}
 use Rattle.record.proofs.LineLaws.{valid-arrows}
 use Rattle.kinds.specs.Meaning.{Setting}
 use Rattle.literals.specs.Literals.{Found}
@@ -53,7 +54,7 @@ module _ (cells : List ℕ) (i v : ℕ) (h : i < length cells) (u : getD cells i
       go (hit q x) = ap (λ (z : ℕ). getD board z 0) q ∙ b ∙ sym x
       go (miss q x) = e j (omega (arith, length-set cells i v)) (omega arith) ∙ sym x
 
-module _ (leaf : Leaf) (v : Valid (leaf .puzzle)) where
+module _ (leaf : Leaf) (v : Valid (leaf .puzzle)) (good : GoodSizes (leaf .puzzle) (leaf .sizes)) where
   abbrev setting : (cells : List ℕ) → ValidCells (leaf .puzzle .grid) cells → Setting
   setting cells valid = record { puzzle = leaf .puzzle; lines = valid-arrows (leaf .puzzle) v; cells = cells; valid = valid }
 
@@ -63,11 +64,11 @@ module _ (leaf : Leaf) (v : Valid (leaf .puzzle)) where
   -- where there is a finished board no reason is given
   no-reason : (cells : List ℕ) (valid : ValidCells (leaf .puzzle .grid) cells) (board : List ℕ) → Solves leaf cells board → (r : List Literal) → findReason leaf cells ≡ some r → ⊥
   no-reason cells valid board s r e =
-      sound (leaf .edition) (setting cells valid) r e board (s .finished .decided .long) agrees (s .finished .rules)
+      sound (leaf .edition) (leaf .sizes) (setting cells valid) good r e board (s .finished .decided .long) agrees (s .finished .rules)
     where
       agrees : (i w : ℕ) → List·Memᴰ (i, w) r → getD board i 0 ≡ w
       agrees i w m =
-          let t = find-stands (setting cells valid) (leaf .edition) r e i w m in
+          let t = find-stands (setting cells valid) (leaf .edition) (leaf .sizes) r e i w m in
           s .extends i (omega (arith, t .0, valid .long)) (omega (arith, t .1, t .2)) ∙ t .2
 
   -- what is counted at a full board

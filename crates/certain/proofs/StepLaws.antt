@@ -13,7 +13,8 @@ use Rattle.grid.specs.Lists.{all, howMany}
 use Rattle.grid.specs.Grid.{size}
 use Rattle.grid.specs.Side.{sized}
 use Rattle.grid.specs.Cells.{ValidCells}
-use Rattle.record.specs.Leaf.{Leaf, inEdition}
+use Rattle.record.specs.Leaf.{Range, Leaf, leafWith}
+use Rattle.record.specs.Sizes.{GoodSizes}
 use Rattle.record.specs.Problem.{puzzleOf, gridOf}
 use Rattle.record.specs.declared.Problem.{Problem}
 use Rattle.form.proofs.ProblemForm.{Formed}
@@ -58,14 +59,14 @@ some-found (some r) x e = let z : _≡_ {A = ℕ} 0 1 = cc in omega arith
 pub gathers-none : (n : ℕ) {before after : List ℕ} → after ≡ before → Gathers n [] before after
 gathers-none n e bs z = e ∙ z ∙ ap (factsIn n) (sym (append-nil bs))
 
-module _ (q : Problem) (f : Formed q) (edition : ℕ) {states : List ℕ} (s : States states) where
+module _ (q : Problem) (f : Formed q) (edition : ℕ) (sizes : List Range) {states : List ℕ} (s : States states) where
   -- how many cells
   abbrev n : ℕ
   n = q .height * q .width
 
   -- what the rules read
   abbrev leaf : Leaf
-  leaf = inEdition edition (puzzleOf q)
+  leaf = leafWith edition sizes (puzzleOf q)
 
   -- the states of the cells of the grid
   abbrev cells : List ℕ
@@ -84,18 +85,18 @@ module _ (q : Problem) (f : Formed q) (edition : ℕ) {states : List ℕ} (s : S
 
   -- what the search for a reason on the arrays is about
   abbrev Found-on : Found
-  Found-on = findReason (inEdition edition (puzzleWith (sized (q .height) (q .width)) (linesOf (q .arrows) (q .ends) (q .count)))) cells
+  Found-on = findReason (leafWith edition sizes (puzzleWith (sized (q .height) (q .width)) (linesOf (q .arrows) (q .ends) (q .count)))) cells
 
   same : Found-on ≡ findReason leaf cells
   unfolding puzzleOf gridOf
-  same = codes-aside edition (puzzleOf q) cells
+  same = codes-aside leaf cells
 
   -- back on a reason
   pub meets-reason : {b a facts : List ℕ} {k : ℕ} → FoundAs Found-on b a (finding.Reason k) → Meets leaf n states facts facts Reason
   meets-reason x = reason (λ e. some-found Found-on x (same ∙ e)) refl
 
   -- no reason applies
-  module _ {b a : List ℕ} (x : FoundAs Found-on b a finding.Nothing) where
+  module _ (good : GoodSizes (puzzleOf q) sizes) {b a : List ℕ} (x : FoundAs Found-on b a finding.Nothing) where
     quiet : findReason leaf cells ≡ none
     quiet = sym same ∙ nothing-found Found-on x .0
 
@@ -117,6 +118,6 @@ module _ (q : Problem) (f : Formed q) (edition : ℕ) {states : List ℕ} (s : S
     pub meets-beyond : {m : Met} {before after : List ℕ} → length before ≡ 1024 → Beyond n states test before after m → Meets leaf n states before after m
     meets-beyond long (undecided e g h) = meets-undecided quiet e g h
     meets-beyond long (noted e t h) =
-        full quiet e (h .long) (rw (boards-are true (no-reason q f edition states (s .long) t x)) (λ bs z. noted-more n (few q f) h (low e) bs z))
+        full quiet e (h .long) (rw (boards-are true (no-reason q f edition sizes states (s .long) good t x)) (λ bs z. noted-more n (few q f) h (low e) bs z))
     meets-beyond long (passed e t h) =
-        full quiet e (ap length h ∙ long) (rw (boards-are false (fails-before q f edition states (s .long) t)) (gathers-none n h))
+        full quiet e (ap length h ∙ long) (rw (boards-are false (fails-before q f edition sizes states (s .long) t)) (gathers-none n h))

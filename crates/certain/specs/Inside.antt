@@ -7,7 +7,8 @@ use mathlib.Core.List.{List, _++_}
 use mathlib.Core.Option.{none}
 use lib.Dec.{eqb, leb}
 use lib.ListN.{length, getD, take}
-use Rattle.record.specs.Leaf.{Leaf, inEdition}
+use Rattle.record.specs.Leaf.{Leaf, leafWith}
+use Rattle.record.specs.Sizes.{keptRanges}
 use Rattle.record.specs.Problem.{puzzleOf}
 use Rattle.reasons.specs.Reasons.{findReason}
 use Rattle.finished.specs.Inside.{problemOn}
@@ -18,9 +19,9 @@ use Rattle.certain.specs.declared.Left.the-variants.{Steps, Exhausted}
 use Rattle.certain.specs.declared.Met.{Met}
 use Rattle.certain.specs.declared.Met.the-variants.{Reason, Full, Undecided}
 
--- the leaf in the arrays
-abbrev pub leafIn : ℕ → ℕ → ℕ → List ℕ → List ℕ → List ℕ → ℕ → Leaf
-leafIn edition h w codes arrows ends number = inEdition edition (puzzleOf (problemOn h w codes arrows ends number))
+-- the leaf in the arrays, with the sizes in the slices
+abbrev pub leafIn : ℕ → List ℕ → List ℕ → ℕ → ℕ → List ℕ → List ℕ → List ℕ → ℕ → Leaf
+leafIn edition lows highs h w codes arrows ends number = leafWith edition (keptRanges lows highs (length lows)) (puzzleOf (problemOn h w codes arrows ends number))
 
 -- 1,024 states
 pub record States (cells : List ℕ) : Type 0 where

@@ -1,4 +1,4 @@
--- Document 02, §8: what `certain` tells, sentence by sentence, of every board that a list of calls leaves, in either edition.
+-- Document 02, §8: what `certain` tells, sentence by sentence, of every board that a list of calls leaves, in either edition, with sizes or without.
 -- Assumes nothing.
 use Prim.Native.Nat.{ℕ, _≤_, _<_}
 use mathlib.Core.Logic.{_↔_}
@@ -53,29 +53,29 @@ pub record TrueOf (n : ℕ) (S : List ℕ → Type 0) (f : Facts) : Type 0 where
   -- or that there is no such board
   pub none : (f .answer ≡ Impossible) ↔ (¬ Some S)
 
--- the record s in the edition e, with the leaf l, and a list of calls
-pub record CertainCells (s : List ℕ) (e : ℕ) (l : Leaf) (cs : List Call) : Type 0 where
+-- the record s in the edition e with the sizes ns, accepted as the leaf l, and a list of calls
+pub record CertainCells (s : List ℕ) (e : ℕ) (ns : List ℕ) (l : Leaf) (cs : List Call) : Type 0 where
   -- the answer is that of the search from the standing decisions; in edition 1 so it is with the call for the outside
   pub search-is : (budget : ℕ)
-      → certainOf (boardAfter s e cs) budget ≡ certainBy (size (l .puzzle .grid)) budget (search l (cellsAfter (l .puzzle .grid) (standing (l .puzzle) cs)))
+      → certainOf (boardAfter s e ns cs) budget ≡ certainBy (size (l .puzzle .grid)) budget (search l (cellsAfter (l .puzzle .grid) (standing (l .puzzle) cs)))
   -- "for each cell, square in every finished board that agrees with the standing decisions, empty in every one, or open; or that there is no such board":
   -- so says every answer that isn't spent
-  pub cells : (budget : ℕ) → ¬ (certainOf (boardAfter s e cs) budget .answer ≡ Spent)
-      → TrueOf (size (l .puzzle .grid)) (Solution l (standing (l .puzzle) cs)) (certainOf (boardAfter s e cs) budget)
+  pub cells : (budget : ℕ) → ¬ (certainOf (boardAfter s e ns cs) budget .answer ≡ Spent)
+      → TrueOf (size (l .puzzle .grid)) (Solution l (standing (l .puzzle) cs)) (certainOf (boardAfter s e ns cs) budget)
   -- "Each find is one step, and the result carries their number"
-  pub steps : (budget : ℕ) → ¬ (certainOf (boardAfter s e cs) budget .answer ≡ Spent)
-      → certainOf (boardAfter s e cs) budget .steps ≡ search l (cellsAfter (l .puzzle .grid) (standing (l .puzzle) cs)) .steps
+  pub steps : (budget : ℕ) → ¬ (certainOf (boardAfter s e ns cs) budget .answer ≡ Spent)
+      → certainOf (boardAfter s e ns cs) budget .steps ≡ search l (cellsAfter (l .puzzle .grid) (standing (l .puzzle) cs)) .steps
   -- "The answer is spent .. exactly when this search has more steps than the budget"
-  pub spent : (budget : ℕ) → (certainOf (boardAfter s e cs) budget .answer ≡ Spent) ↔ (budget < search l (cellsAfter (l .puzzle .grid) (standing (l .puzzle) cs)) .steps)
+  pub spent : (budget : ℕ) → (certainOf (boardAfter s e ns cs) budget .answer ≡ Spent) ↔ (budget < search l (cellsAfter (l .puzzle .grid) (standing (l .puzzle) cs)) .steps)
   -- "with a count equal to the budget"
-  pub count : (budget : ℕ) → certainOf (boardAfter s e cs) budget .answer ≡ Spent → certainOf (boardAfter s e cs) budget .steps ≡ budget
+  pub count : (budget : ℕ) → certainOf (boardAfter s e ns cs) budget .answer ≡ Spent → certainOf (boardAfter s e ns cs) budget .steps ≡ budget
   -- "and a budget of 0 is spent"
-  pub zero-spent : certainOf (boardAfter s e cs) 0 .answer ≡ Spent
+  pub zero-spent : certainOf (boardAfter s e ns cs) 0 .answer ≡ Spent
   -- "A larger budget never alters an answer that wasn't spent"
-  pub larger : (budget more : ℕ) → budget ≤ more → ¬ (certainOf (boardAfter s e cs) budget .answer ≡ Spent)
-      → certainOf (boardAfter s e cs) more ≡ certainOf (boardAfter s e cs) budget
+  pub larger : (budget more : ℕ) → budget ≤ more → ¬ (certainOf (boardAfter s e ns cs) budget .answer ≡ Spent)
+      → certainOf (boardAfter s e ns cs) more ≡ certainOf (boardAfter s e ns cs) budget
   -- such a board is not refused
-  pub accepted : (budget k : ℕ) → ¬ (certainOf (boardAfter s e cs) budget .answer ≡ Refused k)
+  pub accepted : (budget k : ℕ) → ¬ (certainOf (boardAfter s e ns cs) budget .answer ≡ Refused k)
 
 -- any board: "An ill-formed board is refused as by find"
 pub record RefusedAsFind (b : Board) : Type 0 where
@@ -86,6 +86,6 @@ pub record RefusedAsFind (b : Board) : Type 0 where
 
 -- all that is proved of §8
 pub record Section8 : Type 0 where
-  -- it holds for every accepted record in either edition and every list of calls
-  pub holds : (s : List ℕ) (e : ℕ) (l : Leaf) → leafOf s e ≡ ok l → (cs : List Call) → CertainCells s e l cs
+  -- it holds for every accepted record in either edition, with any sizes or none, and every list of calls
+  pub holds : (s : List ℕ) (e : ℕ) (ns : List ℕ) (l : Leaf) → leafOf s e ns ≡ ok l → (cs : List Call) → CertainCells s e ns l cs
   pub refuses : (b : Board) → RefusedAsFind b

@@ -7,6 +7,7 @@ ghost use Prim.Native.Nat.{_*_, _≤_};
 ghost use lib.ListN.{length, take, replicate};
 ghost use Rattle.grid.specs.Lists.{all};
 ghost use Rattle.form.specs.Form.{problemFormed};
+ghost use Rattle.sized.specs.Inside.{SizesOn};
 ghost use Rattle.groups.specs.Arrays.{linesOf, Drawn};
 ghost use Rattle.finished.specs.Finished.{keepsAll, twoSquares};
 ghost use Rattle.finished.specs.Inside.{problemOn};
@@ -118,6 +119,8 @@ fn beyond<'a>(
 // One step of the search: find on a board, and what it meets.
 fn step<'a>(
     edition: u8,
+    lowest: &'a [u16],
+    highest: &'a [u16],
     cells: &'a [u8; 1024],
     codes: &'a [u8; 1024],
     arrows: &'a [u16; 1024],
@@ -129,12 +132,14 @@ fn step<'a>(
     buffer: &mut [u16; Board::LITERALS],
 ) -> Met
     requires { ⌜ (edition ≡ 0 → ⊥) × (problemFormed (problemOn h w (now codes) (now arrows) (now ends) number) ≡ true) × States (now cells)
-        × (length (now facts) ≡ 1024) × (length (now buffer) ≡ 3073) ⌝ }
-    ensures { λ r. ⌜ Meets (leafIn edition h w (now (codes .entry)) (now (arrows .entry)) (now (ends .entry)) number) (h * w) (now (cells .entry)) (now (facts .entry)) (now (facts .exit)) r
+        × (length (now facts) ≡ 1024) × (length (now buffer) ≡ 3073) × SizesOn (h * w) (linesOf (now arrows) (now ends) number) (now lowest) (now highest) ⌝ }
+    ensures { λ r. ⌜ Meets (leafIn edition (now (lowest .entry)) (now (highest .entry)) h w (now (codes .entry)) (now (arrows .entry)) (now (ends .entry)) number) (h * w) (now (cells .entry)) (now (facts .entry)) (now (facts .exit)) r
         × (length (now (buffer .exit)) ≡ 3073) ⌝ }
 {
     let finding = inconsistency::find_inconsistency(
         edition,
+        lowest,
+        highest,
         cells,
         arrows,
         ends,
@@ -153,6 +158,8 @@ fn step<'a>(
 // The search from a board with at most `left` steps: what is left of them. What it sets in the cells it takes back.
 fn search_from<'a>(
     edition: u8,
+    lowest: &'a [u16],
+    highest: &'a [u16],
     cells: &mut [u8; 1024],
     codes: &'a [u8; 1024],
     arrows: &'a [u16; 1024],
@@ -165,8 +172,8 @@ fn search_from<'a>(
     left: u64,
 ) -> Left
     requires { ⌜ (edition ≡ 0 → ⊥) × (problemFormed (problemOn h w (now codes) (now arrows) (now ends) number) ≡ true) × States (now cells)
-        × (length (now facts) ≡ 1024) × (length (now buffer) ≡ 3073) ⌝ }
-    ensures { λ r. ⌜ Searched (h * w) left (search (leafIn edition h w (now (codes .entry)) (now (arrows .entry)) (now (ends .entry)) number) (take (h * w) (now (cells .entry)))) r
+        × (length (now facts) ≡ 1024) × (length (now buffer) ≡ 3073) × SizesOn (h * w) (linesOf (now arrows) (now ends) number) (now lowest) (now highest) ⌝ }
+    ensures { λ r. ⌜ Searched (h * w) left (search (leafIn edition (now (lowest .entry)) (now (highest .entry)) h w (now (codes .entry)) (now (arrows .entry)) (now (ends .entry)) number) (take (h * w) (now (cells .entry)))) r
         (now (cells .entry)) (now (cells .exit)) (now (facts .entry)) (now (facts .exit)) × (length (now (buffer .exit)) ≡ 3073) ⌝ }
 {
     if left == 0 {
@@ -174,6 +181,8 @@ fn search_from<'a>(
     }
     let met = step(
         edition,
+        lowest,
+        highest,
         cells,
         codes,
         arrows,
@@ -191,6 +200,8 @@ fn search_from<'a>(
             cells[i] = 1;
             let first = search_from(
                 edition,
+                lowest,
+                highest,
                 cells,
                 codes,
                 arrows,
@@ -211,6 +222,8 @@ fn search_from<'a>(
                     cells[i] = 0;
                     let second = search_from(
                         edition,
+                        lowest,
+                        highest,
                         cells,
                         codes,
                         arrows,
@@ -234,6 +247,8 @@ fn search_from<'a>(
 // that has opened the board itself. The cells are as they were.
 pub fn certain_cells<'a>(
     edition: u8,
+    lowest: &'a [u16],
+    highest: &'a [u16],
     cells: &mut [u8; 1024],
     codes: &'a [u8; 1024],
     arrows: &'a [u16; 1024],
@@ -243,14 +258,17 @@ pub fn certain_cells<'a>(
     w: usize,
     budget: u64,
 ) -> Facts
-    requires { ⌜ (edition ≡ 0 → ⊥) × (problemFormed (problemOn h w (now codes) (now arrows) (now ends) number) ≡ true) × States (now cells) ⌝ }
-    ensures { λ r. ⌜ (r ≡ certainBy (h * w) budget (search (leafIn edition h w (now (codes .entry)) (now (arrows .entry)) (now (ends .entry)) number) (take (h * w) (now (cells .entry)))))
+    requires { ⌜ (edition ≡ 0 → ⊥) × (problemFormed (problemOn h w (now codes) (now arrows) (now ends) number) ≡ true) × States (now cells)
+        × SizesOn (h * w) (linesOf (now arrows) (now ends) number) (now lowest) (now highest) ⌝ }
+    ensures { λ r. ⌜ (r ≡ certainBy (h * w) budget (search (leafIn edition (now (lowest .entry)) (now (highest .entry)) h w (now (codes .entry)) (now (arrows .entry)) (now (ends .entry)) number) (take (h * w) (now (cells .entry)))))
         × (now (cells .exit) ≡ now (cells .entry)) ⌝ }
 {
     let mut facts = nothing_known();
     let mut buffer = reasons::no_literals();
     let left = search_from(
         edition,
+        lowest,
+        highest,
         cells,
         codes,
         arrows,
@@ -300,15 +318,20 @@ pub fn certain(board: Board, budget: u64) -> Facts
         };
     }
     let mut cells = board.cells;
+    let height = board.problem.height;
+    let width = board.problem.width;
+    let n = reasons::lent_sizes(&board.lowest, height * width);
     certain_cells(
         board.edition,
+        reasons::first_sizes(&board.lowest, n),
+        reasons::first_sizes(&board.highest, n),
         &mut cells,
         &board.problem.cells,
         &board.problem.arrows,
         &board.problem.ends,
         board.problem.count,
-        board.problem.height,
-        board.problem.width,
+        height,
+        width,
         budget,
     )
 }

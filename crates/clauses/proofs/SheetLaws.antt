@@ -18,7 +18,7 @@ use Rattle.grid.proofs.AppendLaws.{by-eq}
 use Rattle.grid.proofs.GridLaws.{beside, adj-sym, on-grid, in-cells}
 use Rattle.record.specs.Record.{ok, Puzzle, readRecord}
 use Rattle.record.specs.Valid.{Valid, arrow, Arrows}
-use Rattle.record.specs.Leaf.{inEdition}
+use Rattle.record.specs.Leaf.{Range, leafWith}
 use Rattle.record.proofs.RecordLaws.{record-valid}
 use Rattle.record.proofs.FreshLaws.{arrow-distinct}
 use Rattle.board.specs.Board.{Full}
@@ -106,7 +106,7 @@ module _ (p : Puzzle) (v : Valid p) (cells : List ℕ) where
         }
 
   -- the clauses hold
-  module _ {e : ℕ} (F : Finished (inEdition e p) cells) where
+  module _ {e : ℕ} {sizes : List Range} (F : Finished (leafWith e sizes p) cells) where
     state : (i : ℕ) → i < size (p .grid) → (getD cells i 0 ≡ 0) ⊎ (square cells i ≡ true)
     state i h = go (getD cells i 0) refl (F .decided .each i h)
       where
@@ -241,10 +241,10 @@ module _ (p : Puzzle) (v : Valid p) (cells : List ℕ) where
         first (inl k) = given-holds c k
         first (inr k) = second (List·Memᴰ·append-cases (touchingPart p) k)
 
--- a full board of an accepted record satisfies every clause and the block rules of an edition exactly when it is finished in that edition
-pub sheet-finished : (s : List ℕ) (p : Puzzle) → readRecord s ≡ ok p → (e : ℕ) (cells : List ℕ) → Full (p .grid) cells
-    → (SheetHolds p cells × BlockRules (inEdition e p) cells) ↔ Finished (inEdition e p) cells
-sheet-finished s p reads e cells full =
+-- a full board of an accepted record satisfies every clause and the block rules of an edition, with any sizes, exactly when it is finished in that edition with these sizes
+pub sheet-finished : (s : List ℕ) (p : Puzzle) → readRecord s ≡ ok p → (e : ℕ) (sizes : List Range) (cells : List ℕ) → Full (p .grid) cells
+    → (SheetHolds p cells × BlockRules (leafWith e sizes p) cells) ↔ Finished (leafWith e sizes p) cells
+sheet-finished s p reads e sizes cells full =
     let v = record-valid s reads in (
       λ r. record { decided = full; kept = record { black = holds-black p v cells (r .0); given = holds-given p v cells (r .0) }; rules = r .1; two = holds-two p v cells (r .0) },
       λ F. (sheet-holds p v cells F, F .rules),

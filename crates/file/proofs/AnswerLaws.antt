@@ -2,9 +2,8 @@
 -- Assumes nothing.
 use Prim.Native.Nat.{ℕ, suc, _+_, _*_, _≤_, _<_}
 use native.Mathlib.Omega.{arith}
-use mathlib.Core.Logic.{_⊎_, inl, inr}
 use mathlib.Core.Path.{_≡_, refl, sym, ap, _∙_}
-use mathlib.Core.Bool.{Bool, true, false, cond}
+use mathlib.Core.Bool.{Bool, true, false}
 use mathlib.Core.List.{List, [], _∷_, _++_, append-assoc}
 use lib.Dec.{leb}
 use lib.IntN.{ℤ, pos, negℤ}
@@ -15,7 +14,6 @@ use Rattle.grid.specs.Lists.{arrayOf}
 use Rattle.grid.specs.Grid.{size}
 use Rattle.grid.proofs.ArrayLaws.{array-length, array-take}
 use Rattle.grid.proofs.FilledLaws.{filled-more}
-use Rattle.grid.proofs.ListLaws.{split}
 use Rattle.fields.specs.Fields.{Outcome, ok, refused, _>>=_, unless, bit, number, bytesFor}
 use Rattle.fields.proofs.OutcomeLaws.{bind-ok, unless-ok, ok-eq}
 use Rattle.fields.proofs.ReadLaws.{bind-value, bind-refused}
@@ -25,7 +23,6 @@ use Rattle.record.specs.Problem.{problemOf, puzzleOf}
 use Rattle.record.specs.Head.{Head, readHead}
 use Rattle.record.specs.declared.Problem.{Problem}
 use Rattle.record.specs.declared.Answer.the-variants.{Done, Refused}
-use Rattle.record.proofs.LeafLaws.{edition-is}
 use Rattle.record.proofs.ProblemLaws.{problem-puzzle}
 use Rattle.record.proofs.RecordLaws.{valid-size}
 use Rattle.record.proofs.HeadLaws.{head-bytes, head-valid, head-length}
@@ -35,7 +32,6 @@ use Rattle.finished.specs.Finished.{Finished, finishedTest}
 use Rattle.file.specs.File.{tailOf, cellsIn, tailTest, gradeIn, solutionIn, Graded, Solved, gradedIn, solvedIn, playerBehind, setterBehind, readPlayer, readSetter}
 use Rattle.file.specs.Answers.{playerOf, setterOf}
 use Rattle.file.specs.Call.{Given, toPlayer, toSetter, playerWithin, setterWithin, playerGiven, setterGiven, givenLength, givenBytes}
-use Rattle.file.specs.Inside.{editionOf}
 use Rattle.file.specs.declared.Player.{Player}
 use Rattle.file.specs.declared.Setter.{Setter}
 use Rattle.file.proofs.TailLaws.{solution-length, cell-bit}
@@ -127,41 +123,6 @@ module _ (s : List ℕ) {h : Head} (r : readHead s ≡ ok h) where
 pub solution-more : (s : List ℕ) (n i : ℕ) {x : ℕ} → i < 1024 → x ≡ number s (8 * n + 3 + i) 1 → set (arrayOf 0 (solutionIn (drop n s) i)) i x ≡ arrayOf 0 (solutionIn (drop n s) (i + 1))
 unfolding solutionIn
 solution-more s n i {x} l e = filled-more 0 (λ j. bit (drop n s) (3 + j)) i x l (e ∙ cell-bit s n i)
-
--- ---- the edition
-
-pub edition-other : (e : ℕ) → (e ≡ 1 → ⊥) → (e ≡ 2 → ⊥) → 0 ≡ editionOf e
-unfolding editionOf
-edition-other e a b = go (split (isEdition e))
-  where
-    go : (isEdition e ≡ true) ⊎ (isEdition e ≡ false) → 0 ≡ cond (isEdition e) e 0
-    go (inr f) = rw f refl
-    go (inl t) = out (edition-is e .0 t)
-      where
-        out : (e ≡ 1) ⊎ (e ≡ 2) → 0 ≡ cond (isEdition e) e 0
-        out (inl q) = absurd (a q)
-        out (inr q) = absurd (b q)
-
--- 0 where there is no such edition, and else the edition
-pub no-edition : (e k : ℕ) → k ≡ editionOf e → k ≡ 0 → isEdition e ≡ false
-unfolding editionOf
-no-edition e k q z = go (split (isEdition e))
-  where
-    go : (isEdition e ≡ true) ⊎ (isEdition e ≡ false) → isEdition e ≡ false
-    go (inr f) = f
-    go (inl t) = let m : k ≡ e = q ∙ rw t refl in out m (edition-is e .0 t)
-      where
-        out : k ≡ e → (e ≡ 1) ⊎ (e ≡ 2) → isEdition e ≡ false
-        out m (inl w) = absurd (omega arith)
-        out m (inr w) = absurd (omega arith)
-
-pub an-edition : (e k : ℕ) → k ≡ editionOf e → (k ≡ 0 → ⊥) → (isEdition e ≡ true) × (k ≡ e)
-unfolding editionOf
-an-edition e k q z = go (split (isEdition e))
-  where
-    go : (isEdition e ≡ true) ⊎ (isEdition e ≡ false) → (isEdition e ≡ true) × (k ≡ e)
-    go (inl t) = (t, q ∙ rw t refl)
-    go (inr f) = absurd (z (q ∙ rw f refl))
 
 -- ---- the readers with room for all that they give
 
@@ -330,6 +291,7 @@ unfolding playerGiven setterGiven toPlayer toSetter
 call-agree m n e s {a} {b} q r =
     let x = bind-ok (playerWithin m s) _ q in
     let y = bind-ok (setterWithin n e s) _ r in
-    let g = agree e s (setter-in n s e (y .1) .1) (player-in m s (x .1) .1) in
-    (ap (λ (c : Given). c .length) (sym (ok-eq (x .2))) ∙ ap (λ (c : Graded). c .head .bytes) (sym g) ∙ ap (λ (c : Given). c .length) (ok-eq (y .2)),
-    ap (λ (c : Given). c .bytes) (sym (ok-eq (x .2))) ∙ ap (λ (c : Graded). c .grade ∷ []) (sym g) ∙ ap (λ (c : Given). take 1 (c .bytes)) (ok-eq (y .2)))
+    let g = agree e s (setter-in n s e (y .1) .1) (player-in m s (x .1) .1) in (
+      ap (λ (c : Given). c .length) (sym (ok-eq (x .2))) ∙ ap (λ (c : Graded). c .head .bytes) (sym g) ∙ ap (λ (c : Given). c .length) (ok-eq (y .2)),
+      ap (λ (c : Given). c .bytes) (sym (ok-eq (x .2))) ∙ ap (λ (c : Graded). c .grade ∷ []) (sym g) ∙ ap (λ (c : Given). take 1 (c .bytes)) (ok-eq (y .2)),
+    )

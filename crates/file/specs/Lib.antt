@@ -1,4 +1,3 @@
 pub mod File
 pub mod Answers
 pub mod Call
-pub mod Inside

@@ -1,5 +1,6 @@
 // One file for setter and player: a record, then from the next byte a grade (3 bits), the solution (one bit a cell, row by row) and zero filler.
 // Nothing of the solution reaches the player's answer.
+use call::edition_of;
 use exported::counted;
 use exported::negated;
 use record::Answer;
@@ -16,7 +17,6 @@ ghost use Rattle.exported.specs.Written.{outputWith};
 ghost use Rattle.file.specs.File.{tailTest, gradeIn, solutionIn, readPlayer, readSetter};
 ghost use Rattle.file.specs.Answers.{playerOf, setterOf};
 ghost use Rattle.file.specs.Call.{playerWithin, setterWithin, playerGiven, setterGiven, givenLength, givenBytes};
-ghost use Rattle.file.specs.Inside.{editionOf};
 
 // The answer of the player's reader: where it is Done the record's length in bytes and the grade, and zeros where it is not.
 pub struct Player {
@@ -122,17 +122,6 @@ fn player_within(file: &[u8], room: usize) -> Player
     }
 }
 
-// An edition as the rules take it, and 0 for one that is not 1 or 2.
-fn edition_of(edition: u32) -> u8
-    ensures { λ r. ⌜ r ≡ editionOf edition ⌝ }
-{
-    match edition {
-        1 => 1,
-        2 => 2,
-        _ => 0,
-    }
-}
-
 // The setter's reader behind the record of a problem, for an output of `room` bytes: 11, then 20, 16, 21.
 fn setter_behind(problem: Problem, file: &[u8], edition: u32, room: usize) -> Setter
     requires { ⌜ ((h : Head) × (readHead (now file) ≡ ok h) × (problem ≡ problemOf (h .puzzle))) ⌝ }
@@ -154,6 +143,8 @@ fn setter_behind(problem: Problem, file: &[u8], edition: u32, room: usize) -> Se
     read_solution(file, length, n, &mut cells);
     let yes = finished::is_finished(
         e,
+        &[],
+        &[],
         &problem.cells,
         &cells,
         &problem.arrows,

@@ -3,7 +3,7 @@
 use Prim.Native.Nat.{ℕ}
 use mathlib.Core.Bool.{Bool, true, not}
 use mathlib.Core.Path.{_≡_, sym, ap, subst, _∙_}
-use mathlib.Core.List.{List}
+use mathlib.Core.List.{List, []}
 use lib.Dec.{eqb}
 use Rattle.record.specs.Problem.{numberOf}
 use Rattle.board.specs.Kept.{openOf}
@@ -37,9 +37,9 @@ module _ {v : Verdict} (n : ℕ) where
 pub verdict-told : {v w : Verdict} {n m : ℕ} {r : Bool} → v ≡ w → n ≡ m → DiffersUnless r (VerdictSo v n) → DiffersUnless r (VerdictSo w m)
 verdict-told e f d = rw (← e, ← f) d
 
-module _ (s : List ℕ) (edition : ℕ) (decisions list : List ℕ) (at count : ℕ) (o : Opened) (e : o ≡ openOf s edition) (d : Decided) (f : d ≡ decideAllOf (o .board) decisions) where
+module _ (s : List ℕ) (edition : ℕ) (decisions list : List ℕ) (at count : ℕ) (o : Opened) (e : o ≡ openOf s edition []) (d : Decided) (f : d ≡ decideAllOf (o .board) decisions) where
   -- what the decisions leave
-  made : d ≡ decideAllOf (openOf s edition .board) decisions
+  made : d ≡ decideAllOf (openOf s edition [] .board) decisions
   made = f ∙ ap (λ (p : Opened). decideAllOf (p .board) decisions) e
 
   -- decisions that are refused
@@ -58,5 +58,5 @@ module _ (s : List ℕ) (edition : ℕ) (decisions list : List ℕ) (at count : 
   )
 
 -- a record that is refused
-pub not-opened : (s : List ℕ) (edition : ℕ) (decisions list : List ℕ) (at count : ℕ) (o : Opened) → o ≡ openOf s edition → (k : ℕ) → k ≡ numberOf (o .answer) → (k ≡ 0 → ⊥) → EntrySo s edition decisions list at count → ⊥
+pub not-opened : (s : List ℕ) (edition : ℕ) (decisions list : List ℕ) (at count : ℕ) (o : Opened) → o ≡ openOf s edition [] → (k : ℕ) → k ≡ numberOf (o .answer) → (k ≡ 0 → ⊥) → EntrySo s edition decisions list at count → ⊥
 not-opened s edition decisions list at count o e k n z x = z (n ∙ (ap (λ (p : Opened). numberOf (p .answer)) e ∙ x .opens))

@@ -2,7 +2,7 @@
 -- Assumes nothing.
 use Prim.Native.Nat.{ℕ, _+_, _*_}
 use mathlib.Core.Path.{_≡_}
-use mathlib.Core.List.{List}
+use mathlib.Core.List.{List, []}
 use lib.ListN.{getD}
 use Rattle.record.specs.Problem.{numberOf}
 use Rattle.board.specs.Kept.{openOf}
@@ -24,8 +24,8 @@ VerdictSo (Refused k) n = ⊥
 abbrev pub BoardSo : Board → List ℕ → ℕ → ℕ → Type 0
 BoardSo b list at count = FindsSo b 0 4096 0 count (numberIn list at count 65535) × VerdictSo (finishedOf b) (getD list (at + 2 * count) 0)
 
--- a record opens a board in an edition, the decisions are taken on it, and then the board is as the list says
+-- a record opens a board in an edition, without sizes, the decisions are taken on it, and then the board is as the list says
 pub record EntrySo (s : List ℕ) (e : ℕ) (decisions list : List ℕ) (at count : ℕ) : Type 0 where
-  pub opens : numberOf (openOf s e .answer) ≡ 0
-  pub decides : numberOf (decideAllOf (openOf s e .board) decisions .answer) ≡ 0
-  pub answers : BoardSo (decideAllOf (openOf s e .board) decisions .board) list at count
+  pub opens : numberOf (openOf s e [] .answer) ≡ 0
+  pub decides : numberOf (decideAllOf (openOf s e [] .board) decisions .answer) ≡ 0
+  pub answers : BoardSo (decideAllOf (openOf s e [] .board) decisions .board) list at count

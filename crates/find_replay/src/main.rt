@@ -39,7 +39,7 @@ fn board_differs(list: &[u8], rounds: usize, at: usize, count: usize, board: Boa
         )
 }
 
-// Whether the board of a record in an edition with these decisions is refused, or differs from the list from `at` on.
+// Whether the board of a record in an edition, without sizes, with these decisions is refused, or differs from the list from `at` on.
 fn entry_differs(
     list: &[u8],
     rounds: usize,
@@ -52,7 +52,7 @@ fn entry_differs(
     requires { ⌜ at + 2 * count < length (now list) ⌝ }
     ensures { λ r. ⌜ DiffersUnless r (EntrySo (now («record» .entry)) edition (now (decisions .entry)) (now (list .entry)) at count) ⌝ }
 {
-    let o = Board::open(record, edition);
+    let o = Board::open(record, edition, &[]);
     let answer = o.answer;
     let fresh = o.board;
     if replay::number(answer) != 0 {

@@ -102,7 +102,7 @@ module _ (l : Leaf) (v : Valid (l .puzzle)) (cells : List ℕ) (long : length ce
       record {
         decided = record { long = long; each = λ i h. k i h .decided };
         kept = record { black = λ i h. k i h .black; given = λ i h. k i h .given };
-        rules = test-rules (l .puzzle) cells long (l .edition) (s .1);
+        rules = test-rules (l .puzzle) cells long (l .edition) (l .sizes) (s .1);
         two = λ a m. test-two cells a (arrow-distinct (v .arrows) a m) (all-mem (twoSquares cells) (l .puzzle .arrows) (r .1) a m);
       }
 
@@ -111,7 +111,7 @@ module _ (l : Leaf) (v : Valid (l .puzzle)) (cells : List ℕ) (long : length ce
   finished-test f =
       true-and
       (true-and (mem-all at (upto (size (l .puzzle .grid))) each) (mem-all (twoSquares cells) (l .puzzle .arrows) (λ a m. two-test cells a (f .two a m))))
-      (rules-test (l .puzzle) cells long (l .edition) (f .rules))
+      (rules-test (l .puzzle) cells long (l .edition) (l .sizes) (f .rules))
     where
       each : (i : ℕ) → List·Memᴰ i (upto (size (l .puzzle .grid))) → So (keeps (getD (l .puzzle .given) i 0) (getD cells i 0))
       each i m =

@@ -15,6 +15,7 @@ use Rattle.grid.specs.Link.{here}
 use Rattle.grid.specs.Grid.{size}
 use Rattle.grid.specs.Cells.{square}
 use Rattle.record.specs.Record.{ok}
+use Rattle.grid.proofs.CellLaws.{square-below}
 use Rattle.record.specs.Leaf.{Leaf, leafOf}
 use Rattle.record.specs.Valid.{ValidArrows}
 use Rattle.record.proofs.LineLaws.{valid-arrows}
@@ -40,12 +41,12 @@ module _ (l : Leaf) (lines : ValidArrows (l .puzzle .grid) (l .puzzle .arrows)) 
   blocks-squares : TwoBlocks (l .puzzle) cells a → TwoSquares cells a
   blocks-squares t = record { first = t .first; second = t .second; on = t .on; squares = t .squares; apart = λ e. t .apart (rw (← e) (here (t .squares .0))) }
 
--- a full board of an accepted record is finished in its edition exactly when black and given cells are kept, the block rules hold and each arrow passes two
+-- a full board of an accepted record is finished in its edition, with its sizes, exactly when black and given cells are kept, the block rules hold and each arrow passes two
 -- different blocks or more
-pub finished-blocks : (s : List ℕ) (e : ℕ) (l : Leaf) → leafOf s e ≡ ok l → (cells : List ℕ) → Full (l .puzzle .grid) cells
+pub finished-blocks : (s : List ℕ) (e : ℕ) (ns : List ℕ) (l : Leaf) → leafOf s e ns ≡ ok l → (cells : List ℕ) → Full (l .puzzle .grid) cells
     → Finished l cells ↔ (KeepsGiven (l .puzzle) cells × BlockRules l cells × ((a : List ℕ) → List·Memᴰ a (l .puzzle .arrows) → TwoBlocks (l .puzzle) cells a))
-finished-blocks s e l k cells full =
-    let lines = valid-arrows (l .puzzle) (leaf-valid s e k .puzzle) in (
+finished-blocks s e ns l k cells full =
+    let lines = valid-arrows (l .puzzle) (leaf-valid s e ns k .puzzle) in (
       λ f. (f .kept, f .rules, λ a m. squares-blocks l lines cells (f .rules) a m (f .two a m)),
       λ w. record { decided = full; kept = w .0; rules = w .1; two = λ a m. blocks-squares l lines cells (w .1) a m (w .2 a m) },
     )
@@ -77,6 +78,7 @@ no-arrow l e cells full = (
     rules = record {
       one = λ i h q. absurd (omega (arith, w .0 i h, eqb-true (getD cells i 0) 1 q));
       grown = λ i j n. absurd (List·Memᴰ·not-nil (rw e at (n .arrow)));
+      sized = λ r m q. absurd (omega (arith, w .0 (r .cell) (omega (arith, square-below cells (r .cell) q, full .long)), eqb-true (getD cells (r .cell) 0) 1 q));
     };
     two = λ a m. absurd (List·Memᴰ·not-nil (rw e at m));
   },

@@ -19,12 +19,14 @@ use Rattle.grid.proofs.ListLaws.{and-true, all-mem, mem-upto, upto-mem, so-fals
 use Rattle.grid.proofs.AppendLaws.{all-agree, filter-agree}
 use Rattle.grid.proofs.CellLaws.{square-taken}
 use Rattle.grid.proofs.GridLaws.{size-most}
-use Rattle.record.specs.Leaf.{Leaf, inEdition}
+use Rattle.record.specs.Leaf.{Range, Leaf, leafWith}
+use Rattle.record.specs.Sizes.{GoodSizes}
 use Rattle.record.specs.Problem.{puzzleOf, gridOf}
 use Rattle.record.specs.declared.Problem.{Problem}
 use Rattle.record.proofs.LineLaws.{valid-arrows}
 use Rattle.form.proofs.ProblemForm.{Formed, formed-valid}
 use Rattle.board.specs.Form.{wellFormed}
+use Rattle.board.specs.Kept.{sizesOn}
 use Rattle.board.specs.declared.Board.{Board}
 use Rattle.board.proofs.BoardForm.{whole-is}
 use Rattle.groups.specs.Arrays.{linesOf}
@@ -51,10 +53,10 @@ module _ (q : Problem) (f : Formed q) where
   unfolding size gridOf
   few = size-most (gridOf q) (f .sizes .high .0) (f .sizes .high .1)
 
-  module _ (edition : ℕ) (states : List ℕ) (room : length states ≡ 1024) where
+  module _ (edition : ℕ) (sizes : List Range) (states : List ℕ) (room : length states ≡ 1024) where
     -- what the rules read
     abbrev leaf : Leaf
-    leaf = inEdition edition (puzzleOf q)
+    leaf = leafWith edition sizes (puzzleOf q)
 
     -- the states of the cells of the grid
     abbrev cells : List ℕ
@@ -98,7 +100,7 @@ module _ (q : Problem) (f : Formed q) where
     fails-before k = rw (sym but-rules ∙ k) refl
 
     -- all but the block rules holds
-    module _ (k : onArrays ≡ true) where
+    module _ (good : GoodSizes (puzzleOf q) sizes) (k : onArrays ≡ true) where
       each : (i : ℕ) → getD cells i 0 ≤ 1
       each i = go (decLt i (size (puzzleOf q .grid)))
         where
@@ -122,7 +124,7 @@ module _ (q : Problem) (f : Formed q) where
       -- there is no reason exactly when the block rules hold
       rules : (findReason leaf cells ≡ none) ↔ BlockRules leaf cells
       unfolding undecided setting
-      rules = complete edition setting (λ c u. omega (arith, eqb-true (getD cells c 0) 2 u, each c))
+      rules = complete edition sizes setting good (λ c u. omega (arith, eqb-true (getD cells c 0) 2 u, each c))
 
       -- the verdict is that of the block rules
       by-rules : (t : Bool) → rulesTest leaf cells ≡ t → t ≡ finishedTest leaf cells
@@ -132,28 +134,28 @@ module _ (q : Problem) (f : Formed q) where
       by-reason : (r : Found) → findReason leaf cells ≡ r → (findingBy 0 r ≡ Nothing → true ≡ finishedTest leaf cells) × ((m : ℕ) → findingBy 0 r ≡ Reason m → false ≡ finishedTest leaf cells)
       unfolding findingBy
       by-reason none e = (
-        λ _. by-rules true (rules-test (puzzleOf q) cells long edition (rules .0 e)),
+        λ _. by-rules true (rules-test (puzzleOf q) cells long edition sizes (rules .0 e)),
         λ m x. let z : _≡_ {A = ℕ} 0 1 = cc in absurd (omega arith),
       )
       by-reason (some r) e = (
         λ x. let z : _≡_ {A = ℕ} 0 1 = cc in absurd (omega arith),
-        λ m _. by-rules false (so-false (rulesTest leaf cells) (λ t. clash (rules .1 (test-rules (puzzleOf q) cells long edition t)))),
+        λ m _. by-rules false (so-false (rulesTest leaf cells) (λ t. clash (rules .1 (test-rules (puzzleOf q) cells long edition sizes t)))),
       )
         where
           clash : findReason leaf cells ≡ none → ⊥
           clash n = let z : _≡_ {A = ℕ} 0 1 = cc in omega arith
 
       -- the reason is looked for by the grid and the arrows alone
-      same : findReason (inEdition edition (puzzleWith (sized (q .height) (q .width)) (linesOf (q .arrows) (q .ends) (q .count)))) cells ≡ findReason leaf cells
+      same : findReason (leafWith edition sizes (puzzleWith (sized (q .height) (q .width)) (linesOf (q .arrows) (q .ends) (q .count)))) cells ≡ findReason leaf cells
       unfolding puzzleOf gridOf
-      same = codes-aside edition (puzzleOf q) cells
+      same = codes-aside leaf cells
 
       -- what the search for it on the arrays tells
-      pub no-reason : {before after : List ℕ} → FoundAs (findReason (inEdition edition (puzzleWith (sized (q .height) (q .width)) (linesOf (q .arrows) (q .ends) (q .count)))) cells) before after Nothing
+      pub no-reason : {before after : List ℕ} → FoundAs (findReason (leafWith edition sizes (puzzleWith (sized (q .height) (q .width)) (linesOf (q .arrows) (q .ends) (q .count)))) cells) before after Nothing
           → true ≡ finishedTest leaf cells
       no-reason x = by-reason (findReason leaf cells) refl .0 (rw same at (sym (x .answer)))
 
-      pub some-reason : {before after : List ℕ} {m : ℕ} → FoundAs (findReason (inEdition edition (puzzleWith (sized (q .height) (q .width)) (linesOf (q .arrows) (q .ends) (q .count)))) cells) before after (Reason m)
+      pub some-reason : {before after : List ℕ} {m : ℕ} → FoundAs (findReason (leafWith edition sizes (puzzleWith (sized (q .height) (q .width)) (linesOf (q .arrows) (q .ends) (q .count)))) cells) before after (Reason m)
           → false ≡ finishedTest leaf cells
       some-reason {m} x = by-reason (findReason leaf cells) refl .1 m (rw same at (sym (x .answer)))
 
@@ -171,9 +173,9 @@ finished-by b h t e = rw (h, ← e) refl
 
 -- `finished` says yes of a well-formed board exactly when it is finished
 pub finished-exact : (b : Board) → wellFormed b ≡ true → (finishedOf b ≡ verdicts.Yes) ↔ Finished (leafOn b) (cellsOn b)
-unfolding finishedOf
+unfolding finishedOf leafOn
 finished-exact b h =
-    let m = finished-means (leafOn b) (formed-valid (b .problem) (whole-is b h .problem)) (cellsOn b) (unfold cellsOn gridOf size in long (b .problem) (whole-is b h .problem) (b .edition) (b .cells) (whole-is b h .cells-long)) in
+    let m = finished-means (leafOn b) (formed-valid (b .problem) (whole-is b h .problem)) (cellsOn b) (unfold cellsOn gridOf size in long (b .problem) (whole-is b h .problem) (b .edition) (sizesOn b) (b .cells) (whole-is b h .cells-long)) in
     (λ e. m .0 (yes-passes (finishedTest (leafOn b) (cellsOn b)) (rw h at e)), λ f. rw (h, m .1 f) (unfold verdict in refl))
   where
     yes-passes : (t : Bool) → verdict t ≡ verdicts.Yes → t ≡ true

@@ -8,7 +8,9 @@ ghost use lib.ListN.{length, take};
 ghost use lib.Seq.{slice};
 ghost use Rattle.grid.specs.Lists.{all, filter};
 ghost use Rattle.grid.specs.Cells.{square};
-ghost use Rattle.record.specs.Leaf.{inEdition};
+ghost use Rattle.record.specs.Leaf.{leafWith};
+ghost use Rattle.record.specs.Sizes.{keptRanges};
+ghost use Rattle.sized.specs.Inside.{SizesOn};
 ghost use Rattle.record.specs.Problem.{puzzleOf};
 ghost use Rattle.form.specs.Form.{problemFormed};
 ghost use Rattle.groups.specs.Arrays.{CellArray, linesOf, Drawn};
@@ -106,10 +108,13 @@ pub fn all_but_rules<'a>(
     kept & two
 }
 
-// Whether a board is finished in an edition, on the arrays of a record that is known to be accepted and the states of its cells. On a board whose
-// cells are all decided the block rules hold exactly when there is no reason against it.
+// Whether a board is finished in an edition, on the arrays of a record that is known to be accepted and the states of its cells, with the
+// lowest and the highest size of each cell; a board without sizes lends empty slices. On a board whose cells are all decided the block rules
+// hold exactly when there is no reason against it.
 pub fn is_finished<'a>(
     edition: u8,
+    lowest: &'a [u16],
+    highest: &'a [u16],
     codes: &'a [u8; 1024],
     cells: &'a [u8; 1024],
     arrows: &'a [u16; 1024],
@@ -118,8 +123,9 @@ pub fn is_finished<'a>(
     h: usize,
     w: usize,
 ) -> bool
-    requires { ⌜ (edition ≡ 0 → ⊥) × (length (now cells) ≡ 1024) × (problemFormed (problemOn h w (now codes) (now arrows) (now ends) number) ≡ true) ⌝ }
-    ensures { λ r. ⌜ r ≡ finishedTest (inEdition edition (puzzleOf (problemOn h w (now (codes .entry)) (now (arrows .entry)) (now (ends .entry)) number))) (take (h * w) (now (cells .entry))) ⌝ }
+    requires { ⌜ (edition ≡ 0 → ⊥) × (length (now cells) ≡ 1024) × (problemFormed (problemOn h w (now codes) (now arrows) (now ends) number) ≡ true)
+        × SizesOn (h * w) (linesOf (now arrows) (now ends) number) (now lowest) (now highest) ⌝ }
+    ensures { λ r. ⌜ r ≡ finishedTest (leafWith edition (keptRanges (now (lowest .entry)) (now (highest .entry)) (length (now (lowest .entry)))) (puzzleOf (problemOn h w (now (codes .entry)) (now (arrows .entry)) (now (ends .entry)) number))) (take (h * w) (now (cells .entry))) ⌝ }
 {
     if !all_but_rules(codes, cells, arrows, ends, number, h * w) {
         return false;
@@ -127,6 +133,8 @@ pub fn is_finished<'a>(
     let mut buffer = reasons::no_literals();
     let found = inconsistency::find_inconsistency(
         edition,
+        lowest,
+        highest,
         cells,
         arrows,
         ends,
@@ -150,15 +158,20 @@ pub fn finished(board: Board) -> Verdict
     if !board.well_formed() {
         return Verdict::Refused(6);
     }
+    let height = board.problem.height;
+    let width = board.problem.width;
+    let n = reasons::lent_sizes(&board.lowest, height * width);
     let yes = is_finished(
         board.edition,
+        reasons::first_sizes(&board.lowest, n),
+        reasons::first_sizes(&board.highest, n),
         &board.problem.cells,
         &board.cells,
         &board.problem.arrows,
         &board.problem.ends,
         board.problem.count,
-        board.problem.height,
-        board.problem.width,
+        height,
+        width,
     );
     if yes {
         return Verdict::Yes;

@@ -289,7 +289,7 @@ module _ (q : Problem) (f : Formed q) where
 -- ---- and the other way round
 
 module _ (p : Puzzle) (v : Valid p) where
-  few-cells : length (arrowCells (p .arrows)) ≤ 1024
+  pub few-cells : length (arrowCells (p .arrows)) ≤ 1024
   unfolding arrowCells
   few-cells = omega (arith, arrows-length p v, valid-size v)
 
@@ -301,6 +301,10 @@ module _ (p : Puzzle) (v : Valid p) where
 
   pub last-end : last 0 (endsFrom 0 (p .arrows)) ≡ length (arrowCells (p .arrows))
   last-end = ends-last 0 (p .arrows) ∙ omega arith
+
+  -- the line up to the last end
+  pub line-taken : take (last 0 (take (length (p .arrows)) (arrayOf 0 (endsFrom 0 (p .arrows))))) (arrayOf 0 (arrowCells (p .arrows))) ≡ arrowCells (p .arrows)
+  line-taken = rw (ends-taken, last-end) (array-take 0 (arrowCells (p .arrows)))
 
   cells-taken : take (size (p .grid)) (arrayOf 0 (p .given)) ≡ p .given
   cells-taken = rw (← v .total) (array-take 0 (p .given))

@@ -8,20 +8,13 @@ use mathlib.Core.Bool.{Bool, true, false, cond, false≢true, So}
 use mathlib.Core.List.{List, [], _∷_, _++_, append-assoc, append-nil, List·Memᴰ, List·Memᴰ·append-cases, List·Memᴰ·head, List·Memᴰ·tail, List·Memᴰ·not-nil, List·Memᴰ·eq-of-singleton}
 use lib.ListN.{length, getD, take, drop, length-append, length-take, length-drop, List·getD-append}
 use lib.Seq.{getD-append-seam, getD-append-add, split-at, getD-take, getD-drop}
-use Rattle.grid.specs.Lists.{member, init, tail}
-use Rattle.grid.proofs.ListLaws.{dec-so, so-false, any-mem, mem-any, member-mem, mem-member, mem-at, at-mem, length-init, length-tail, getD-init, getD-tail}
+use Rattle.grid.specs.Lists.{init, tail}
+use Rattle.grid.proofs.ListLaws.{dec-so, so-false, mem-at, at-mem, length-init, length-tail, getD-init, getD-tail}
 use Rattle.grid.specs.Cells.{square}
+pub use Rattle.record.proofs.SizesLaws.{arrow-so, so-arrow}
 use Rattle.groups.specs.Arrows.{OnArrow, onArrow, Pair, pairsFrom, pairs, Parted, posLast, posCur}
 
--- the test finds the arrow cells, and no others
-pub arrow-so : (arrows : List (List ℕ)) (i : ℕ) → So (onArrow arrows i) → OnArrow arrows i
-unfolding onArrow
-arrow-so arrows i h = let r = any-mem (member i) arrows h in (r .0, r .1, member-mem i (r .0) (r .2))
-
-pub so-arrow : (arrows : List (List ℕ)) (i : ℕ) → OnArrow arrows i → So (onArrow arrows i)
-unfolding onArrow
-so-arrow arrows i (a, m, n) = mem-any (member i) arrows m (mem-member i a n)
-
+-- a cell is an arrow cell, or it is none
 pub dec-arrow : (arrows : List (List ℕ)) (i : ℕ) → Dec (OnArrow arrows i)
 dec-arrow arrows i = go (dec-so (onArrow arrows i))
   where

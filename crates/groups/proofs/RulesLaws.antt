@@ -3,13 +3,13 @@
 use mathlib.Core.Bool.{So, Bool, true, false, cond, _&&_}
 use Prim.Native.Nat.{ℕ, suc, _+_, _≤_, _<_}
 use native.Mathlib.Omega.{arith}
-use mathlib.Core.Path.{_≡_, refl}
+use mathlib.Core.Path.{_≡_, refl, sym}
 use mathlib.Core.List.{List, _∷_, _++_, List·Memᴰ}
-use lib.Dec.{eqb, ltb}
+use lib.Dec.{eqb, leb, ltb}
 use lib.ListN.{length, getD}
-use borrow.Author.Tests.{eqb-true, eq-eqb, eqb-false, ltb-true, lt-ltb}
+use borrow.Author.Tests.{eqb-true, eq-eqb, eqb-false, ltb-true, lt-ltb, leb-true, le-leb}
 use Rattle.grid.specs.Count.{count}
-use Rattle.grid.proofs.Count.{length-filter}
+use Rattle.grid.proofs.Count.{length-filter, count-iff}
 use Rattle.grid.proofs.Finite.{dec-linked}
 use Rattle.grid.specs.Grid.{Adjacent, Grid, size, cellsOf}
 use Rattle.grid.proofs.GridLaws.{dec-adjacent}
@@ -23,8 +23,8 @@ use Rattle.groups.proofs.GroupLaws.{group-distinct, label-own, group-li
 use Rattle.groups.proofs.Shift.{contains-map, contains-fits, fits-contains, grown-more, grown-most, size-grown}
 use Rattle.groups.specs.Groups.{labels, group, names}
 use Rattle.groups.specs.Arrows.{onArrow, Pair, pairs}
-use Rattle.record.specs.Leaf.{inEdition}
-use Rattle.groups.specs.Rules.{fits, SameBlock, OneArrowCell, Grown, Next, BlockRules, oneTest, moreTest, grownTest, rulesTest, Below, taking}
+use Rattle.record.specs.Leaf.{Range, leafWith}
+use Rattle.groups.specs.Rules.{fits, SameBlock, OneArrowCell, Grown, Next, InRange, BlockRules, oneTest, moreTest, grownTest, sizedTest, rulesTest, Below, taking}
 use Rattle.groups.proofs.ArrowLaws.{arrow-so, so-arrow, pairs-parted, parted-pairs}
 
 -- what the test of two sizes means
@@ -121,16 +121,41 @@ module _ (p : Puzzle) (cells : List ℕ) (n : length cells ≡ size (p .grid)) w
       (parted-pairs cells (c .before ++ (i ∷ (c .between ++ (j ∷ c .behind)))) (record { last = i; between = c .between; cur = j })
       (record { before = c .before; behind = c .behind; whole = refl; first = c .first; second = c .second; none = c .none }))
 
-  module _ (e : ℕ) where
+  sized-test : (r : Range) → (square cells (r .cell) ≡ true → InRange p cells r) → sizedTest p cells lab r ≡ true
+  unfolding sizedTest blockOf
+  sized-test r f = go (square cells (r .cell)) refl
+    where
+      go : (t : Bool) → square cells (r .cell) ≡ t → cond t (leb (r .lowest) (length (blockOf (r .cell))) && leb (length (blockOf (r .cell))) (r .highest)) true ≡ true
+      go true h =
+          let w = f h in
+          let z = count-iff (dec-block (r .cell)) (w .block-size .0) (size g) (λ i _ k. k) (λ i _ k. k) in
+          true-and (le-leb (r .lowest) (length (blockOf (r .cell))) (omega (arith, w .least, w .block-size .1, z, block-size (r .cell) h)))
+          (le-leb (length (blockOf (r .cell))) (r .highest) (omega (arith, w .most, w .block-size .1, z, block-size (r .cell) h)))
+      go false h = refl
+
+  test-sized : (r : Range) → sizedTest p cells lab r ≡ true → square cells (r .cell) ≡ true → InRange p cells r
+  unfolding sizedTest blockOf
+  test-sized r t h =
+      let k = and-true (leb (r .lowest) (length (blockOf (r .cell)))) (leb (length (blockOf (r .cell))) (r .highest)) (rw h at t) in
+      record {
+        counted = length (blockOf (r .cell));
+        block-size = (dec-block (r .cell), sym (block-size (r .cell) h));
+        least = leb-true (r .lowest) (length (blockOf (r .cell))) (k .0);
+        most = leb-true (length (blockOf (r .cell))) (r .highest) (k .1);
+      }
+
+  module _ (e : ℕ) (sizes : List Range) where
     larger : (i j : ℕ) → So (square cells i) → So (square cells j) → Grown e g (SameBlock g cells i) (SameBlock g cells j) → moreTest e (length (blockOf i)) (length (blockOf j)) ≡ true
     larger i j si sj r = so-more e (length (blockOf i)) (length (blockOf j))
         (omega (arith, block-size i si, block-size j sj, grown-more g (dec-block i) (dec-block j) (below i) (below j) r))
         (λ h. omega (arith, block-size i si, block-size j sj, grown-most g (dec-block i) (dec-block j) (below i) (below j) h r))
 
     -- where the rules hold the test passes
-    pub rules-test : BlockRules (inEdition e p) cells → rulesTest (inEdition e p) cells ≡ true
+    pub rules-test : BlockRules (leafWith e sizes p) cells → rulesTest (leafWith e sizes p) cells ≡ true
     unfolding rulesTest lab grownTest blockOf
-    rules-test c = true-and (mem-all (oneTest p cells lab) (names g (square cells) lab) one) (mem-all (grownTest p cells e lab) (flatMap (pairs cells) arrows) grow)
+    rules-test c =
+        true-and (true-and (mem-all (oneTest p cells lab) (names g (square cells) lab) one) (mem-all (grownTest p cells e lab) (flatMap (pairs cells) arrows) grow))
+        (mem-all (sizedTest p cells lab) sizes (λ r m. sized-test r (c .sized r m)))
       where
         one : (f : ℕ) → List·Memᴰ f (names g (square cells) lab) → oneTest p cells lab f ≡ true
         one f m =
@@ -148,13 +173,15 @@ module _ (p : Puzzle) (cells : List ℕ) (n : length cells ≡ size (p .grid)) w
             (λ x. in-block (k .last) x (q .first)) (λ x. block-in (k .cur) x (q .second)) (r .copy)))
 
     -- where the test passes the rules hold
-    pub test-rules : rulesTest (inEdition e p) cells ≡ true → BlockRules (inEdition e p) cells
+    pub test-rules : rulesTest (leafWith e sizes p) cells ≡ true → BlockRules (leafWith e sizes p) cells
     unfolding rulesTest lab grownTest blockOf
     test-rules t =
-        let s = and-true (all (oneTest p cells lab) (names g (square cells) lab)) (all (grownTest p cells e lab) (flatMap (pairs cells) arrows)) t in
+        let z = and-true (all (oneTest p cells lab) (names g (square cells) lab) && all (grownTest p cells e lab) (flatMap (pairs cells) arrows)) (all (sizedTest p cells lab) sizes) t in
+        let s = and-true (all (oneTest p cells lab) (names g (square cells) lab)) (all (grownTest p cells e lab) (flatMap (pairs cells) arrows)) (z .0) in
         record {
           one = λ i h q. test-one i q (all-mem (oneTest p cells lab) (names g (square cells) lab) (s .0) (getD lab i 0) (own-names g (square cells) i h q));
           grown = λ i j c. grow i j c (all-mem (grownTest p cells e lab) (flatMap (pairs cells) arrows) (s .1) (record { last = i; between = c .between; cur = j }) (pair-next i j c));
+          sized = λ r m. test-sized r (all-mem (sizedTest p cells lab) sizes (z .1) r m);
         }
       where
         grow : (i j : ℕ) (c : Next p cells i j) → grownTest p cells e lab (record { last = i; between = c .between; cur = j }) ≡ true → Grown e g (SameBlock g cells i) (SameBlock g cells j)

@@ -2,19 +2,12 @@
 -- Assumes nothing.
 use Prim.Native.Nat.{ℕ, suc, _+_}
 use mathlib.Core.Path.{_≡_}
-use mathlib.Core.Bool.{Bool, true, false, cond}
+use mathlib.Core.Bool.{true, false, cond}
 use mathlib.Core.List.{List, [], _∷_, _++_, List·Memᴰ}
 use lib.ListN.{length}
-use Rattle.grid.specs.Lists.{any, member}
 use Rattle.grid.specs.Cells.{square}
-
--- i is an arrow cell: a cell of some arrow
-abbrev pub OnArrow : List (List ℕ) → ℕ → Type 0
-OnArrow arrows i = (a : List ℕ) × List·Memᴰ a arrows × List·Memᴰ i a
-
--- the same as a test
-unfoldable pub onArrow : List (List ℕ) → ℕ → Bool
-onArrow arrows i = any (member i) arrows
+pub use Rattle.record.specs.Arrows.{OnArrow}
+unfoldable pub use Rattle.record.specs.Arrows.{onArrow}
 
 -- two squares of an arrow with none between them
 pub record Pair : Type 0 where

@@ -1,15 +1,16 @@
--- The block rules of a fully decided board, in an edition: 1, or 2 for free growth.
+-- The block rules of a fully decided board, in an edition: 1, or 2 for free growth; and with sizes.
 -- Assumes nothing.
-use Prim.Native.Nat.{ℕ, _+_, _<_}
+use Prim.Native.Nat.{ℕ, _+_, _≤_, _<_}
 use mathlib.Core.Path.{_≡_}
 use mathlib.Core.Bool.{Bool, true, false, cond, _&&_}
 use mathlib.Core.List.{List, _∷_, _++_, List·Memᴰ}
-use lib.Dec.{eqb, ltb}
+use lib.Dec.{eqb, leb, ltb}
 use lib.ListN.{length, getD}
 use Rattle.grid.specs.Lists.{any, all, filter, flatMap}
+use Rattle.grid.specs.Count.{HowMany}
 use Rattle.grid.specs.Grid.{Grid, size, row, col}
 use Rattle.record.specs.Record.{Puzzle}
-use Rattle.record.specs.Leaf.{Leaf}
+use Rattle.record.specs.Leaf.{Range, Leaf}
 use Rattle.grid.specs.Cells.{square}
 use Rattle.grid.specs.Side.{lands}
 use Rattle.groups.specs.Groups.{Joined, labels, group, names}
@@ -59,6 +60,13 @@ module _ (p : Puzzle) (cells : List ℕ) where
     pub second : square cells j ≡ true
     pub none : (k : ℕ) → List·Memᴰ k between → square cells k ≡ false
 
+  -- the size of the block of a sized cell lies in its range, ends included
+  pub record InRange (r : Range) : Type 0 where
+    pub counted : ℕ
+    pub block-size : HowMany (SameBlock (p .grid) cells (r .cell)) (size (p .grid)) counted
+    pub least : r .lowest ≤ counted
+    pub most : counted ≤ r .highest
+
 module _ (l : Leaf) (cells : List ℕ) where
   -- the block rules, for a fully decided board
   pub record BlockRules : Type 0 where
@@ -67,6 +75,8 @@ module _ (l : Leaf) (cells : List ℕ) where
     -- for two squares on one arrow with none between them, the later cell's block is the earlier cell's block, grown
     pub grown : (i j : ℕ) → Next (l .puzzle) cells i j
         → Grown (l .edition) (l .puzzle .grid) (SameBlock (l .puzzle .grid) cells i) (SameBlock (l .puzzle .grid) cells j)
+    -- if a sized cell is square, its block's size lies in its range
+    pub sized : (r : Range) → List·Memᴰ r (l .sizes) → square cells (r .cell) ≡ true → InRange (l .puzzle) cells r
 
 -- shifts of sets: what the tests below mean
 
@@ -105,9 +115,16 @@ module _ (p : Puzzle) (cells : List ℕ) where
       let c = group (p .grid) (square cells) l (getD l (pair .cur) 0) in
       moreTest e (length b) (length c) && any (fits (p .grid) b c f) c
 
+  -- if the cell of a range is square, its block's size lies in the range
+  unfoldable pub sizedTest : List ℕ → Range → Bool
+  sizedTest l r =
+      let n = length (group (p .grid) (square cells) l (getD l (r .cell) 0)) in
+      cond (square cells (r .cell)) (leb (r .lowest) n && leb n (r .highest)) true
+
 -- the block rules, computed
 unfoldable pub rulesTest : Leaf → List ℕ → Bool
 rulesTest l cells =
     let p = l .puzzle in
     let f = labels (p .grid) (square cells) in
     all (oneTest p cells f) (names (p .grid) (square cells) f) && all (grownTest p cells (l .edition) f) (flatMap (pairs cells) (p .arrows))
+    && all (sizedTest p cells f) (l .sizes)

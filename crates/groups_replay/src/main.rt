@@ -219,7 +219,7 @@ fn run_board(list: &[u8], rounds: Rounds, at: usize, b: Board) -> Run
 fn run_record(list: &[u8], rounds: Rounds, record: &[u8], decisions: &[u8], at: usize) -> Run
     requires { ⌜ at ≤ length (now list) ⌝ }
 {
-    let o = Board::open(record, 1);
+    let o = Board::open(record, 1, &[]);
     let answer = o.answer;
     let fresh = o.board;
     if replay::number(answer) != 0 {

@@ -12,7 +12,7 @@ use Rattle.grid.proofs.GridLaws.{cells-length}
 use Rattle.grid.specs.Cells.{undecided}
 use Rattle.kinds.specs.Kinds.{view, viewWith, block, inReach, reach, fence}
 use Rattle.growth.specs.Pairs.{viewOn}
-use Rattle.growth.specs.Growth.{mostApart, blockCellFence}
+use Rattle.growth.specs.Growth.{mostApart, cellFence, blockCellFence}
 use Rattle.literals.proofs.Pass.{each-length}
 use Rattle.kinds.proofs.Lengths.{block-length, fence-length}
 
@@ -31,6 +31,10 @@ module _ (h w : ℕ) (lines : List (List ℕ)) (cells : List ℕ) where
   pub reach-few : (f : ℕ) → length (reach (viewOn h w lines cells) f) ≤ h * w
   unfolding reach
   reach-few f = omega (arith, filter-length (inReach (viewOn h w lines cells) f) (cellsOf (viewOn h w lines cells .grid)), cells-length (viewOn h w lines cells .grid), view-size)
+
+  -- an arrow cell and a fence
+  pub cell-few : (i f : ℕ) → length (cellFence (viewOn h w lines cells) i f) ≤ h * w + 1
+  cell-few i f = simp (length-append, each-length) (omega (arith, fence-few f))
 
   -- a block, an arrow cell and a fence
   pub parts-few : (b i f : ℕ) → length (blockCellFence (viewOn h w lines cells) b i f) ≤ 2 * (h * w) + 1

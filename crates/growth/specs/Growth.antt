@@ -28,6 +28,10 @@ blockName v i = getD (v .blocks) i 0
 unfoldable pub gap : Pair → List ℕ
 gap pair = tail (init (pair .between))
 
+-- an arrow cell i and the fence of the arrow block f
+abbrev pub cellFence : View → ℕ → ℕ → List Literal
+cellFence v i f = each 1 (i ∷ []) ++ fence v f
+
 -- the arrow block b, an arrow cell i and the fence of the arrow block f
 abbrev pub blockCellFence : View → ℕ → ℕ → ℕ → List Literal
 blockCellFence v b i f = each 1 (block v b) ++ each 1 (i ∷ []) ++ fence v f

@@ -12,7 +12,6 @@ use Rattle.grid.specs.Cells.{square}
 use Rattle.groups.specs.Arrows.{onArrow, Pair}
 use Rattle.groups.specs.Arrays.{CellArray, linesOf, Drawn}
 use Rattle.kinds.specs.Kinds.{View, view}
-use Rattle.kinds.specs.Arrays.{reachMask}
 use Rattle.literals.specs.Literals.{Found}
 use Rattle.growth.specs.Growth.{reason3At, reason4At}
 use Rattle.reach.specs.Chains.{Chains}
@@ -49,12 +48,6 @@ pub record Scene (h w : ℕ) (lines : List (List ℕ)) (cells arrows kinds owner
 pub record Shown (h w : ℕ) (cells kinds owners : List ℕ) : Type 0 where
   pub lines : List (List ℕ)
   pub held : Held (viewOn h w lines cells) kinds owners
-
--- the kinds are those of some board, and the reach of its arrow block f is marked
-pub record Seen (h w : ℕ) (cells kinds owners marks : List ℕ) (f : ℕ) : Type 0 where
-  pub lines : List (List ℕ)
-  pub held : Held (viewOn h w lines cells) kinds owners
-  pub marked : marks ≡ reachMask (viewOn h w lines cells) f
 
 -- the size of each arrow block, at its name
 abbrev pub Blocks : List ℕ → List ℕ → ℕ → List ℕ → Type 0

@@ -8,16 +8,15 @@ ghost use Rattle.grid.specs.Lists.{filter};
 ghost use Rattle.grid.specs.Grid.{size};
 ghost use Rattle.grid.specs.Cells.{empty};
 ghost use Rattle.kinds.specs.Kinds.{View, block, view, reach};
-ghost use Rattle.kinds.specs.Arrays.{reachMask};
 ghost use Rattle.literals.specs.Literals.{each};
-ghost use Rattle.growth.specs.Growth.{mostApart, blockCellFence};
+ghost use Rattle.growth.specs.Growth.{mostApart, cellFence, blockCellFence};
 ghost use Rattle.literals.specs.Inside.{Wrote, Fit};
 ghost use Rattle.groups.specs.Arrays.{CellArray};
 ghost use Rattle.kinds.specs.Inside.{Held, Limits, puzzleWith, ofBlock};
 ghost use mathlib.Core.List.{List};
 ghost use Rattle.grid.specs.Side.{sized};
 ghost use Rattle.reach.specs.Chains.{Chains};
-ghost use Rattle.growth.specs.Pairs.{viewOn, Shown, Seen, Blocks};
+ghost use Rattle.growth.specs.Pairs.{viewOn, Shown, Blocks};
 ghost use Rattle.reach.specs.Near.{Sizes, SquaresOf};
 ghost use Rattle.shift.specs.Shift.{blockIn};
 
@@ -73,7 +72,7 @@ fn in_block(kinds: &[u8; 1024], owners: &[u16; 1024], f: u16, i: usize) -> bool
 }
 
 // The cells of the arrow block named f, rising, as squares.
-fn reason_for_arrow_block(
+pub fn reason_for_arrow_block(
     kinds: &[u8; 1024],
     owners: &[u16; 1024],
     n: usize,
@@ -127,37 +126,36 @@ pub fn count_reach(
     near::reach_size(sizes, squares, groups, count, f)
 }
 
-// The cells of the arrow block named b, the arrow cell i and the fence of the arrow block named f, whose reach is marked.
-fn reason_for_blocks(
+// The arrow cell i and the fence of the arrow block named f.
+pub fn reason_for_cell(
     cells: &[u8; 1024],
     kinds: &[u8; 1024],
     owners: &[u16; 1024],
-    marks: &[u8; 1024],
     h: usize,
     w: usize,
-    b: u16,
     i: usize,
     f: u16,
     buffer: &mut [u16],
 ) -> usize
-    requires { ⌜ Fit h w (now buffer) × Seen h w (now cells) (now kinds) (now owners) (now marks) f × (i < h * w) ⌝ }
+    requires { ⌜ Limits h w × Shown h w (now cells) (now kinds) (now owners) × (i < h * w) × (h * w + 1 < length (now buffer)) ⌝ }
     ensures { λ r. ⌜ ((lines : List (List ℕ)) → Held (viewOn h w lines (now (cells .entry))) (now (kinds .entry)) (now (owners .entry))
-        → now (marks .entry) ≡ reachMask (viewOn h w lines (now (cells .entry))) f
-        → Wrote (blockCellFence (viewOn h w lines (now (cells .entry))) b i f) (now (buffer .entry)) (now (buffer .exit)) r) ⌝ }
+        → Wrote (cellFence (viewOn h w lines (now (cells .entry))) i f) (now (buffer .entry)) (now (buffer .exit)) r) ⌝ }
 {
-    let count = reason_for_arrow_block(kinds, owners, h * w, b, buffer);
-    let total = literals::push(buffer, count, i, 1, true);
+    let mut near = [0u8; 1024];
+    let mut marks = [0u8; 1024];
+    reach::compute_reach(kinds, owners, h, w, f, &mut near, &mut marks);
+    let one = literals::push(buffer, 0, i, 1, true);
     let more = fence::reason_for_adjacent_floating_boundary(
         cells,
         kinds,
         owners,
-        marks,
+        &marks,
         h,
         w,
         f,
-        &mut buffer[total..],
+        &mut buffer[one..],
     );
-    total + more
+    one + more
 }
 
 // The literals of a pair to which a reason applies: the cells of the arrow block named b, the arrow cell i and the fence of the arrow
@@ -177,8 +175,7 @@ pub fn reason_for_pair(
     ensures { λ r. ⌜ ((lines : List (List ℕ)) → Held (viewOn h w lines (now (cells .entry))) (now (kinds .entry)) (now (owners .entry))
         → Wrote (blockCellFence (viewOn h w lines (now (cells .entry))) b i f) (now (buffer .entry)) (now (buffer .exit)) r) ⌝ }
 {
-    let mut near = [0u8; 1024];
-    let mut marks = [0u8; 1024];
-    reach::compute_reach(kinds, owners, h, w, f, &mut near, &mut marks);
-    reason_for_blocks(cells, kinds, owners, &marks, h, w, b, i, f, buffer)
+    let count = reason_for_arrow_block(kinds, owners, h * w, b, buffer);
+    let more = reason_for_cell(cells, kinds, owners, h, w, i, f, &mut buffer[count..]);
+    count + more
 }

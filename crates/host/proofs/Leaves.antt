@@ -20,6 +20,7 @@ use Rattle.literals.specs.Literals.{orElse, reasonIf, firstOf, each, Found}
 use Rattle.units.specs.Units.{reason1At, reason1}
 use Rattle.paths.specs.Paths.{appended, breadthFirst, parent, path, reason2At, reason2}
 use Rattle.growth.specs.Growth.{mostApart, blockName, reasonGrow, reason3At, gap, reasonShrink, reason4At, reason4aAt, reason4bAt, reason34}
+use Rattle.sized.specs.Sized.{reason5}
 use Rattle.reasons.specs.Reasons.{findReason, findOn}
 use Rattle.finished.specs.Finished.{keeps, keepsAll, twoSquares, allButRules, finishedTest}
 use Rattle.call.specs.Call.{acceptOr, decideBytes}
@@ -81,7 +82,7 @@ pub starred :
     ∷ refused 3
     ∷ refused 2
     ∷ [])
-unfolding range upto filter any all last init tail flatMap member once size cellsOf row col only up down left right neighbours touches rename join joinAll edges labels group names _>>=_ unless bit number field cellCodes there stepFrom stepCells arrowAt filler arrowsAt readRecord valueAt cellsAfter empty square undecided potential decided after afterAll isFloating isIn isNeighbour kindTouching onArrow arrowBlock blocksTouched kindAt kindsOf has viewWith view block floatNear inReach reach disturbing fenceAt fence orElse reasonIf firstOf each reason1At reason1 appended breadthFirst parent path reason2At reason2 pairsFrom pairs fits mostApart blockName reasonGrow reason3At gap reasonShrink reason4At reason4aAt reason4bAt reason34 findReason
+unfolding range upto filter any all last init tail flatMap member once size cellsOf row col only up down left right neighbours touches rename join joinAll edges labels group names _>>=_ unless bit number field cellCodes there stepFrom stepCells arrowAt filler arrowsAt readRecord valueAt cellsAfter empty square undecided potential decided after afterAll isFloating isIn isNeighbour kindTouching onArrow arrowBlock blocksTouched kindAt kindsOf has viewWith view block floatNear inReach reach disturbing fenceAt fence orElse reasonIf firstOf each reason1At reason1 appended breadthFirst parent path reason2At reason2 pairsFrom pairs fits mostApart blockName reasonGrow reason3At gap reasonShrink reason4At reason4aAt reason4bAt reason34 reason5 findReason
 starred = refl
 
 -- S: index 3 gives 7, cell 0 twice 9; find with 9 literals gives 11, with 10 not, and player 4 is given 17 with either
@@ -109,7 +110,7 @@ pub hosts :
     ∷ hostFinds (S 0xE0) (0x84 ∷ 0x03 ∷ []) 20
     ∷ [])
     (ok (some ((0, 1) ∷ (2, 1) ∷ (0, 1) ∷ [])) ∷ refused 11 ∷ refused 12 ∷ refused 7 ∷ refused 9 ∷ refused 12 ∷ [])
-unfolding range upto filter any all flatMap member once size cellsOf row col only up down left right neighbours touches rename join joinAll edges labels group names _>>=_ unless bit number field cellCodes there stepFrom stepCells arrowAt filler arrowsAt readRecord valueAt cellsAfter empty square undecided potential decided after refusal isFloating isIn isNeighbour kindTouching onArrow arrowBlock blocksTouched kindAt kindsOf has viewWith view block inReach reach disturbing fenceAt fence orElse reasonIf firstOf each reason1At reason1 reason2At reason2 pairsFrom pairs fits blockName reasonGrow reason3At reason4At reason4aAt reason34 findReason findOn acceptOr decideBytes enough hostFinds
+unfolding range upto filter any all flatMap member once size cellsOf row col only up down left right neighbours touches rename join joinAll edges labels group names _>>=_ unless bit number field cellCodes there stepFrom stepCells arrowAt filler arrowsAt readRecord valueAt cellsAfter empty square undecided potential decided after refusal isFloating isIn isNeighbour kindTouching onArrow arrowBlock blocksTouched kindAt kindsOf has viewWith view block inReach reach disturbing fenceAt fence orElse reasonIf firstOf each reason1At reason1 reason2At reason2 pairsFrom pairs fits blockName reasonGrow reason3At reason4At reason4aAt reason34 reason5 findReason findOn acceptOr decideBytes enough hostFinds
 hosts = refl
 
 -- a row of five cells, an arrow along its first four
@@ -146,5 +147,5 @@ pub tempting :
     (some ((2, 1) ∷ (0, 1) ∷ (2, 1) ∷ [])
     ∷ some ((0, 1) ∷ (4, 1) ∷ (5, 1) ∷ (2, 1) ∷ (1, 0) ∷ (3, 0) ∷ (6, 0) ∷ [])
     ∷ [])
-unfolding range upto filter any all flatMap member once size cellsOf row col only up down left right neighbours touches rename join joinAll edges labels group names empty square undecided potential isFloating isIn isNeighbour kindTouching onArrow arrowBlock blocksTouched kindAt kindsOf has viewWith view block inReach reach disturbing fenceAt fence orElse reasonIf firstOf each reason1At reason1 reason2At reason2 pairsFrom pairs fits blockName reasonGrow reason3At reason4At reason4aAt reason34 findReason
+unfolding range upto filter any all flatMap member once size cellsOf row col only up down left right neighbours touches rename join joinAll edges labels group names empty square undecided potential isFloating isIn isNeighbour kindTouching onArrow arrowBlock blocksTouched kindAt kindsOf has viewWith view block inReach reach disturbing fenceAt fence orElse reasonIf firstOf each reason1At reason1 reason2At reason2 pairsFrom pairs fits blockName reasonGrow reason3At reason4At reason4aAt reason34 reason5 findReason
 tempting = refl

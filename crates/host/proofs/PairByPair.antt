@@ -18,6 +18,7 @@ use Rattle.literals.specs.Literals.{Found, orElse, reasonIf, firstOf, each}
 use Rattle.units.specs.Units.{reason1At, reason1}
 use Rattle.paths.specs.Paths.{appended, breadthFirst, parent, path, reason2At, reason2}
 use Rattle.growth.specs.Growth.{mostApart, blockName, reasonGrow, reason3At, gap, reasonShrink, reason4At, reason4aAt, reason4bAt, reason34}
+use Rattle.sized.specs.Sized.{reason5}
 use Rattle.reasons.specs.Reasons.{findReason}
 
 -- a row of nine plain cells with two arrows
@@ -49,5 +50,5 @@ pub pair-by-pair :
     ∷ some ((6, 1) ∷ (8, 1) ∷ (7, 0) ∷ [])
     ∷ some ((6, 1) ∷ (8, 1) ∷ (7, 0) ∷ [])
     ∷ [])
-unfolding range upto filter any all last init tail flatMap member once size cellsOf row col only up down left right neighbours touches rename join joinAll edges labels group names empty square undecided potential isFloating isIn isNeighbour kindTouching onArrow arrowBlock blocksTouched kindAt kindsOf has viewWith view block floatNear inReach reach disturbing fenceAt fence orElse reasonIf firstOf each reason1At reason1 appended breadthFirst parent path reason2At reason2 pairsFrom pairs fits mostApart blockName reasonGrow reason3At gap reasonShrink reason4At reason4aAt reason4bAt reason34 findReason
+unfolding range upto filter any all last init tail flatMap member once size cellsOf row col only up down left right neighbours touches rename join joinAll edges labels group names empty square undecided potential isFloating isIn isNeighbour kindTouching onArrow arrowBlock blocksTouched kindAt kindsOf has viewWith view block floatNear inReach reach disturbing fenceAt fence orElse reasonIf firstOf each reason1At reason1 appended breadthFirst parent path reason2At reason2 pairsFrom pairs fits mostApart blockName reasonGrow reason3At gap reasonShrink reason4At reason4aAt reason4bAt reason34 reason5 findReason
 pair-by-pair = refl

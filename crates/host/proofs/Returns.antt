@@ -1,4 +1,5 @@
 -- What the exported calls can return. The host call: a count from 0 to 3 × H × W + 1, or a negated refusal of 1 to 5, 7, 9, 11 and 12. Never 6, 8 or 10.
+-- In an edition with sizes 16 and 22 come to these.
 -- Assumes nothing.
 use Prim.Native.Nat.{ℕ, zero, suc, _+_, _*_, _/_, _%_, _≤_, _<_}
 use native.Mathlib.Omega.{arith}
@@ -15,8 +16,10 @@ use Rattle.grid.specs.Lists.{all, member}
 use Rattle.grid.specs.Grid.{Grid, size, up, down, left, right}
 use Rattle.grid.proofs.ListLaws.{all-mem, and-true}
 use Rattle.record.specs.Record.{Outcome, ok, refused, _>>=_, unless, Puzzle, number, field, cellCodes, there, stepFrom, stepCells, arrowAt, filler, arrowsAt, readRecord, Bytes}
-use Rattle.record.specs.Leaf.{inEdition, isEdition}
+use Rattle.record.specs.Arrows.{onArrow}
+use Rattle.record.specs.Leaf.{Leaf, inEdition, isEdition, rangeAt, rangeTest, rangesFrom, sizesOf}
 use Rattle.record.specs.Head.{Head, readHead}
+use Rattle.record.proofs.LeafLaws.{ValidLeaf, leaf-ok}
 use Rattle.record.proofs.RecordLaws.{record-valid, valid-size}
 use Rattle.record.proofs.HeadLaws.{head-fault}
 use Rattle.finished.specs.Finished.{finishedTest}
@@ -41,12 +44,15 @@ use Rattle.file.specs.Call.{Given, toPlayer, toSetter, playerWithin, setterWith
 use Rattle.file.proofs.TailLaws.{solution-length}
 use Rattle.exported.specs.Written.{bytesOf}
 use Rattle.exported.proofs.BytesLaws.{bytes-length}
-use Rattle.call.specs.Call.{acceptOr, decideBytes, hostCall}
-use Rattle.host_find.specs.Host.{hostFinds, returned}
-use Rattle.host_finished.specs.Judged.{hostFinished}
+use Rattle.sizes.specs.Bytes.{numbersIn, sizesIn}
+use Rattle.call.specs.Call.{acceptOr, decideBytes, callOn, hostCall, leafFrom, hostCallWith}
+use Rattle.call.proofs.Opened.{from-opened, from-valid}
+use Rattle.call.proofs.Steps.{first-leaf}
+use Rattle.host_find.specs.Host.{hostFinds, hostFindsWith, returned}
+use Rattle.host_finished.specs.Judged.{hostFinished, hostFinishedWith}
 use Rattle.host_shades.specs.Shaded.{hostShades}
-use Rattle.host_certain.specs.Told.{certaintyNumber, Said, saidOf, hostCertain}
-use Rattle.host.specs.Returns.{faults, refusals, Returns, negated-refusal, literal-count, Possible, refusal-of, value-of, FoundOn, no-reason, some-reason, FoundWith}
+use Rattle.host_certain.specs.Told.{certaintyNumber, Said, saidOf, certainOn, hostCertain, hostCertainWith}
+use Rattle.host.specs.Returns.{faults, refusals, hostRefusals, withRefusals, Returns, negated-refusal, literal-count, Possible, refusal-of, value-of, FoundOn, no-reason, some-reason, FoundWith}
 
 -- ---- an outcome step by step
 
@@ -157,6 +163,45 @@ read-possible s =
 fault-refusal : (k : ℕ) → List·Memᴰ k faults → List·Memᴰ k refusals
 fault-refusal k m = Memᴰ·append-left (7 ∷ 9 ∷ 12 ∷ []) m
 
+-- ---- a leaf in an edition with sizes: 1 to 5, 16, 22
+
+ranges-possible : (on : ℕ → Bool) (from : ℕ) (ns : List ℕ) → Possible (22 ∷ []) Any (rangesFrom on from ns)
+unfolding rangesFrom
+ranges-possible on from [] = value-of tt
+ranges-possible on from (c ∷ []) = refusal-of (List·Memᴰ·head refl)
+ranges-possible on from (c ∷ l ∷ []) = refusal-of (List·Memᴰ·head refl)
+ranges-possible on from (c ∷ l ∷ h ∷ ns) =
+    then-possible (unless-possible (rangeTest on from (rangeAt c l h)) 22 (λ _. List·Memᴰ·head refl)) λ _ _. then-possible (ranges-possible on (suc c) ns) λ rs _. value-of tt
+
+numbers-possible : (bytes : List ℕ) → Possible (22 ∷ []) Any (numbersIn bytes)
+unfolding numbersIn
+numbers-possible [] = value-of tt
+numbers-possible (x ∷ []) = refusal-of (List·Memᴰ·head refl)
+numbers-possible (x ∷ y ∷ bytes) = then-possible (numbers-possible bytes) λ ns _. value-of tt
+
+sizes-possible : (p : Puzzle) (bytes : List ℕ) → Possible (22 ∷ []) Any (sizesIn p bytes)
+unfolding sizesIn sizesOf
+sizes-possible p bytes = then-possible (numbers-possible bytes) λ ns _. ranges-possible (onArrow (p .arrows)) 0 ns
+
+-- the leaf, or one of these refusals, where the list has them
+leaf-possible : {ks : List ℕ} → ((k : ℕ) → List·Memᴰ k (16 ∷ 22 ∷ faults) → List·Memᴰ k ks) → (s : List ℕ) (e : ℕ) (sizes : List ℕ)
+    → Possible ks (λ (l : Leaf). leafFrom s e sizes ≡ ok l) (leafFrom s e sizes)
+unfolding leafFrom
+leaf-possible {ks} has s e sizes = itself opened
+  where
+    first : {k : ℕ} → List·Memᴰ k (22 ∷ []) → List·Memᴰ k (22 ∷ faults)
+    first m = Memᴰ·append-left faults m
+
+    opened : Possible ks Any (leafFrom s e sizes)
+    opened =
+        then-possible (possible-more (λ k m. has k (List·Memᴰ·tail (List·Memᴰ·tail m))) (λ p _. tt {0}) (read-possible s)) λ p _.
+        then-possible (unless-possible (isEdition e) 16 (λ _. has 16 (List·Memᴰ·head refl))) λ _ _.
+        then-possible (possible-more (λ k m. has k (List·Memᴰ·tail (first m))) (λ rs _. tt {0}) (sizes-possible p sizes)) λ rs _. value-of tt
+
+-- its record is read
+leaf-reads : (s : List ℕ) (e : ℕ) (sizes : List ℕ) {l : Leaf} → leafFrom s e sizes ≡ ok l → readRecord s ≡ ok (l .puzzle)
+leaf-reads s e sizes k = let a = from-opened s e sizes k in leaf-ok s e (a .0) (a .2) .read
+
 -- ---- the decisions: 12, 7, 9, and 8 only for a value that two bytes don't have
 
 module _ {ks : List ℕ} (has : (k : ℕ) → List·Memᴰ k refusals → List·Memᴰ k ks) where
@@ -197,17 +242,25 @@ module _ {ks : List ℕ} (has : (k : ℕ) → List·Memᴰ k refusals → List·
 pub few-cells : (s : List ℕ) (p : Puzzle) → readRecord s ≡ ok p → size (p .grid) ≤ 1024
 few-cells s p e = valid-size (record-valid s e)
 
-found-with : (s : List ℕ) (p : Puzzle) → readRecord s ≡ ok p → {ds : List Literal} → Standing (p .grid) ds → FoundWith s (findOn (inEdition 1 p) ds)
-found-with s p e {ds} st = record { puzzle = p; reads = e; few = few-cells s p e; found = go (findOn (inEdition 1 p) ds) refl }
+found-with : (s : List ℕ) (l : Leaf) → ValidLeaf l → readRecord s ≡ ok (l .puzzle) → {ds : List Literal} → Standing (l .puzzle .grid) ds → FoundWith s (findOn l ds)
+found-with s l v e {ds} st = record { puzzle = l .puzzle; reads = e; few = few-cells s (l .puzzle) e; found = go (findOn l ds) refl }
   where
-    go : (f : Found) → findOn (inEdition 1 p) ds ≡ f → FoundOn (p .grid) f
+    go : (f : Found) → findOn l ds ≡ f → FoundOn (l .puzzle .grid) f
     go none q = no-reason
     go (some r) q =
-        let cells = cellsAfter (p .grid) ds in
-        let q′ : findReason (inEdition 1 p) (cellsAfter (p .grid) ds) ≡ some r = unfold findOn in q in
-        let c = standing-calls (p .grid) st in
-        some-reason {r = r} (reason-some 1 p cells r q′) (found-length 1 s p e cells r q′)
-        (λ l m. standing-low st l (rw (c .1) at (on-machine (inEdition 1 p) (record-valid s e) (c .0) (c .0) .stands r (rw (c .1) q) l m)))
+        let cells = cellsAfter (l .puzzle .grid) ds in
+        let q′ : findReason l (cellsAfter (l .puzzle .grid) ds) ≡ some r = unfold findOn in q in
+        let c = standing-calls (l .puzzle .grid) st in
+        some-reason {r = r} (reason-some l cells r q′) (found-length l s e cells r q′)
+        (λ x m. standing-low st x (rw (c .1) at (on-machine l v (c .0) (c .0) .stands r (rw (c .1) q) x m)))
+
+-- a call on a leaf, where the list has 11 if the output may be too short, and 8 if a value may be above 1
+on-possible : {ks : List ℕ} → ((k : ℕ) → List·Memᴰ k refusals → List·Memᴰ k ks) → {A : Type 0} {Q : A → Type 0} (need : Grid → ℕ) (says : Leaf → List Literal → A) (decisions : List ℕ) (k : ℕ) (l : Leaf)
+    → (k < need (l .puzzle .grid) → List·Memᴰ 11 ks) → ((a b : ℕ) → List·Memᴰ a decisions → List·Memᴰ b decisions → 1 < (a * 256 + b) / 32768 → List·Memᴰ 8 ks)
+    → ((ds : List Literal) → Standing (l .puzzle .grid) ds → Q (says l ds)) → Possible ks Q (callOn need says decisions k l)
+on-possible has need says decisions k l eleven eight q =
+    then-possible (unless-possible (leb (need (l .puzzle .grid)) k) 11 (λ f. eleven (leb-false (need (l .puzzle .grid)) k f))) λ _ _.
+    then-possible (decide-possible has (l .puzzle .grid) decisions eight none) λ ds st. value-of (q ds st)
 
 -- what the call can find, where the list has 11 if the output may be too short, and 8 if a value may be above 1
 pub host-possible : {ks : List ℕ} → ((k : ℕ) → List·Memᴰ k refusals → List·Memᴰ k ks) → (s decisions : List ℕ) (k : ℕ)
@@ -217,26 +270,59 @@ pub host-possible : {ks : List ℕ} → ((k : ℕ) → List·Memᴰ k refusals �
 unfolding hostFinds enough
 host-possible has s decisions k eleven eight =
     then-possible (itself (possible-more (λ j m. has j (fault-refusal j m)) (λ p _. tt {0}) (read-possible s))) λ p e.
-    then-possible (unless-possible (leb (2 * (3 * size (p .grid) + 1)) k) 11 (λ f. eleven p e (leb-false (2 * (3 * size (p .grid) + 1)) k f))) λ _ _.
-    then-possible (decide-possible has (p .grid) decisions eight none) λ ds st. value-of (found-with s p e st)
+    on-possible has (λ g. 2 * enough g) findOn decisions k (inEdition 1 p) (eleven p e) eight (λ ds st. found-with s (inEdition 1 p) (first-leaf p (record-valid s e)) e st)
 
 -- two bytes have no value above 1
 pub byte-value : {bytes : List ℕ} → Bytes bytes → (a b : ℕ) → List·Memᴰ a bytes → List·Memᴰ b bytes → 1 < (a * 256 + b) / 32768 → ⊥
 byte-value low a b p q h = omega (arith, low a p, low b q)
 
--- every number that it returns is one of them
-pub host-returns : (s decisions : List ℕ) (k : ℕ) → Bytes decisions → Returns s (returned (hostFinds s decisions k))
+-- a number that is returned for what can be found
+found-returns : {ks s : List ℕ} {o : Outcome Found} → Possible ks (FoundWith s) o → Returns ks s (returned o)
 unfolding returned
-host-returns s decisions k low =
-    go (host-possible (λ _ m. List·Memᴰ·tail m) s decisions k (λ _ _ _. List·Memᴰ·head refl) (λ a b p q h. absurd (byte-value low a b p q h)))
+found-returns (refusal-of m) = negated-refusal m
+found-returns {ks} {s} (value-of f) = counted (f .puzzle) (f .reads) (f .found)
   where
-    counted : {f : Found} (p : Puzzle) → readRecord s ≡ ok p → FoundOn (p .grid) f → Returns s (returned (ok f))
+    counted : {f : Found} (p : Puzzle) → readRecord s ≡ ok p → FoundOn (p .grid) f → Returns ks s (returned (ok f))
     counted p e no-reason = literal-count {n = 0} p e (omega arith)
     counted p e (some-reason full few each) = literal-count p e few
 
-    go : {o : Outcome Found} → Possible (11 ∷ refusals) (FoundWith s) o → Returns s (returned o)
-    go (refusal-of m) = negated-refusal m
-    go (value-of f) = counted (f .puzzle) (f .reads) (f .found)
+-- every number that it returns is one of them
+pub host-returns : (s decisions : List ℕ) (k : ℕ) → Bytes decisions → Returns hostRefusals s (returned (hostFinds s decisions k))
+host-returns s decisions k low =
+    found-returns (host-possible (λ _ m. List·Memᴰ·tail m) s decisions k (λ _ _ _. List·Memᴰ·head refl) (λ a b p q h. absurd (byte-value low a b p q h)))
+
+-- so it is with the call in an edition with sizes
+module _ (s : List ℕ) (e : ℕ) (sizes decisions : List ℕ) (low : Bytes decisions) where
+  -- a call on what it opens: what it says, or a refusal of the list, and never 6, 8 or 10
+  with-possible : {A : Type 0} {Q : A → Type 0} (need : Grid → ℕ) (says : Leaf → List Literal → A) (k : ℕ)
+      → ((l : Leaf) → leafFrom s e sizes ≡ ok l → (ds : List Literal) → Standing (l .puzzle .grid) ds → Q (says l ds)) → Possible withRefusals Q (hostCallWith need says s e sizes decisions k)
+  with-possible need says k q =
+      then-possible (leaf-possible (λ k m. opened m) s e sizes) λ l o.
+      on-possible (λ _ m. List·Memᴰ·tail (List·Memᴰ·tail (List·Memᴰ·tail m))) need says decisions k l (λ _. List·Memᴰ·tail (List·Memᴰ·tail (List·Memᴰ·head refl)))
+      (λ a b m n h. absurd (byte-value low a b m n h)) (q l o)
+    where
+      opened : {k : ℕ} → List·Memᴰ k (16 ∷ 22 ∷ faults) → List·Memᴰ k withRefusals
+      opened (List·Memᴰ·head z) = List·Memᴰ·head z
+      opened (List·Memᴰ·tail (List·Memᴰ·head z)) = List·Memᴰ·tail (List·Memᴰ·head z)
+      opened (List·Memᴰ·tail (List·Memᴰ·tail m)) = List·Memᴰ·tail (List·Memᴰ·tail (List·Memᴰ·tail (fault-refusal _ m)))
+
+  -- what it can find
+  pub find-with-possible : (k : ℕ) → Possible withRefusals (FoundWith s) (hostFindsWith s e sizes decisions k)
+  unfolding hostFindsWith
+  find-with-possible k = with-possible (λ g. 2 * enough g) findOn k (λ l o ds st. found-with s l (from-valid s e sizes o) (leaf-reads s e sizes o) st)
+
+  pub find-with-returns : (k : ℕ) → Returns withRefusals s (returned (hostFindsWith s e sizes decisions k))
+  find-with-returns k = found-returns (find-with-possible k)
+
+  -- whether the leaf is finished: yes or no, or a refusal of the list without 11
+  pub finished-with-possible : Possible (16 ∷ 22 ∷ refusals) (λ (t : Bool). Unit {0}) (hostFinishedWith s e sizes decisions)
+  unfolding hostFinishedWith
+  finished-with-possible =
+      then-possible (leaf-possible (λ k m. opened m) s e sizes) λ l _.
+      then-possible (decide-possible (λ _ m. List·Memᴰ·tail (List·Memᴰ·tail m)) (l .puzzle .grid) decisions (λ a b m n h. absurd (byte-value low a b m n h)) none) λ ds _. value-of tt
+    where
+      opened : {k : ℕ} → List·Memᴰ k (16 ∷ 22 ∷ faults) → List·Memᴰ k (16 ∷ 22 ∷ refusals)
+      opened m = Memᴰ·append-left (7 ∷ 9 ∷ 12 ∷ []) m
 
 -- two numbers with one negation are the same
 negated-same : (j n : ℕ) → negℤ (pos j) ≡ negℤ (pos n) → j ≡ n
@@ -251,17 +337,17 @@ not-count zero c h e = omega arith
 not-count (suc n) c h e = let z : _≡_ {A = ℕ} 0 1 = cc in omega arith
 
 -- 6, 8 and 10 are no refusals of the call
-other : (n : ℕ) → List·Memᴰ n (6 ∷ 8 ∷ 10 ∷ []) → (0 < n) × (among n (11 ∷ refusals) ≡ false)
+other : (n : ℕ) → List·Memᴰ n (6 ∷ 8 ∷ 10 ∷ []) → (0 < n) × (among n hostRefusals ≡ false)
 unfolding all
 other n m =
-    let t = and-true (ltb 0 n) (not (among n (11 ∷ refusals))) (all-mem (λ j. ltb 0 j && not (among j (11 ∷ refusals))) (6 ∷ 8 ∷ 10 ∷ []) refl n m) in
-    (ltb-true 0 n (t .0), not-true (among n (11 ∷ refusals)) (t .1))
+    let t = and-true (ltb 0 n) (not (among n hostRefusals)) (all-mem (λ j. ltb 0 j && not (among j hostRefusals)) (6 ∷ 8 ∷ 10 ∷ []) refl n m) in
+    (ltb-true 0 n (t .0), not-true (among n hostRefusals) (t .1))
 
 -- so it never returns the negated 6, 8 or 10
 pub never-returned : (s decisions : List ℕ) (k : ℕ) → Bytes decisions → (n : ℕ) → List·Memᴰ n (6 ∷ 8 ∷ 10 ∷ []) → returned (hostFinds s decisions k) ≡ negℤ (pos n) → ⊥
 never-returned s decisions k low n o e = go (host-returns s decisions k low) e
   where
-    go : {z : ℤ} → Returns s z → z ≡ negℤ (pos n) → ⊥
+    go : {z : ℤ} → Returns hostRefusals s z → z ≡ negℤ (pos n) → ⊥
     go (negated-refusal {k = j} m) q = false≢true (sym (other n o .1) ∙ in-list (Memᴰ·cast (sym (negated-same j n q)) m))
     go (literal-count {n = c} p r h) q = not-count n c (other n o .0) q
 
@@ -280,26 +366,27 @@ clauses-possible s n =
     then-possible (unless-possible (leb (length (sheetBytes p)) n) 13 (λ _. List·Memᴰ·head refl)) λ _ _. value-of (sheet-most s p e)
 
 -- a call in the host call's order: what it says, or a refusal of the record or of a decision, or 11, and never 6, 8 or 10
-call-possible : {A : Type 0} {Q : A → Type 0} (need : Grid → ℕ) (says : Puzzle → List Literal → A) (s decisions : List ℕ) (k : ℕ) → Bytes decisions
-    → ((p : Puzzle) → readRecord s ≡ ok p → (ds : List Literal) → Q (says p ds)) → Possible (11 ∷ refusals) Q (hostCall need says s decisions k)
+call-possible : {A : Type 0} {Q : A → Type 0} (need : Grid → ℕ) (says : Leaf → List Literal → A) (s decisions : List ℕ) (k : ℕ) → Bytes decisions
+    → ((p : Puzzle) → readRecord s ≡ ok p → (ds : List Literal) → Q (says (inEdition 1 p) ds)) → Possible hostRefusals Q (hostCall need says s decisions k)
 call-possible need says s decisions k low q =
     then-possible (itself (possible-more (λ x m. List·Memᴰ·tail (fault-refusal x m)) (λ p _. tt {0}) (read-possible s))) λ p e.
-    then-possible (unless-possible (leb (need (p .grid)) k) 11 (λ _. List·Memᴰ·head refl)) λ _ _.
-    then-possible (decide-possible (λ _ m. List·Memᴰ·tail m) (p .grid) decisions (λ a b m n h. absurd (byte-value low a b m n h)) none) λ ds _. value-of (q p e ds)
+    on-possible (λ _ m. List·Memᴰ·tail m) need says decisions k (inEdition 1 p) (λ _. List·Memᴰ·head refl) (λ a b m n h. absurd (byte-value low a b m n h)) (λ ds _. q p e ds)
 
 -- the call for the shades: 4 × H × W bytes
 pub shades-possible : (s decisions : List ℕ) (k : ℕ) → Bytes decisions
-    → Possible (11 ∷ refusals) (λ (l : List ℕ). (p : Puzzle) × (readRecord s ≡ ok p) × (length l ≡ 4 * size (p .grid))) (hostShades s decisions k)
+    → Possible hostRefusals (λ (l : List ℕ). (p : Puzzle) × (readRecord s ≡ ok p) × (length l ≡ 4 * size (p .grid))) (hostShades s decisions k)
 unfolding hostShades
 shades-possible s decisions k low =
-    call-possible (λ g. 4 * size g) (λ p ds. bytesOf (shadesOn (p .grid) (cellsAfter (p .grid) ds))) s decisions k low
+    call-possible (λ g. 4 * size g) (λ l ds. bytesOf (shadesOn (l .puzzle .grid) (cellsAfter (l .puzzle .grid) ds))) s decisions k low
     (λ p e ds. (p, e, omega (arith, bytes-length (shadesOn (p .grid) (cellsAfter (p .grid) ds)), shades-length (p .grid) (cellsAfter (p .grid) ds))))
 
 -- the call for the cells that are certain: 0, 1 or 2
-pub certain-possible : (s decisions : List ℕ) (budget k : ℕ) → Bytes decisions
-    → Possible (11 ∷ refusals) (λ (x : Said). (x .number ≡ pos 0) ⊎ (x .number ≡ pos 1) ⊎ (x .number ≡ pos 2)) (hostCertain s decisions budget k)
-unfolding hostCertain saidOf
-certain-possible s decisions budget k low = call-possible _ _ s decisions k low (λ p e ds. number-is (size (p .grid)) budget (search (inEdition 1 p) (cellsAfter (p .grid) ds)))
+abbrev SaidOne : Said → Type 0
+SaidOne x = (x .number ≡ pos 0) ⊎ (x .number ≡ pos 1) ⊎ (x .number ≡ pos 2)
+
+certain-number : (budget : ℕ) (l : Leaf) (ds : List Literal) → SaidOne (certainOn budget l ds)
+unfolding saidOf
+certain-number budget l ds = number-is (size (l .puzzle .grid)) budget (search l (cellsAfter (l .puzzle .grid) ds))
   where
     told : (boards : List (List ℕ)) → (certaintyNumber (certainty boards) ≡ pos 0) ⊎ (certaintyNumber (certainty boards) ≡ pos 1) ⊎ (certaintyNumber (certainty boards) ≡ pos 2)
     told [] = unfold certainty certaintyNumber in inr (inl refl)
@@ -313,6 +400,14 @@ certain-possible s decisions budget k low = call-possible _ _ s decisions k low 
     number-is : (n budget : ℕ) (r : Reached)
         → (certaintyNumber (certainBy n budget r .answer) ≡ pos 0) ⊎ (certaintyNumber (certainBy n budget r .answer) ≡ pos 1) ⊎ (certaintyNumber (certainBy n budget r .answer) ≡ pos 2)
     number-is n budget r = by (leb (r .steps) budget) n budget r (certainBy n budget r) (unfold certainBy in refl)
+
+pub certain-possible : (s decisions : List ℕ) (budget k : ℕ) → Bytes decisions → Possible hostRefusals SaidOne (hostCertain s decisions budget k)
+unfolding hostCertain
+certain-possible s decisions budget k low = call-possible (λ g. 8 + size g) (certainOn budget) s decisions k low (λ p e ds. certain-number budget (inEdition 1 p) ds)
+
+pub certain-with-possible : (s : List ℕ) (e : ℕ) (sizes decisions : List ℕ) (budget k : ℕ) → Bytes decisions → Possible withRefusals SaidOne (hostCertainWith s e sizes decisions budget k)
+unfolding hostCertainWith
+certain-with-possible s e sizes decisions budget k low = with-possible s e sizes decisions low (λ g. 8 + size g) (certainOn budget) k (λ l o ds _. certain-number budget l ds)
 
 -- the record at the head of a file: 1 to 5
 head-possible : (s : List ℕ) → Possible faults Any (readHead s)

@@ -19,10 +19,18 @@ faults = 1 ∷ 2 ∷ 3 ∷ 4 ∷ 5 ∷ []
 abbrev pub refusals : List ℕ
 refusals = faults ++ (7 ∷ 9 ∷ 12 ∷ [])
 
--- the numbers that the call can return for the record s
-pub data Returns (s : List ℕ) : ℤ → Type 0 where
-  negated-refusal : {k : ℕ} → List·Memᴰ k (11 ∷ refusals) → Returns s (negℤ (pos k))
-  literal-count : {n : ℕ} (p : Puzzle) → readRecord s ≡ ok p → n ≤ 3 * size (p .grid) + 1 → Returns s (pos n)
+-- those of the host call, with 11 for its output
+abbrev pub hostRefusals : List ℕ
+hostRefusals = 11 ∷ refusals
+
+-- and of the call in an edition with sizes, with 16 and 22 for these
+abbrev pub withRefusals : List ℕ
+withRefusals = 16 ∷ 22 ∷ hostRefusals
+
+-- the numbers that a call with the refusals ks can return for the record s
+pub data Returns (ks s : List ℕ) : ℤ → Type 0 where
+  negated-refusal : {k : ℕ} → List·Memᴰ k ks → Returns ks s (negℤ (pos k))
+  literal-count : {n : ℕ} (p : Puzzle) → readRecord s ≡ ok p → n ≤ 3 * size (p .grid) + 1 → Returns ks s (pos n)
 
 -- a refusal of the list, or a value with the property
 pub data Possible (ks : List ℕ) {A : Type 0} (P : A → Type 0) : Outcome A → Type 0 where

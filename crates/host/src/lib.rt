@@ -6,10 +6,10 @@ ghost use Rattle.clauses.specs.Clauses.{sheetFor};
 ghost use Rattle.turn.specs.Turn.{turnRecord};
 ghost use Rattle.join.specs.Join.{joinRecord};
 ghost use Rattle.file.specs.Call.{playerGiven, setterGiven, givenLength, givenBytes};
-ghost use Rattle.host_find.specs.Host.{hostFinds, returned, outputAfter};
-ghost use Rattle.host_finished.specs.Judged.{hostFinished, judged};
+ghost use Rattle.host_find.specs.Host.{hostFinds, hostFindsWith, returned, outputAfter};
+ghost use Rattle.host_finished.specs.Judged.{hostFinished, hostFinishedWith, judged};
 ghost use Rattle.host_shades.specs.Shaded.{hostShades};
-ghost use Rattle.host_certain.specs.Told.{hostCertain, saidNumber, saidBytes};
+ghost use Rattle.host_certain.specs.Told.{hostCertain, hostCertainWith, saidNumber, saidBytes};
 
 // Opens the record in edition 1, decides in order and finds. The literals stand in the output's first bytes, two each, most significant first.
 // Returns how many there are, 0 for none, or the negated number of a refusal, which leaves the output as it was.
@@ -21,12 +21,40 @@ pub extern "C" fn evolmino_find(record: &[u8], decisions: &[u8], output: &mut [u
     host_find::find(record, decisions, output)
 }
 
+// The same in an edition with sizes: 16-bit numbers, cell, lowest and highest for each, cells rising, two bytes a number, most significant first.
+#[no_mangle]
+pub extern "C" fn evolmino_find_with(
+    record: &[u8],
+    edition: u32,
+    sizes: &[u8],
+    decisions: &[u8],
+    output: &mut [u8],
+) -> i32
+    ensures { λ r. ⌜ (r ≡ returned (hostFindsWith (now («record» .entry)) edition (now (sizes .entry)) (now (decisions .entry)) (length (now (output .entry)))))
+        × (now (output .exit) ≡ outputAfter (hostFindsWith (now («record» .entry)) edition (now (sizes .entry)) (now (decisions .entry)) (length (now (output .entry)))) (now (output .entry))) ⌝ }
+{
+    host_find::find_with(record, edition, sizes, decisions, output)
+}
+
 // Opens the record in edition 1, decides in order and tells whether the leaf is finished: 1 for yes, 0 for no, or the negated number of a refusal.
 #[no_mangle]
 pub extern "C" fn evolmino_finished(record: &[u8], decisions: &[u8]) -> i32
     ensures { λ r. ⌜ r ≡ judged (hostFinished (now («record» .entry)) (now (decisions .entry))) ⌝ }
 {
     host_finished::finished(record, decisions)
+}
+
+// The same in an edition with sizes, which are as in `evolmino_find_with`.
+#[no_mangle]
+pub extern "C" fn evolmino_finished_with(
+    record: &[u8],
+    edition: u32,
+    sizes: &[u8],
+    decisions: &[u8],
+) -> i32
+    ensures { λ r. ⌜ r ≡ judged (hostFinishedWith (now («record» .entry)) edition (now (sizes .entry)) (now (decisions .entry))) ⌝ }
+{
+    host_finished::finished_with(record, edition, sizes, decisions)
 }
 
 // Writes the clause sheet of a record to the front of the output, and returns the number of bytes, or the negated number of a refusal, which
@@ -65,6 +93,22 @@ pub extern "C" fn evolmino_certain(
         × (now (output .exit) ≡ outputWith (saidBytes (hostCertain (now («record» .entry)) (now (decisions .entry)) budget (length (now (output .entry))))) (now (output .entry))) ⌝ }
 {
     host_certain::certain(record, decisions, budget, output)
+}
+
+// The same in an edition with sizes, which are as in `evolmino_find_with`.
+#[no_mangle]
+pub extern "C" fn evolmino_certain_with(
+    record: &[u8],
+    edition: u32,
+    sizes: &[u8],
+    decisions: &[u8],
+    budget: u64,
+    output: &mut [u8],
+) -> i32
+    ensures { λ r. ⌜ (r ≡ saidNumber (hostCertainWith (now («record» .entry)) edition (now (sizes .entry)) (now (decisions .entry)) budget (length (now (output .entry)))))
+        × (now (output .exit) ≡ outputWith (saidBytes (hostCertainWith (now («record» .entry)) edition (now (sizes .entry)) (now (decisions .entry)) budget (length (now (output .entry))))) (now (output .entry))) ⌝ }
+{
+    host_certain::certain_with(record, edition, sizes, decisions, budget, output)
 }
 
 // Turns the record by k: flipped left and right first if k is 4 or more, then k modulo 4 quarter turns clockwise. The turned record stands in the

@@ -10,25 +10,25 @@ use lib.Seq.{take-suc, drop-cons, set-at, take-at, drop-at, drop-drop, length-ta
 use Rattle.grid.specs.Grid.{Grid, size}
 use Rattle.grid.specs.Cells.{Literal}
 use Rattle.grid.specs.Lists.{flatMap, arrayOf}
-use Rattle.record.specs.Record.{Outcome, ok, refused, Puzzle, readRecord}
-use Rattle.record.specs.Leaf.{inEdition}
-use Rattle.record.specs.declared.Problem.{Problem}
+use Rattle.record.specs.Record.{Outcome, ok, refused}
+use Rattle.record.specs.Leaf.{Leaf}
 use Rattle.record.specs.declared.Answer.{Answer}
 use Rattle.record.specs.declared.Answer.the-variants.{Done, Refused}
-use Rattle.record.proofs.RecordLaws.{valid-size}
 use Rattle.board.specs.Board.{cellsAfter}
 use Rattle.board.proofs.Standing.{Standing, none}
 use Rattle.certain.specs.Tree.{search}
 use Rattle.certain.specs.Facts.{certainBy}
-use Rattle.certain.specs.Inside.{leafIn, States}
+use Rattle.certain.specs.Inside.{States}
 use Rattle.certain.specs.declared.Certainty.{Certainty}
 use Rattle.certain.specs.declared.Certainty.the-variants as certainties
 use Rattle.certain.specs.declared.Facts.{Facts}
 use Rattle.certain.proofs.AnswerLaws.{standing-states}
 use Rattle.exported.specs.Written.{bytesOf, outputWith}
-use Rattle.host_certain.specs.Told.{certaintyNumber, stepBytes, certainBytes, Said, saidOf, hostCertain, saidNumber, saidBytes}
-use Rattle.call.specs.Inside.{Decides}
-use Rattle.call.proofs.Steps.{Reads, bytes-standing, states-taken, reads-valid, reads-size, reads-puzzle, call-unread, call-short, call-refused, call-done}
+use Rattle.host_certain.specs.Told.{certaintyNumber, stepBytes, certainBytes, Said, saidOf, certainOn, hostCertain, hostCertainWith, saidNumber, saidBytes}
+use Rattle.host_certain.specs.Inside.{leafCertain}
+use Rattle.call.specs.Inside.{Decides, Holds}
+use Rattle.call.proofs.Steps.{bytes-standing, states-taken, call-short, call-refused, call-done, call-plain}
+use Rattle.call.proofs.Holding.{holds-size, holds-few}
 
 -- ---- the bytes
 
@@ -115,50 +115,43 @@ tells-refused o k r old e f = rw e (f, refl)
 pub tells-said : (n : ℕ) (f g : Facts) {o : Outcome Said} → f ≡ g → (old : List ℕ) {r : ℤ} {new : List ℕ} → o ≡ ok (saidOf n g) → Tells (ok (saidOf n f)) r old new → Tells o r old new
 tells-said n f g e old q t = rw (q, ← e) t
 
--- what the call needs and says
+-- what is told of an outcome is told of its equal
+pub tells-as : {o p : Outcome Said} {r : ℤ} (old : List ℕ) {new : List ℕ} → o ≡ p → Tells p r old new → Tells o r old new
+tells-as old e t = rw e t
+
+-- the call is that in edition 1 without sizes
+pub certain-plain : (s decisions : List ℕ) (budget n : ℕ) → hostCertain s decisions budget n ≡ hostCertainWith s 1 [] decisions budget n
+unfolding hostCertain hostCertainWith
+certain-plain s decisions budget n = call-plain (λ g. 8 + size g) (certainOn budget) s decisions n
+
+-- what the output needs
 abbrev need : Grid → ℕ
 need g = 8 + size g
 
-abbrev says : ℕ → Puzzle → List Literal → Said
-says budget p ds = saidOf (size (p .grid)) (certainBy (size (p .grid)) budget (search (inEdition 1 p) (cellsAfter (p .grid) ds)))
-
--- a refused record
-pub certain-unread : (s : List ℕ) {k : ℕ} → readRecord s ≡ refused k → (decisions : List ℕ) (budget n : ℕ) → hostCertain s decisions budget n ≡ refused k
-unfolding hostCertain
-certain-unread s e decisions budget n = call-unread need (says budget) s e decisions n
-
--- the answer by the arrays of a problem and the states of its cells
-abbrev pub certainIn : Problem → List ℕ → ℕ → Said
-certainIn q cells budget =
-    saidOf (q .height * q .width) (certainBy (q .height * q .width) budget (search (leafIn 1 (q .height) (q .width) (q .cells) (q .arrows) (q .ends) (q .count)) (take (q .height * q .width) cells)))
-
-module _ {s : List ℕ} {q : Problem} (r : Reads s q) (decisions : List ℕ) where
+module _ {l : Leaf} {e : ℕ} {lows highs : List ℕ} {h w : ℕ} {arrows ends : List ℕ} {number : ℕ} (x : Holds l e lows highs h w arrows ends number) (decisions : List ℕ) where
   -- an output that is too short
-  pub certain-short : (budget n : ℕ) → n < 8 + q .height * q .width → hostCertain s decisions budget n ≡ refused 11
-  unfolding hostCertain
-  certain-short budget n h = call-short need (says budget) s (r .reads) decisions n (rw (reads-size r) at h)
+  pub certain-short : (budget n : ℕ) → n < 8 + h * w → leafCertain decisions budget n l ≡ refused 11
+  certain-short budget n k = call-short need (certainOn budget) l decisions n (rw (holds-size x) at k)
 
   -- what deciding in order answers, and the states that it leaves
-  module _ {a : Answer} {cells : List ℕ} (d : Decides (r .puzzle .grid) decisions a cells) where
+  module _ {a : Answer} {cells : List ℕ} (d : Decides (l .puzzle .grid) decisions a cells) where
     -- all are accepted: they are states
     pub left-states : a ≡ Done → States cells
     left-states f =
         let y = d .done f in
-        rw (y .2) (standing-states (bytes-standing (r .puzzle .grid) decisions none (y .1)) (valid-size (reads-valid r)))
+        rw (y .2) (standing-states (bytes-standing (l .puzzle .grid) decisions none (y .1)) (omega (arith, holds-size x, holds-few x)))
 
     -- where the output is long enough
-    module _ (budget n : ℕ) (h : 8 + q .height * q .width ≤ n) where
+    module _ (budget n : ℕ) (k : 8 + h * w ≤ n) where
       -- a decision is refused
-      pub certain-refused : {k : ℕ} → a ≡ Refused k → hostCertain s decisions budget n ≡ refused k
-      unfolding hostCertain
-      certain-refused f = call-refused need (says budget) s (r .reads) decisions n d (rw (reads-size r) at h) f
+      pub certain-refused : {m : ℕ} → a ≡ Refused m → leafCertain decisions budget n l ≡ refused m
+      certain-refused f = call-refused need (certainOn budget) l decisions n d (rw (holds-size x) at k) f
 
       -- all are accepted
-      pub certain-done : a ≡ Done → hostCertain s decisions budget n ≡ ok (certainIn q cells budget)
-      unfolding hostCertain
-      certain-done f = call-done need (says budget) s (r .reads) decisions n d (rw (reads-size r) at h) f (certainIn q cells budget) said
+      pub certain-done : a ≡ Done → leafCertain decisions budget n l ≡ ok (saidOf (h * w) (certainBy (h * w) budget (search l (take (h * w) cells))))
+      certain-done f = call-done need (certainOn budget) l decisions n d (rw (holds-size x) at k) f (saidOf (h * w) (certainBy (h * w) budget (search l (take (h * w) cells)))) said
         where
-          said : (ds : List Literal) → Standing (r .puzzle .grid) ds → cells ≡ arrayOf 2 (cellsAfter (r .puzzle .grid) ds) → says budget (r .puzzle) ds ≡ certainIn q cells budget
-          said ds t e =
-              let z : take (q .height * q .width) cells ≡ cellsAfter (r .puzzle .grid) ds = rw (reads-size r, e) (states-taken t) in
-              rw (z, reads-size r, reads-puzzle r) refl
+          said : (ds : List Literal) → Standing (l .puzzle .grid) ds → cells ≡ arrayOf 2 (cellsAfter (l .puzzle .grid) ds) → certainOn budget l ds ≡ saidOf (h * w) (certainBy (h * w) budget (search l (take (h * w) cells)))
+          said ds t q =
+              let z : take (h * w) cells ≡ cellsAfter (l .puzzle .grid) ds = rw (holds-size x, q) (states-taken t) in
+              rw (z, holds-size x) refl

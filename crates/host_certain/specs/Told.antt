@@ -5,8 +5,9 @@ use mathlib.Core.List.{List, [], _∷_, _++_}
 use lib.IntN.{ℤ, pos, negℤ}
 use lib.ListN.{take}
 use Rattle.grid.specs.Grid.{size}
+use Rattle.grid.specs.Cells.{Literal}
 use Rattle.record.specs.Record.{Outcome, ok, refused}
-use Rattle.record.specs.Leaf.{inEdition}
+use Rattle.record.specs.Leaf.{Leaf}
 use Rattle.board.specs.Board.{cellsAfter}
 use Rattle.exported.specs.Written.{bytesOf}
 use Rattle.certain.specs.Tree.{search}
@@ -14,7 +15,7 @@ use Rattle.certain.specs.Facts.{certainBy}
 use Rattle.certain.specs.declared.Certainty.{Certainty}
 use Rattle.certain.specs.declared.Certainty.the-variants as certainties
 use Rattle.certain.specs.declared.Facts.{Facts}
-use Rattle.call.specs.Call.{hostCall}
+use Rattle.call.specs.Call.{hostCall, hostCallWith}
 
 -- the kind of an answer as a number: 0 the cells are told, 1 no such board, 2 spent, or the negated refusal number
 unfoldable pub certaintyNumber : Certainty → ℤ
@@ -43,10 +44,17 @@ pub record Said : Type 0 where
 unfoldable pub saidOf : ℕ → Facts → Said
 saidOf n f = record { number = certaintyNumber (f .answer); bytes = certainBytes n (f .answer) f }
 
+-- what is said of a leaf and its decisions
+abbrev pub certainOn : ℕ → Leaf → List Literal → Said
+certainOn budget l ds = saidOf (size (l .puzzle .grid)) (certainBy (size (l .puzzle .grid)) budget (search l (cellsAfter (l .puzzle .grid) ds)))
+
 -- the call opens, decides in order and tells which cells are certain: 11 for an output below 8 + H × W bytes
 unfoldable pub hostCertain : List ℕ → List ℕ → ℕ → ℕ → Outcome Said
-hostCertain s decisions budget k =
-    hostCall (λ g. 8 + size g) (λ p ds. saidOf (size (p .grid)) (certainBy (size (p .grid)) budget (search (inEdition 1 p) (cellsAfter (p .grid) ds)))) s decisions k
+hostCertain s decisions budget k = hostCall (λ g. 8 + size g) (certainOn budget) s decisions k
+
+-- the same in the edition e with sizes
+unfoldable pub hostCertainWith : List ℕ → ℕ → List ℕ → List ℕ → ℕ → ℕ → Outcome Said
+hostCertainWith s e sizes decisions budget k = hostCallWith (λ g. 8 + size g) (certainOn budget) s e sizes decisions k
 
 -- the number returned: what is said, or the negated refusal number
 unfoldable pub saidNumber : Outcome Said → ℤ

@@ -1,4 +1,5 @@
-// The call `evolmino_certain`: a record is opened, decisions are made in order, and it is told which cells are certain.
+// The call `evolmino_certain`: a record is opened, decisions are made in order, and it is told which cells are certain. And the same in an edition with
+// sizes.
 use certain::Certainty;
 use certain::Facts;
 use exported::negated;
@@ -8,9 +9,16 @@ ghost use mathlib.Core.Path.{_≡_};
 ghost use Prim.Native.Nat.{_+_, _≤_};
 ghost use mathlib.Core.List.{_++_};
 ghost use lib.ListN.{length, take, drop};
-ghost use Rattle.record.specs.Record.{ok};
+ghost use mathlib.Core.Bool.{true};
+ghost use Rattle.grid.specs.Side.{sized};
+ghost use Rattle.record.specs.Record.{Puzzle, ok};
+ghost use Rattle.record.specs.Problem.{problemOf};
+ghost use Rattle.record.specs.Leaf.{Leaf, isEdition};
+ghost use Rattle.sizes.specs.Inside.{Drawn};
+ghost use Rattle.call.specs.Inside.{withSizes, Holds};
 ghost use Rattle.exported.specs.Written.{outputWith};
-ghost use Rattle.host_certain.specs.Told.{stepBytes, saidOf, hostCertain, saidNumber, saidBytes};
+ghost use Rattle.host_certain.specs.Told.{stepBytes, saidOf, hostCertain, hostCertainWith, saidNumber, saidBytes};
+ghost use Rattle.host_certain.specs.Inside.{leafCertain};
 
 // Writes a number of steps to the output's first eight bytes, most significant first.
 fn write_steps(steps: u64, output: &mut [u8])
@@ -62,21 +70,27 @@ fn write_certain(facts: Facts, n: usize, output: &mut [u8]) -> i32
     }
 }
 
-// Opens the record in edition 1, decides in order and tells which cells are certain, by a search of at most `budget` steps. Returns 0 where the
-// cells are told, 1 where no finished board agrees with the decisions, 2 where the budget is spent, or the negated number of a refusal,
-// which leaves the output as it was. The output's first eight bytes are the number of steps, most significant first; where the cells are
-// told one byte for each follows, in row order: 0 empty, 1 square, 2 open. The refusals come in `host_find`'s order, and nothing is tested, as there.
-pub fn certain(record: &[u8], decisions: &[u8], budget: u64, output: &mut [u8]) -> i32
-    ensures { λ r. ⌜ (r ≡ saidNumber (hostCertain (now («record» .entry)) (now (decisions .entry)) budget (length (now (output .entry)))))
-        × (now (output .exit) ≡ outputWith (saidBytes (hostCertain (now («record» .entry)) (now (decisions .entry)) budget (length (now (output .entry))))) (now (output .entry))) ⌝ }
+// Decides in order on the leaf that is held, and searches: 11 for an output that is too short, then the decisions' refusals. Nothing is tested, as in
+// `host_find`.
+fn certain_behind<'a>(
+    edition: u8,
+    lowest: &'a [u16],
+    highest: &'a [u16],
+    codes: &'a [u8; 1024],
+    arrows: &'a [u16; 1024],
+    ends: &'a [u16; 1024],
+    number: usize,
+    h: usize,
+    w: usize,
+    decisions: &[u8],
+    budget: u64,
+    output: &mut [u8],
+) -> i32
+    requires { ⌜ ((l : Leaf) × Holds l edition (now lowest) (now highest) h w (now arrows) (now ends) number × (now codes ≡ problemOf (l .puzzle) .cells)) ⌝ }
+    ensures { λ r. ⌜ ((l : Leaf) → Holds l edition (now (lowest .entry)) (now (highest .entry)) h w (now (arrows .entry)) (now (ends .entry)) number → now (codes .entry) ≡ problemOf (l .puzzle) .cells
+        → (r ≡ saidNumber (leafCertain (now (decisions .entry)) budget (length (now (output .entry))) l))
+        × (now (output .exit) ≡ outputWith (saidBytes (leafCertain (now (decisions .entry)) budget (length (now (output .entry))) l)) (now (output .entry)))) ⌝ }
 {
-    let reading = record::read(record);
-    let read = reading.answer;
-    if let Answer::Refused(k) = read {
-        return negated(k);
-    }
-    let h = reading.problem.height;
-    let w = reading.problem.width;
     if output.len() < 8 + h * w {
         return negated(11);
     }
@@ -85,12 +99,14 @@ pub fn certain(record: &[u8], decisions: &[u8], budget: u64, output: &mut [u8]) 
     match answer {
         Answer::Done => {
             let facts = certain::certain_cells(
-                1,
+                edition,
+                lowest,
+                highest,
                 &mut cells,
-                &reading.problem.cells,
-                &reading.problem.arrows,
-                &reading.problem.ends,
-                reading.problem.count,
+                codes,
+                arrows,
+                ends,
+                number,
                 h,
                 w,
                 budget,
@@ -99,4 +115,109 @@ pub fn certain(record: &[u8], decisions: &[u8], budget: u64, output: &mut [u8]) 
         }
         Answer::Refused(k) => negated(k),
     }
+}
+
+// Reads the sizes, and goes on with them: 22, then as without. It is a function of its own so that a call without sizes has no arrays for them.
+fn certain_sized<'a>(
+    edition: u8,
+    sizes: &'a [u8],
+    codes: &'a [u8; 1024],
+    arrows: &'a [u16; 1024],
+    ends: &'a [u16; 1024],
+    number: usize,
+    h: usize,
+    w: usize,
+    decisions: &[u8],
+    budget: u64,
+    output: &mut [u8],
+) -> i32
+    requires { ⌜ (isEdition edition ≡ true) × ((p : Puzzle) × Drawn p (now arrows) (now ends) number × (sized h w ≡ p .grid) × (now codes ≡ problemOf p .cells)) ⌝ }
+    ensures { λ r. ⌜ ((p : Puzzle) → Drawn p (now (arrows .entry)) (now (ends .entry)) number → sized h w ≡ p .grid → now (codes .entry) ≡ problemOf p .cells
+        → (r ≡ saidNumber (withSizes (leafCertain (now (decisions .entry)) budget (length (now (output .entry)))) edition (now (sizes .entry)) p))
+        × (now (output .exit) ≡ outputWith (saidBytes (withSizes (leafCertain (now (decisions .entry)) budget (length (now (output .entry)))) edition (now (sizes .entry)) p)) (now (output .entry)))) ⌝ }
+{
+    let mut lowest = [0u16; 1024];
+    let mut highest = [0u16; 1024];
+    let read = sizes::read_size_bytes(sizes, arrows, ends, number, &mut lowest, &mut highest);
+    if let Answer::Refused(k) = read {
+        return negated(k);
+    }
+    let n = h * w;
+    certain_behind(
+        edition,
+        &lowest[..n],
+        &highest[..n],
+        codes,
+        arrows,
+        ends,
+        number,
+        h,
+        w,
+        decisions,
+        budget,
+        output,
+    )
+}
+
+// Opens the record in an edition with sizes, as `host_find::find_with` does, decides in order and tells which cells are certain, by a search of at most
+// `budget` steps. Returns 0 where the cells are told, 1 where no finished board agrees with the decisions, 2 where the budget is spent, or the negated
+// number of a refusal, which leaves the output as it was. The output's first eight bytes are the number of steps, most significant first; where the cells
+// are told one byte for each follows, in row order: 0 empty, 1 square, 2 open. The refusals come in `host_find`'s order.
+pub fn certain_with(
+    record: &[u8],
+    edition: u32,
+    sizes: &[u8],
+    decisions: &[u8],
+    budget: u64,
+    output: &mut [u8],
+) -> i32
+    ensures { λ r. ⌜ (r ≡ saidNumber (hostCertainWith (now («record» .entry)) edition (now (sizes .entry)) (now (decisions .entry)) budget (length (now (output .entry)))))
+        × (now (output .exit) ≡ outputWith (saidBytes (hostCertainWith (now («record» .entry)) edition (now (sizes .entry)) (now (decisions .entry)) budget (length (now (output .entry))))) (now (output .entry))) ⌝ }
+{
+    let reading = record::read(record);
+    let read = reading.answer;
+    if let Answer::Refused(k) = read {
+        return negated(k);
+    }
+    let e = call::edition_of(edition);
+    if e == 0 {
+        return negated(16);
+    }
+    if sizes.len() == 0 {
+        return certain_behind(
+            e,
+            &[],
+            &[],
+            &reading.problem.cells,
+            &reading.problem.arrows,
+            &reading.problem.ends,
+            reading.problem.count,
+            reading.problem.height,
+            reading.problem.width,
+            decisions,
+            budget,
+            output,
+        );
+    }
+    certain_sized(
+        e,
+        sizes,
+        &reading.problem.cells,
+        &reading.problem.arrows,
+        &reading.problem.ends,
+        reading.problem.count,
+        reading.problem.height,
+        reading.problem.width,
+        decisions,
+        budget,
+        output,
+    )
+}
+
+// The same in edition 1 and without sizes.
+pub fn certain(record: &[u8], decisions: &[u8], budget: u64, output: &mut [u8]) -> i32
+    ensures { λ r. ⌜ (r ≡ saidNumber (hostCertain (now («record» .entry)) (now (decisions .entry)) budget (length (now (output .entry)))))
+        × (now (output .exit) ≡ outputWith (saidBytes (hostCertain (now («record» .entry)) (now (decisions .entry)) budget (length (now (output .entry))))) (now (output .entry))) ⌝ }
+{
+    certain_with(record, 1, &[], decisions, budget, output)
 }

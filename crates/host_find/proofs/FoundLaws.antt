@@ -12,7 +12,7 @@ use Rattle.grid.specs.Grid.{size}
 use Rattle.grid.specs.Side.{sized}
 use Rattle.record.specs.Record.{Outcome, ok, refused}
 use Rattle.grid.specs.Cells.{Literal, word}
-use Rattle.record.specs.Leaf.{inEdition}
+use Rattle.record.specs.Leaf.{Range, leafWith}
 use Rattle.kinds.specs.Inside.{puzzleWith}
 use Rattle.literals.specs.Literals.{Found}
 use Rattle.reasons.specs.Reasons.{findReason}
@@ -49,10 +49,10 @@ found-literals (some r) {before} {after} {k} x =
     }
 
 -- and they are no more than an output has to have room for
-pub few-literals : (h w : ℕ) {arrows ends : List ℕ} {number total : ℕ} (cells : List ℕ) {k : ℕ} {buffer : List ℕ} → ArrowArrays (h * w) arrows ends number total
-    → Literals (findReason (inEdition 1 (puzzleWith (sized h w) (linesOf arrows ends number))) cells) k buffer → k ≤ 3 * (h * w) + 1
+pub few-literals : (e : ℕ) (sizes : List Range) (h w : ℕ) {arrows ends : List ℕ} {number total : ℕ} (cells : List ℕ) {k : ℕ} {buffer : List ℕ} → ArrowArrays (h * w) arrows ends number total
+    → Literals (findReason (leafWith e sizes (puzzleWith (sized h w) (linesOf arrows ends number))) cells) k buffer → k ≤ 3 * (h * w) + 1
 unfolding size
-few-literals h w {arrows} {ends} {number} cells d l = rw (l .many) (reason-length 1 (puzzleWith (sized h w) (linesOf arrows ends number)) cells (d .drawn .few) (l .reason) (l .is))
+few-literals e sizes h w {arrows} {ends} {number} cells d l = rw (l .many) (reason-length (leafWith e sizes (puzzleWith (sized h w) (linesOf arrows ends number))) cells (d .drawn .few) (l .reason) (l .is))
 
 -- none, as the host has it
 pub none-told : {f : Found} (output : List ℕ) → f ≡ none → (pos 0 ≡ returned (ok f)) × (output ≡ outputAfter (ok f) output)

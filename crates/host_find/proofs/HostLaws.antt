@@ -5,16 +5,18 @@ use native.Mathlib.Omega.{arith}
 use mathlib.Core.Path.{_≡_, refl, sym, ap, _∙_}
 use mathlib.Core.List.{List, []}
 use lib.ListN.{length, take}
+use Rattle.grid.specs.Grid.{Grid}
 use Rattle.grid.specs.Side.{sized}
-use Rattle.grid.specs.Lists.{arrayOf}
+use Rattle.grid.specs.Lists.{last, arrayOf}
 use Rattle.grid.specs.Cells.{Literal}
 use Rattle.record.specs.Record.{Outcome, ok, refused, Puzzle, readRecord, _>>=_}
-use Rattle.record.specs.Problem.{gridOf, puzzleOf}
-use Rattle.record.specs.Leaf.{Leaf, inEdition}
-use Rattle.record.specs.declared.Problem.{Problem}
+use Rattle.record.specs.Problem.{problemOf}
+use Rattle.record.specs.Leaf.{Leaf, leafWith, inEdition}
+use Rattle.record.specs.Sizes.{keptRanges}
 use Rattle.record.specs.declared.Answer.{Answer}
 use Rattle.record.specs.declared.Answer.the-variants.{Done, Refused}
 use Rattle.record.proofs.RecordLaws.{record-valid}
+use Rattle.record.proofs.LeafLaws.{ValidLeaf}
 use Rattle.board.specs.Board.{cellsAfter, enough}
 use Rattle.board.specs.Kept.{noHints, boardOf}
 use Rattle.board.specs.Decide.{refusedWith, decideAllOf}
@@ -25,62 +27,87 @@ use Rattle.kinds.specs.Inside.{puzzleWith}
 use Rattle.literals.specs.Literals.{Found}
 use Rattle.reasons.specs.Reasons.{findReason, findOn}
 use Rattle.groups.specs.Arrays.{linesOf}
+use Rattle.inconsistency.specs.Arrays.{ArrowArrays}
 use Rattle.reasons.specs.Find.{answerOn}
-use Rattle.reasons.proofs.BoardArrays.{codes-aside}
+use Rattle.reasons.proofs.BoardArrays.{arrow-arrays, codes-aside}
 use Rattle.reasons.proofs.Demand3.{long-answer}
-use Rattle.call.specs.Call.{decideBytes, hostCall}
-use Rattle.call.specs.Inside.{Decides}
-use Rattle.call.proofs.Steps.{Reads, decidedBy, bytes-standing, first-leaf, fresh-well, all-decided, states-taken, reads-size, reads-puzzle, call-unread, call-short, call-long, call-refused, call-done}
-use Rattle.host_find.specs.Host.{hostFinds}
+use Rattle.call.specs.Call.{decideBytes, leafFrom}
+use Rattle.call.specs.Inside.{Decides, Holds}
+use Rattle.call.proofs.Opened.{from-valid}
+use Rattle.call.proofs.Steps.{decidedBy, bytes-standing, first-leaf, fresh-well, all-decided, states-taken, call-short, call-long, call-refused, call-done, call-plain}
+use Rattle.call.proofs.Holding.{holds-size, holds-lines, holds-ranges}
+use Rattle.host_find.specs.Host.{hostFinds, hostFindsWith}
+use Rattle.host_find.specs.Inside.{leafFinds}
 
--- a refused record
-pub record-refused : (s : List ℕ) {k : ℕ} → readRecord s ≡ refused k → (decisions : List ℕ) (n : ℕ) → hostFinds s decisions n ≡ refused k
-unfolding hostFinds
-record-refused s e decisions n = call-unread (λ g. 2 * enough g) (λ p. findOn (inEdition 1 p)) s e decisions n
+-- the host call is the call in edition 1 without sizes
+pub finds-plain : (s decisions : List ℕ) (n : ℕ) → hostFinds s decisions n ≡ hostFindsWith s 1 [] decisions n
+unfolding hostFinds hostFindsWith
+finds-plain s decisions n = call-plain (λ g. 2 * enough g) findOn s decisions n
 
--- the first reason in edition 1, by the arrays of a problem and the states of its cells
-abbrev pub reasonIn : Problem → List ℕ → Found
-reasonIn q cells = findReason (inEdition 1 (puzzleWith (sized (q .height) (q .width)) (linesOf (q .arrows) (q .ends) (q .count)))) (take (q .height * q .width) cells)
+-- what the output needs
+abbrev need : Grid → ℕ
+need g = 2 * enough g
 
-module _ {s : List ℕ} {q : Problem} (r : Reads s q) (decisions : List ℕ) (n : ℕ) where
-  -- an output that is too short
-  pub output-short : n < 2 * (3 * (q .height * q .width) + 1) → hostFinds s decisions n ≡ refused 11
-  unfolding hostFinds enough
-  output-short h = call-short (λ g. 2 * enough g) (λ p. findOn (inEdition 1 p)) s (r .reads) decisions n (rw (reads-size r) at h)
+module _ {l : Leaf} {e : ℕ} {lows highs : List ℕ} {h w : ℕ} {arrows ends : List ℕ} {number : ℕ} (x : Holds l e lows highs h w arrows ends number) where
+  -- the first reason by the arrays and slices and the states of the cells
+  abbrev pub reasonIn : List ℕ → Found
+  reasonIn cells = findReason (leafWith e (keptRanges lows highs (length lows)) (puzzleWith (sized h w) (linesOf arrows ends number))) (take (h * w) cells)
 
-  -- what deciding in order answers, and the states that it leaves, where it is long enough
-  module _ {a : Answer} {cells : List ℕ} (d : Decides (r .puzzle .grid) decisions a cells) (h : 2 * (3 * (q .height * q .width) + 1) ≤ n) where
-    -- a decision is refused
-    pub decisions-refused : {k : ℕ} → a ≡ Refused k → hostFinds s decisions n ≡ refused k
-    unfolding hostFinds enough
-    decisions-refused f = call-refused (λ g. 2 * enough g) (λ p. findOn (inEdition 1 p)) s (r .reads) decisions n d (rw (reads-size r) at h) f
+  -- it is the leaf's
+  reason-is : (states : List ℕ) → findReason (leafWith e (keptRanges lows highs (length lows)) (puzzleWith (sized h w) (linesOf arrows ends number))) states ≡ findReason l states
+  reason-is states = rw (x .edition, holds-ranges x, x .grid, holds-lines x) (codes-aside l states)
 
-    -- all are accepted
-    pub decisions-done : a ≡ Done → hostFinds s decisions n ≡ ok (reasonIn q cells)
-    unfolding hostFinds enough findOn puzzleOf gridOf
-    decisions-done f = call-done (λ g. 2 * enough g) (λ p. findOn (inEdition 1 p)) s (r .reads) decisions n d (rw (reads-size r) at h) f (reasonIn q cells) said
-      where
-        by-arrays : (states : List ℕ) → findReason (inEdition 1 (puzzleWith (sized (q .height) (q .width)) (linesOf (q .arrows) (q .ends) (q .count)))) states ≡ findReason (inEdition 1 (r .puzzle)) states
-        by-arrays states = codes-aside 1 (puzzleOf q) states ∙ ap (λ (p : Puzzle). findReason (inEdition 1 p) states) (reads-puzzle r)
+  -- the arrays hold the arrows
+  pub holds-arrays : ArrowArrays (h * w) arrows ends number (last 0 (take number ends))
+  holds-arrays = rw (x .drawn .line, x .drawn .cuts, x .drawn .number, holds-size x) (arrow-arrays (l .puzzle) (x .drawn .valid))
 
-        said : (ds : List Literal) → Standing (r .puzzle .grid) ds → cells ≡ arrayOf 2 (cellsAfter (r .puzzle .grid) ds) → findOn (inEdition 1 (r .puzzle)) ds ≡ reasonIn q cells
-        said ds t e =
-            let z : take (q .height * q .width) cells ≡ cellsAfter (r .puzzle .grid) ds = rw (reads-size r, e) (states-taken t) in
-            sym (by-arrays (take (q .height * q .width) cells) ∙ ap (findReason (inEdition 1 (r .puzzle))) z)
+  pub holds-small : (h ≤ 32) × (w ≤ 32)
+  holds-small = let v = x .drawn .valid .high in (omega (arith, ap (λ (g : Grid). g .height) (x .grid), v .0), omega (arith, ap (λ (g : Grid). g .width) (x .grid), v .1))
 
-module _ (s : List ℕ) {p : Puzzle} (reads : readRecord s ≡ ok p) {b : Board} (fresh : b ≡ boardOf (inEdition 1 p) [] noHints) (decisions : List ℕ) (n : ℕ) where
-  -- the call finds as player 0: with its decisions accepted it says what find answers that player on the board that is left
-  module _ (buffer : List ℕ) (k : enough (p .grid) ≤ length buffer) (h : 2 * enough (p .grid) ≤ n) where
-    pub as-player-0 : decideAllOf b decisions .answer ≡ Done → hostFinds s decisions n ≡ answerOn (decideAllOf b decisions .board) 0 buffer
-    unfolding hostFinds decideAllOf decidedBy refusedWith
-    as-player-0 done = rw (fresh-well p (record-valid s reads) fresh, all-decided p (record-valid s reads) fresh decisions) (go (decideBytes (p .grid) [] decisions) refl (rw (fresh-well p (record-valid s reads) fresh, all-decided p (record-valid s reads) fresh decisions) at done))
-      where
-        l : Leaf
-        l = inEdition 1 p
+  module _ (decisions : List ℕ) (n : ℕ) where
+    -- an output that is too short
+    pub output-short : n < 2 * (3 * (h * w) + 1) → leafFinds decisions n l ≡ refused 11
+    unfolding enough
+    output-short k = call-short need findOn l decisions n (rw (holds-size x) at k)
 
-        go : (r : Outcome (List Literal)) → decideBytes (p .grid) [] decisions ≡ r → decidedBy b l r .answer ≡ Done
-            → hostCall (λ g. 2 * enough g) (λ p. findOn (inEdition 1 p)) s decisions n ≡ answerOn (decidedBy b l r .board) 0 buffer
-        go (refused m) q e = let z : _≡_ {A = ℕ} 0 1 = cc in absurd (omega arith)
-        go (ok ds) q e =
-            call-long (λ g. 2 * enough g) (λ p. findOn (inEdition 1 p)) s reads decisions n h ∙ unfold _>>=_ in
-            rw q (sym (long-answer l (first-leaf p (record-valid s reads)) no-hints (bytes-standing (p .grid) decisions none q) 0 (omega arith) buffer k))
+    -- what deciding in order answers, and the states that it leaves, where it is long enough
+    module _ {a : Answer} {cells : List ℕ} (d : Decides (l .puzzle .grid) decisions a cells) (k : 2 * (3 * (h * w) + 1) ≤ n) where
+      -- a decision is refused
+      pub decisions-refused : {m : ℕ} → a ≡ Refused m → leafFinds decisions n l ≡ refused m
+      unfolding enough
+      decisions-refused f = call-refused need findOn l decisions n d (rw (holds-size x) at k) f
+
+      -- all are accepted
+      pub decisions-done : a ≡ Done → leafFinds decisions n l ≡ ok (reasonIn cells)
+      unfolding enough findOn
+      decisions-done f = call-done need findOn l decisions n d (rw (holds-size x) at k) f (reasonIn cells) said
+        where
+          said : (ds : List Literal) → Standing (l .puzzle .grid) ds → cells ≡ arrayOf 2 (cellsAfter (l .puzzle .grid) ds) → findOn l ds ≡ reasonIn cells
+          said ds t q =
+              let z : take (h * w) cells ≡ cellsAfter (l .puzzle .grid) ds = rw (holds-size x, q) (states-taken t) in
+              sym (reason-is (take (h * w) cells) ∙ ap (findReason l) z)
+
+-- the call finds as player 0: with its decisions accepted it says what find answers that player on the board that is left
+module _ (l : Leaf) (v : ValidLeaf l) {b : Board} (fresh : b ≡ boardOf l [] noHints) (decisions : List ℕ) (n : ℕ) (buffer : List ℕ) (k : enough (l .puzzle .grid) ≤ length buffer) (h : 2 * enough (l .puzzle .grid) ≤ n) where
+  leaf-player-0 : decideAllOf b decisions .answer ≡ Done → leafFinds decisions n l ≡ answerOn (decideAllOf b decisions .board) 0 buffer
+  unfolding decideAllOf decidedBy refusedWith
+  leaf-player-0 done = rw (fresh-well l v fresh, all-decided l v fresh decisions) (go (decideBytes (l .puzzle .grid) [] decisions) refl (rw (fresh-well l v fresh, all-decided l v fresh decisions) at done))
+    where
+      go : (r : Outcome (List Literal)) → decideBytes (l .puzzle .grid) [] decisions ≡ r → decidedBy b l r .answer ≡ Done → leafFinds decisions n l ≡ answerOn (decidedBy b l r .board) 0 buffer
+      go (refused m) q e = let z : _≡_ {A = ℕ} 0 1 = cc in absurd (omega arith)
+      go (ok ds) q e =
+          call-long need findOn l decisions n h ∙ unfold _>>=_ in
+          rw q (sym (long-answer l v no-hints (bytes-standing (l .puzzle .grid) decisions none q) 0 (omega arith) buffer k))
+
+module _ (s : List ℕ) {b : Board} (decisions : List ℕ) (n : ℕ) (buffer : List ℕ) where
+  -- on the board of a record in edition 1 without sizes
+  pub as-player-0 : {p : Puzzle} → readRecord s ≡ ok p → b ≡ boardOf (inEdition 1 p) [] noHints → enough (p .grid) ≤ length buffer → 2 * enough (p .grid) ≤ n
+      → decideAllOf b decisions .answer ≡ Done → hostFinds s decisions n ≡ answerOn (decideAllOf b decisions .board) 0 buffer
+  unfolding hostFinds _>>=_
+  as-player-0 {p} reads fresh k h done = rw reads (leaf-player-0 (inEdition 1 p) (first-leaf p (record-valid s reads)) fresh decisions n buffer k h done)
+
+  -- and on that of a leaf in an edition with sizes
+  pub with-player-0 : (e : ℕ) (sizes : List ℕ) {l : Leaf} → leafFrom s e sizes ≡ ok l → b ≡ boardOf l [] noHints → enough (l .puzzle .grid) ≤ length buffer → 2 * enough (l .puzzle .grid) ≤ n
+      → decideAllOf b decisions .answer ≡ Done → hostFindsWith s e sizes decisions n ≡ answerOn (decideAllOf b decisions .board) 0 buffer
+  unfolding hostFindsWith _>>=_
+  with-player-0 e sizes {l} opens fresh k h done = rw opens (leaf-player-0 l (from-valid s e sizes opens) fresh decisions n buffer k h done)

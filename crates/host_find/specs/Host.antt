@@ -7,16 +7,19 @@ use lib.IntN.{ℤ, pos, negℤ}
 use lib.ListN.{length, drop}
 use Rattle.grid.specs.Cells.{word}
 use Rattle.record.specs.Record.{Outcome, ok, refused}
-use Rattle.record.specs.Leaf.{inEdition}
 use Rattle.exported.specs.Written.{bytesOf}
 use Rattle.board.specs.Board.{enough}
 use Rattle.reasons.specs.Reasons.{findOn}
 use Rattle.literals.specs.Literals.{Found}
-use Rattle.call.specs.Call.{hostCall}
+use Rattle.call.specs.Call.{hostCall, hostCallWith}
 
 -- the host call opens, decides in order and finds
 unfoldable pub hostFinds : List ℕ → List ℕ → ℕ → Outcome Found
-hostFinds s decisions k = hostCall (λ g. 2 * enough g) (λ p. findOn (inEdition 1 p)) s decisions k
+hostFinds s decisions k = hostCall (λ g. 2 * enough g) findOn s decisions k
+
+-- the same in the edition e with sizes
+unfoldable pub hostFindsWith : List ℕ → ℕ → List ℕ → List ℕ → ℕ → Outcome Found
+hostFindsWith s e sizes decisions k = hostCallWith (λ g. 2 * enough g) findOn s e sizes decisions k
 
 -- the number returned: the literal count, 0 for none, or the negated refusal number
 unfoldable pub returned : Outcome Found → ℤ

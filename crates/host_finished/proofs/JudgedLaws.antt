@@ -4,7 +4,7 @@
 use Prim.Native.Nat.{ℕ, zero, suc, _*_}
 use native.Mathlib.Omega.{arith}
 use mathlib.Core.Logic.{_↔_}
-use mathlib.Core.Path.{_≡_, refl}
+use mathlib.Core.Path.{_≡_, refl, sym}
 use mathlib.Core.Bool.{Bool, true, false}
 use mathlib.Core.List.{List, []}
 use lib.IntN.{pos, negℤ}
@@ -12,47 +12,54 @@ use lib.ListN.{length, take}
 use Rattle.grid.specs.Cells.{Literal}
 use Rattle.grid.proofs.ArrayLaws.{array-length}
 use Rattle.record.specs.Record.{Outcome, ok, refused, _>>=_, Puzzle, readRecord}
-use Rattle.record.specs.Leaf.{inEdition}
-use Rattle.record.specs.Problem.{puzzleOf}
-use Rattle.record.specs.declared.Problem.{Problem}
+use Rattle.record.specs.Leaf.{Leaf, inEdition}
 use Rattle.record.specs.declared.Answer.{Answer}
 use Rattle.record.specs.declared.Answer.the-variants.{Done, Refused}
-use Rattle.record.proofs.RecordLaws.{record-valid, valid-size}
+use Rattle.record.proofs.RecordLaws.{record-valid}
+use Rattle.record.proofs.LeafLaws.{ValidLeaf}
 use Rattle.board.specs.Board.{cellsAfter}
 use Rattle.board.proofs.Standing.{none, cells-valid}
 use Rattle.finished.specs.Finished.{Finished, finishedTest}
 use Rattle.finished.proofs.FinishedLaws.{finished-means}
-use Rattle.call.specs.Call.{decideBytes}
-use Rattle.call.specs.Inside.{Decides}
-use Rattle.call.proofs.Steps.{Reads, bytes-standing, states-taken, reads-valid, reads-size, reads-puzzle}
-use Rattle.host_finished.specs.Judged.{hostFinished, judged, FinishedBy}
+use Rattle.call.specs.Call.{decideBytes, leafFrom}
+use Rattle.call.specs.Inside.{Decides, Holds}
+use Rattle.call.proofs.Opened.{with-none, from-valid}
+use Rattle.call.proofs.Steps.{bytes-standing, first-leaf, states-taken}
+use Rattle.call.proofs.Holding.{holds-size, holds-few}
+use Rattle.host_finished.specs.Judged.{judgeOn, hostFinished, hostFinishedWith, judged, FinishedBy, FinishedWith}
 
--- a refused record
-pub judged-unread : (s : List ℕ) {k : ℕ} → readRecord s ≡ refused k → (decisions : List ℕ) → negℤ (pos k) ≡ judged (hostFinished s decisions)
-unfolding hostFinished _>>=_ judged
-judged-unread s e decisions = rw e refl
+-- the call is that in edition 1 without sizes
+pub finished-plain : (s decisions : List ℕ) → hostFinished s decisions ≡ hostFinishedWith s 1 [] decisions
+unfolding hostFinished hostFinishedWith
+finished-plain s decisions = sym (with-none (judgeOn decisions) s)
+
+-- a refusal
+pub judged-not : {o : Outcome Bool} {k : ℕ} → o ≡ refused k → negℤ (pos k) ≡ judged o
+unfolding judged
+judged-not e = rw e refl
 
 -- what deciding in order answers, and the states that it leaves
-module _ {s : List ℕ} {q : Problem} (r : Reads s q) (decisions : List ℕ) {a : Answer} {cells : List ℕ} (d : Decides (r .puzzle .grid) decisions a cells) where
+module _ {l : Leaf} {e : ℕ} {lows highs : List ℕ} {h w : ℕ} {arrows ends : List ℕ} {number : ℕ} (x : Holds l e lows highs h w arrows ends number)
+    (decisions : List ℕ) {a : Answer} {cells : List ℕ} (d : Decides (l .puzzle .grid) decisions a cells) where
   -- a decision is refused
-  pub judged-refused : {k : ℕ} → a ≡ Refused k → negℤ (pos k) ≡ judged (hostFinished s decisions)
-  unfolding hostFinished _>>=_ judged
-  judged-refused f = rw (r .reads, d .refusal f) refl
+  pub judged-refused : {k : ℕ} → a ≡ Refused k → negℤ (pos k) ≡ judged (judgeOn decisions l)
+  unfolding _>>=_ judged
+  judged-refused f = rw (d .refusal f) refl
 
   -- all are accepted: the array of the states
   pub left-long : a ≡ Done → length cells ≡ 1024
   left-long f =
       let y = d .done f in
-      let t = bytes-standing (r .puzzle .grid) decisions none (y .1) in
-      rw (y .2) (array-length 2 (cellsAfter (r .puzzle .grid) (y .0)) (omega (arith, cells-valid t .long, valid-size (reads-valid r))))
+      let t = bytes-standing (l .puzzle .grid) decisions none (y .1) in
+      rw (y .2) (array-length 2 (cellsAfter (l .puzzle .grid) (y .0)) (omega (arith, cells-valid t .long, holds-size x, holds-few x)))
 
   -- and the verdict on them
-  pub judged-done : a ≡ Done → judged (ok (finishedTest (inEdition 1 (puzzleOf q)) (take (q .height * q .width) cells))) ≡ judged (hostFinished s decisions)
-  unfolding hostFinished _>>=_
+  pub judged-done : a ≡ Done → judged (ok (finishedTest l (take (h * w) cells))) ≡ judged (judgeOn decisions l)
+  unfolding _>>=_
   judged-done f =
       let y = d .done f in
-      let z : take (q .height * q .width) cells ≡ cellsAfter (r .puzzle .grid) (y .0) = rw (reads-size r, y .2) (states-taken (bytes-standing (r .puzzle .grid) decisions none (y .1))) in
-      rw (z, reads-puzzle r, r .reads, y .1) refl
+      let z : take (h * w) cells ≡ cellsAfter (l .puzzle .grid) (y .0) = rw (holds-size x, y .2) (states-taken (bytes-standing (l .puzzle .grid) decisions none (y .1))) in
+      rw (z, y .1) refl
 
 -- ---- what it returns
 
@@ -65,29 +72,54 @@ unfolding judged
 one-is-yes true e = refl
 one-is-yes false e = let z : _≡_ {A = ℕ} 0 1 = cc in absurd (omega arith)
 
-module _ (s decisions : List ℕ) where
-  -- the cells that accepted decisions leave on the board of an accepted record
-  means : (p : Puzzle) → readRecord s ≡ ok p → (ds : List Literal) → decideBytes (p .grid) [] decisions ≡ ok ds
-      → (finishedTest (inEdition 1 p) (cellsAfter (p .grid) ds) ≡ true) ↔ Finished (inEdition 1 p) (cellsAfter (p .grid) ds)
-  means p e ds d = finished-means (inEdition 1 p) (record-valid s e) (cellsAfter (p .grid) ds) (cells-valid (bytes-standing (p .grid) decisions none d) .long)
+module _ (decisions : List ℕ) where
+  -- the decisions are accepted on the leaf, and the board that they leave is finished
+  record JudgedYes (l : Leaf) : Type 0 where
+    accepted : List Literal
+    decides : decideBytes (l .puzzle .grid) [] decisions ≡ ok accepted
+    finished : Finished l (cellsAfter (l .puzzle .grid) accepted)
 
-  decided-as : (p : Puzzle) → readRecord s ≡ ok p → (r : Outcome (List Literal)) → decideBytes (p .grid) [] decisions ≡ r
-      → judged (r >>= λ ds. ok (finishedTest (inEdition 1 p) (cellsAfter (p .grid) ds))) ≡ pos 1 → FinishedBy s decisions
-  unfolding judged _>>=_
-  decided-as p e (refused k) d h = absurd (never-one k h)
-  decided-as p e (ok ds) d h =
-      record { puzzle = p; reads = e; accepted = ds; decides = d; finished = means p e ds d .0 (one-is-yes (finishedTest (inEdition 1 p) (cellsAfter (p .grid) ds)) h) }
+  module _ (l : Leaf) (v : ValidLeaf l) where
+    means : (ds : List Literal) → decideBytes (l .puzzle .grid) [] decisions ≡ ok ds → (finishedTest l (cellsAfter (l .puzzle .grid) ds) ≡ true) ↔ Finished l (cellsAfter (l .puzzle .grid) ds)
+    means ds d = finished-means l (v .puzzle) (cellsAfter (l .puzzle .grid) ds) (cells-valid (bytes-standing (l .puzzle .grid) decisions none d) .long)
 
-  read-as : (r : Outcome Puzzle) → readRecord s ≡ r
-      → judged (r >>= λ p. decideBytes (p .grid) [] decisions >>= λ ds. ok (finishedTest (inEdition 1 p) (cellsAfter (p .grid) ds))) ≡ pos 1 → FinishedBy s decisions
-  unfolding judged _>>=_
-  read-as (refused k) e h = absurd (never-one k h)
-  read-as (ok p) e h = decided-as p e (decideBytes (p .grid) [] decisions) refl h
+    leaf-yes : (r : Outcome (List Literal)) → decideBytes (l .puzzle .grid) [] decisions ≡ r → judged (r >>= λ ds. ok (finishedTest l (cellsAfter (l .puzzle .grid) ds))) ≡ pos 1 → JudgedYes l
+    unfolding judged _>>=_
+    leaf-yes (refused k) d h = absurd (never-one k h)
+    leaf-yes (ok ds) d h = record { accepted = ds; decides = d; finished = means ds d .0 (one-is-yes (finishedTest l (cellsAfter (l .puzzle .grid) ds)) h) }
 
-  -- the call returns 1 exactly where the record and the decisions are accepted and the board that they leave is finished
-  pub judged-exact : (judged (hostFinished s decisions) ≡ pos 1) ↔ FinishedBy s decisions
-  unfolding hostFinished judged _>>=_
-  judged-exact = (
-    λ e. read-as (readRecord s) refl e,
-    λ f. rw (f .reads, f .decides, means (f .puzzle) (f .reads) (f .accepted) (f .decides) .1 (f .finished)) refl,
-  )
+    leaf-one : (ds : List Literal) → decideBytes (l .puzzle .grid) [] decisions ≡ ok ds → Finished l (cellsAfter (l .puzzle .grid) ds) → judged (judgeOn decisions l) ≡ pos 1
+    unfolding judged _>>=_
+    leaf-one ds d f = rw (d, means ds d .1 f) refl
+
+  module _ (s : List ℕ) where
+    read-as : (r : Outcome Puzzle) → readRecord s ≡ r → judged (r >>= λ p. judgeOn decisions (inEdition 1 p)) ≡ pos 1 → FinishedBy s decisions
+    unfolding judged _>>=_
+    read-as (refused k) e h = absurd (never-one k h)
+    read-as (ok p) e h =
+        let y = leaf-yes (inEdition 1 p) (first-leaf p (record-valid s e)) (decideBytes (p .grid) [] decisions) refl h in
+        record { puzzle = p; reads = e; accepted = y .accepted; decides = y .decides; finished = y .finished }
+
+    -- the call returns 1 exactly where the record and the decisions are accepted and the board that they leave is finished
+    pub judged-exact : (judged (hostFinished s decisions) ≡ pos 1) ↔ FinishedBy s decisions
+    unfolding hostFinished _>>=_
+    judged-exact = (
+      λ e. read-as (readRecord s) refl e,
+      λ f. rw (f .reads) (leaf-one (inEdition 1 (f .puzzle)) (first-leaf (f .puzzle) (record-valid s (f .reads))) (f .accepted) (f .decides) (f .finished)),
+    )
+
+    module _ (e : ℕ) (sizes : List ℕ) where
+      opened-as : (o : Outcome Leaf) → leafFrom s e sizes ≡ o → judged (o >>= λ l. judgeOn decisions l) ≡ pos 1 → FinishedWith s e sizes decisions
+      unfolding judged _>>=_
+      opened-as (refused k) q h = absurd (never-one k h)
+      opened-as (ok l) q h =
+          let y = leaf-yes l (from-valid s e sizes q) (decideBytes (l .puzzle .grid) [] decisions) refl h in
+          record { leaf = l; opens = q; accepted = y .accepted; decides = y .decides; finished = y .finished }
+
+      -- so it does in an edition with sizes
+      pub with-exact : (judged (hostFinishedWith s e sizes decisions) ≡ pos 1) ↔ FinishedWith s e sizes decisions
+      unfolding hostFinishedWith _>>=_
+      with-exact = (
+        λ q. opened-as (leafFrom s e sizes) refl q,
+        λ f. rw (f .opens) (leaf-one (f .leaf) (from-valid s e sizes (f .opens)) (f .accepted) (f .decides) (f .finished)),
+      )

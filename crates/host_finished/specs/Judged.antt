@@ -7,17 +7,28 @@ use mathlib.Core.List.{List, []}
 use lib.IntN.{ℤ, pos, negℤ}
 use Rattle.grid.specs.Cells.{Literal}
 use Rattle.record.specs.Record.{Outcome, ok, refused, _>>=_, Puzzle, readRecord}
-use Rattle.record.specs.Leaf.{inEdition}
+use Rattle.record.specs.Leaf.{Leaf, inEdition}
 use Rattle.board.specs.Board.{cellsAfter}
 use Rattle.finished.specs.Finished.{Finished, finishedTest}
-use Rattle.call.specs.Call.{decideBytes}
+use Rattle.call.specs.Call.{decideBytes, leafFrom}
 
--- the call opens in edition 1, decides in order and asks whether the board is finished: 1 to 5, then the decisions' refusals
+-- what the call asks of a leaf: the decisions' refusals, then whether the board is finished
+abbrev pub judgeOn : List ℕ → Leaf → Outcome Bool
+judgeOn decisions l =
+    decideBytes (l .puzzle .grid) [] decisions >>= λ ds.
+    ok (finishedTest l (cellsAfter (l .puzzle .grid) ds))
+
+-- the call opens in edition 1 and without sizes: 1 to 5, then as above
 unfoldable pub hostFinished : List ℕ → List ℕ → Outcome Bool
 hostFinished s decisions =
     readRecord s >>= λ p.
-    decideBytes (p .grid) [] decisions >>= λ ds.
-    ok (finishedTest (inEdition 1 p) (cellsAfter (p .grid) ds))
+    judgeOn decisions (inEdition 1 p)
+
+-- the same in the edition e with sizes: 1 to 5, 16, 22, then as above
+unfoldable pub hostFinishedWith : List ℕ → ℕ → List ℕ → List ℕ → Outcome Bool
+hostFinishedWith s e sizes decisions =
+    leafFrom s e sizes >>= λ l.
+    judgeOn decisions l
 
 -- the number returned: 1 yes, 0 no, or the negated refusal number
 unfoldable pub judged : Outcome Bool → ℤ
@@ -32,3 +43,11 @@ pub record FinishedBy (s decisions : List ℕ) : Type 0 where
   pub accepted : List Literal
   pub decides : decideBytes (puzzle .grid) [] decisions ≡ ok accepted
   pub finished : Finished (inEdition 1 puzzle) (cellsAfter (puzzle .grid) accepted)
+
+-- the same of the record in the edition e with sizes
+pub record FinishedWith (s : List ℕ) (e : ℕ) (sizes decisions : List ℕ) : Type 0 where
+  pub leaf : Leaf
+  pub opens : leafFrom s e sizes ≡ ok leaf
+  pub accepted : List Literal
+  pub decides : decideBytes (leaf .puzzle .grid) [] decisions ≡ ok accepted
+  pub finished : Finished leaf (cellsAfter (leaf .puzzle .grid) accepted)

@@ -11,7 +11,8 @@ use Rattle.grid.specs.Grid.{Grid, size}
 use Rattle.grid.specs.Side.{sized}
 use Rattle.grid.specs.Cells.{Literal}
 use Rattle.grid.specs.Lists.{arrayOf}
-use Rattle.record.specs.Record.{ok, refused, Puzzle, readRecord}
+use Rattle.record.specs.Record.{ok, refused, _>>=_, Puzzle, readRecord}
+use Rattle.record.specs.Leaf.{Leaf, inEdition}
 use Rattle.record.specs.Problem.{problemOf, readOf}
 use Rattle.record.specs.Valid.{Valid}
 use Rattle.record.specs.declared.Problem.{Problem}
@@ -27,7 +28,7 @@ use Rattle.exported.specs.Written.{bytesOf}
 use Rattle.exported.proofs.BytesLaws.{bytes-length}
 use Rattle.exported.proofs.WrittenLaws.{Told, told-ok}
 use Rattle.call.specs.Inside.{Decides}
-use Rattle.call.proofs.Steps.{states-taken, call-unread, call-short, call-refused, call-done}
+use Rattle.call.proofs.Steps.{states-taken, call-short, call-refused, call-done}
 use Rattle.host_shades.specs.Inside.{measuredOf}
 use Rattle.host_shades.specs.Shaded.{hostShades}
 use Rattle.host_shades.specs.declared.Measured.{Measured}
@@ -36,13 +37,13 @@ use Rattle.host_shades.specs.declared.Measured.{Measured}
 abbrev need : Grid → ℕ
 need g = 4 * size g
 
-abbrev says : Puzzle → List Literal → List ℕ
-says p ds = bytesOf (shadesOn (p .grid) (cellsAfter (p .grid) ds))
+abbrev says : Leaf → List Literal → List ℕ
+says l ds = bytesOf (shadesOn (l .puzzle .grid) (cellsAfter (l .puzzle .grid) ds))
 
 -- a refused record
 pub shades-unread : (s : List ℕ) {k : ℕ} → readRecord s ≡ refused k → (decisions : List ℕ) (n : ℕ) → hostShades s decisions n ≡ refused k
-unfolding hostShades
-shades-unread s e decisions n = call-unread need says s e decisions n
+unfolding hostShades _>>=_
+shades-unread s e decisions n = rw e refl
 
 -- the bytes for a board, by its arrays
 abbrev pub shadedBy : ℕ → ℕ → List ℕ → List ℕ
@@ -83,22 +84,22 @@ module _ {s : List ℕ} {h w : ℕ} (m : Measures s h w) where
   module _ (decisions : List ℕ) (n : ℕ) where
     -- an output that is too short
     pub shades-short : n < 4 * (h * w) → hostShades s decisions n ≡ refused 11
-    unfolding hostShades
-    shades-short l = call-short need says s (m .reads) decisions n (rw measures-size at l)
+    unfolding hostShades _>>=_
+    shades-short l = rw (m .reads) (call-short need says (inEdition 1 (m .puzzle)) decisions n (rw measures-size at l))
 
     -- what deciding in order answers, and the states that it leaves, where it is long enough
     module _ {a : Answer} {cells : List ℕ} (d : Decides (m .puzzle .grid) decisions a cells) (l : 4 * (h * w) ≤ n) where
       -- a decision is refused
       pub shades-refused : {k : ℕ} → a ≡ Refused k → hostShades s decisions n ≡ refused k
-      unfolding hostShades
-      shades-refused f = call-refused need says s (m .reads) decisions n d (rw measures-size at l) f
+      unfolding hostShades _>>=_
+      shades-refused f = rw (m .reads) (call-refused need says (inEdition 1 (m .puzzle)) decisions n d (rw measures-size at l) f)
 
       -- all are accepted
       pub shades-done : a ≡ Done → hostShades s decisions n ≡ ok (shadedBy h w cells)
-      unfolding hostShades
-      shades-done f = call-done need says s (m .reads) decisions n d (rw measures-size at l) f (shadedBy h w cells) said
+      unfolding hostShades _>>=_
+      shades-done f = rw (m .reads) (call-done need says (inEdition 1 (m .puzzle)) decisions n d (rw measures-size at l) f (shadedBy h w cells) said)
         where
-          said : (ds : List Literal) → Standing (m .puzzle .grid) ds → cells ≡ arrayOf 2 (cellsAfter (m .puzzle .grid) ds) → says (m .puzzle) ds ≡ shadedBy h w cells
+          said : (ds : List Literal) → Standing (m .puzzle .grid) ds → cells ≡ arrayOf 2 (cellsAfter (m .puzzle .grid) ds) → says (inEdition 1 (m .puzzle)) ds ≡ shadedBy h w cells
           said ds t e =
               let z : take (h * w) cells ≡ cellsAfter (m .puzzle .grid) ds = rw (measures-size, e) (states-taken t) in
               rw (z, m .is) refl

@@ -11,4 +11,4 @@ use Rattle.call.specs.Call.{hostCall}
 
 -- the call opens, decides in order and writes the shades, each of their numbers as two bytes: 11 for an output below 4 × H × W bytes
 unfoldable pub hostShades : List ℕ → List ℕ → ℕ → Outcome (List ℕ)
-hostShades s decisions k = hostCall (λ g. 4 * size g) (λ p ds. bytesOf (shadesOn (p .grid) (cellsAfter (p .grid) ds))) s decisions k
+hostShades s decisions k = hostCall (λ g. 4 * size g) (λ l ds. bytesOf (shadesOn (l .puzzle .grid) (cellsAfter (l .puzzle .grid) ds))) s decisions k

@@ -24,10 +24,11 @@ use Rattle.kinds.specs.Inside.{puzzleWith, Held}
 use Rattle.kinds.specs.Kinds.{view}
 use Rattle.literals.specs.declared.Finding.{Finding}
 use Rattle.literals.specs.declared.Finding.the-variants.{Nothing, Reason, Refused}
-use Rattle.literals.specs.Literals.{Found}
+use Rattle.literals.specs.Literals.{Found, orElse}
 use Rattle.units.specs.Units.{reason1}
 use Rattle.paths.specs.Paths.{reason2}
 use Rattle.growth.specs.Growth.{reason34}
+use Rattle.sized.specs.Sized.{reason5}
 use Rattle.inconsistency.specs.Reasons.{findReason}
 use Rattle.units.specs.Arrays.{PotentialTable}
 use Rattle.paths.specs.Ends.{BlockTable}
@@ -38,7 +39,7 @@ use Rattle.reach.proofs.BlockSize.{block-cell, block-size}
 use Rattle.inconsistency.specs.Arrays.{ArrowArrays}
 use Rattle.literals.specs.Inside.{FoundAs, Fit}
 use Rattle.literals.proofs.Findings.{nothing-found, not-refused, found-first, found-next}
-use Rattle.record.specs.Leaf.{inEdition}
+use Rattle.record.specs.Leaf.{Range, leafWith}
 
 -- ---- the arrays of a board
 
@@ -97,22 +98,22 @@ never-refused f {a} {b} x e = not-refused f (subst (FoundAs f a b) e x)
 pub fit-after : {h w : ℕ} {a b : List ℕ} → Fit h w a → b ≡ a → Fit h w b
 fit-after f e = record { tall = f .tall; wide = f .wide; room = rw e (f .room) }
 
-module _ (k : ℕ) (p : Puzzle) (cells : List ℕ) {a b : List ℕ} {r : Finding} (x : FoundAs (reason1 p cells) a b r) where
+module _ (k : ℕ) (sizes : List Range) (p : Puzzle) (cells : List ℕ) {a b : List ℕ} {r : Finding} (x : FoundAs (reason1 p cells) a b r) where
   -- reason 1 applies
-  pub first-found : {m : ℕ} → r ≡ Reason m → FoundAs (findReason (inEdition k p) cells) a b (Reason m)
+  pub first-found : {m : ℕ} → r ≡ Reason m → FoundAs (findReason (leafWith k sizes p) cells) a b (Reason m)
   unfolding findReason
   first-found e = found-first (reason1 p cells) _ (subst (FoundAs (reason1 p cells) a b) e x)
 
   module _ (e : r ≡ Nothing) {c : List ℕ} {q : Finding} (y : FoundAs (reason2 p cells) b c q) where
     -- reason 2 applies
-    pub second-found : {m : ℕ} → q ≡ Reason m → FoundAs (findReason (inEdition k p) cells) a c (Reason m)
+    pub second-found : {m : ℕ} → q ≡ Reason m → FoundAs (findReason (leafWith k sizes p) cells) a c (Reason m)
     unfolding findReason
     second-found d =
         found-next (reason1 p cells) _ (subst (FoundAs (reason1 p cells) a b) e x)
         (found-first (reason2 p cells) _ (subst (FoundAs (reason2 p cells) b c) d y))
 
     -- neither applies
-    pub rest-found : q ≡ Nothing → {t : List ℕ} {r′ : Finding} → FoundAs (reason34 k (view p cells)) c t r′ → FoundAs (findReason (inEdition k p) cells) a t r′
+    pub rest-found : q ≡ Nothing → {t : List ℕ} {r′ : Finding} → FoundAs (orElse (reason34 k (view p cells)) (reason5 (view p cells) sizes)) c t r′ → FoundAs (findReason (leafWith k sizes p) cells) a t r′
     unfolding findReason
     rest-found d z =
         found-next (reason1 p cells) _ (subst (FoundAs (reason1 p cells) a b) e x)

@@ -8,7 +8,10 @@ use Rattle.literals.specs.Literals.{Found, orElse}
 use Rattle.units.specs.Units.{reason1}
 use Rattle.paths.specs.Paths.{reason2}
 use Rattle.growth.specs.Growth.{reason34}
+use Rattle.sized.specs.Sized.{reason5}
 
--- reason 1, else 2, else 3 and 4 along the arrows
+-- reason 1, else 2, else 3 and 4 along the arrows, else 5
 unfoldable pub findReason : Leaf → List ℕ → Found
-findReason l cells = orElse (reason1 (l .puzzle) cells) (orElse (reason2 (l .puzzle) cells) (reason34 (l .edition) (view (l .puzzle) cells)))
+findReason l cells =
+    let v = view (l .puzzle) cells in
+    orElse (reason1 (l .puzzle) cells) (orElse (reason2 (l .puzzle) cells) (orElse (reason34 (l .edition) v) (reason5 v (l .sizes))))

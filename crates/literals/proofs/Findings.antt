@@ -43,6 +43,10 @@ pub found-next : (f g : Found) {b a a′ : List ℕ} {r : Finding} → FoundAs f
 unfolding orElse
 found-next f g x y = let n = nothing-found f x in rw (n .0) (rw (n .1) at y)
 
+-- what was found holds where the buffer before it is an equal one
+pub found-same : {f : Found} {b b′ a : List ℕ} {r : Finding} → b ≡ b′ → FoundAs f b a r → FoundAs f b′ a r
+found-same e x = rw e at x
+
 -- no search ends with a refusal
 pub not-refused : (f : Found) {b a : List ℕ} {k : ℕ} → FoundAs f b a (Refused k) → ⊥
 unfolding findingBy

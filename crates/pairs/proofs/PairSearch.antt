@@ -20,15 +20,10 @@ use Rattle.groups.specs.Arrays.{linesOf}
 use Rattle.growth.specs.Pairs.{reasonAt, pairAt, NextSquare, viewOn, Scene, Line, Whole}
 use Rattle.literals.specs.Inside.{FoundAs}
 use Rattle.literals.specs.Literals.{Found, orElse, firstOf}
-use Rattle.literals.specs.declared.Finding.{Finding}
 use Rattle.literals.specs.declared.Finding.the-variants.{Nothing, Reason}
 use Rattle.literals.proofs.Findings.{nothing-found, found-first, first-append}
 use Rattle.growth.proofs.PairNames.{next-taken}
 use Rattle.growth.proofs.PairPlaces.{pairs-start, pairs-more, pairs-end}
-
--- what was found holds where the buffer before it is an equal one
-pub found-same : {f : Found} {b b′ a : List ℕ} {r : Finding} → b ≡ b′ → FoundAs f b a r → FoundAs f b′ a r
-found-same e x = rw e at x
 
 -- ---- one arrow
 

@@ -339,6 +339,7 @@ pub fn search_pairs(
     requires { ⌜ (edition ≡ 0 → ⊥) × Fit h w (now buffer) × Whole h w (now cells) (now arrows) (now ends) (now kinds) (now owners) number
         × Grouped (now kinds) (now owners) (now head) (now next) (now sizes) (now squares) (h * w) × Work (now groups) (now rows) (now columns) ⌝ }
     ensures { λ r. ⌜ FoundAs (reason34 edition (viewOn h w (linesOf (now (arrows .entry)) (now (ends .entry)) number) (now (cells .entry)))) (now (buffer .entry)) (now (buffer .exit)) r ⌝ }
+    ensures { λ r. ⌜ Work (now (groups .exit)) (now (rows .exit)) (now (columns .exit)) ⌝ }
 {
     let mut near = [0u8; 1024];
     let finding = search_arrows(

@@ -17,8 +17,11 @@ use Rattle.grid.specs.Side.{sized}
 use Rattle.grid.proofs.ListLaws.{and-true, at-mem}
 use Rattle.grid.proofs.ArrayLaws.{array-length, array-take, array-in, array-out}
 use Rattle.record.specs.Record.{Puzzle}
-use Rattle.record.specs.Leaf.{inEdition}
+use Rattle.record.specs.Leaf.{Leaf, leafWith}
 use Rattle.record.specs.Valid.{Valid}
+use Rattle.record.specs.Sizes.{keptRanges}
+use Rattle.sizes.specs.Form.{SizeArrays}
+use Rattle.sized.specs.Inside.{SizesOn}
 use Rattle.record.specs.Problem.{arrowCells, endsFrom, problemOf, puzzleOf, gridOf}
 use Rattle.record.specs.declared.Problem.{Problem}
 use Rattle.record.proofs.FreshLaws.{arrows-size, one-length, arrows-length}
@@ -28,7 +31,8 @@ use Rattle.record.proofs.LeafLaws.{edition-is}
 use Rattle.form.specs.Form.{rises, ended, behind}
 use Rattle.board.specs.Form.{wellFormed}
 use Rattle.board.specs.declared.Board.{Board}
-use Rattle.board.proofs.BoardForm.{whole-is}
+use Rattle.board.specs.Kept.{sizesOn}
+use Rattle.board.proofs.BoardForm.{whole-is, whole-most}
 use Rattle.form.proofs.ProblemForm.{Formed, valid-formed, formed-valid, formed-again, rises-last, ends-taken, last-end, line-below}
 use Rattle.kinds.specs.Kinds.{arrowBlock, blocksTouched, kindAt, kindsOf, view, viewWith}
 use Rattle.kinds.specs.Inside.{puzzleWith}
@@ -43,7 +47,9 @@ use Rattle.inconsistency.specs.Arrays.{ArrowArrays}
 use Rattle.literals.specs.Buffer.{findingBy, bufferBy}
 use Rattle.literals.specs.Inside.{FoundAs}
 use Rattle.board.specs.Hints.{hinted, findRefusal, hintedBy, afterFind}
-use Rattle.reasons.specs.Find.{cellsOn, reasonOn, findOf, bufferAfter}
+use Rattle.reasons.specs.Find.{leafOn, cellsOn, reasonOn, findOf, bufferAfter}
+use Rattle.reasons.specs.Inside.{lentSizes}
+use Rattle.reasons.proofs.LentSizes.{lent-most, lent-on, lent-kept}
 use Rattle.board.specs.Board.{enough}
 
 -- numbers that rise
@@ -139,6 +145,44 @@ board-edition b h z = go (edition-is (b .edition) .0 (whole-is b h .edition))
     go (inl e) = omega (arith, e, z)
     go (inr e) = omega (arith, e, z)
 
+-- the sizes of a board, as they are lent to the search
+pub record Lent (b : Board) (lows highs : List ℕ) : Type 0 where
+  pub lowest : lows ≡ take (lentSizes (b .lowest) (b .problem .height * b .problem .width)) (b .lowest)
+  pub highest : highs ≡ take (lentSizes (b .lowest) (b .problem .height * b .problem .width)) (b .highest)
+
+-- those of the first n cells, by the count of the cells that are lent
+pub lent-by : (b : Board) {n : ℕ} {lows highs : List ℕ} → n ≡ lentSizes (b .lowest) (b .problem .height * b .problem .width) → lows ≡ take n (b .lowest) → highs ≡ take n (b .highest) → Lent b lows highs
+lent-by b e f g = record { lowest = f ∙ ap (λ (k : ℕ). take k (b .lowest)) e; highest = g ∙ ap (λ (k : ℕ). take k (b .highest)) e }
+
+module _ (b : Board) (h : wellFormed b ≡ true) where
+  arrays : SizeArrays (puzzleOf (b .problem) .arrows) (b .lowest) (b .highest)
+  arrays = whole-is b h .sizes
+
+  cells : ℕ
+  cells = b .problem .height * b .problem .width
+
+  most : cells ≤ 1024
+  unfolding cells gridOf size
+  most = whole-most b (whole-is b h)
+
+  -- no more than the arrays have
+  pub lent-few : {n : ℕ} → n ≡ lentSizes (b .lowest) (b .problem .height * b .problem .width) → (n ≤ length (b .lowest)) × (n ≤ length (b .highest))
+  unfolding cells
+  lent-few e =
+      let l = lent-most (b .lowest) cells in
+      (omega (arith, e, l, most, arrays .lowest-long), omega (arith, e, l, most, arrays .highest-long))
+
+  module _ {lows highs : List ℕ} (lent : Lent b lows highs) where
+    -- they sit on its arrows
+    pub board-lent : SizesOn (b .problem .height * b .problem .width) (linesOf (b .problem .arrows) (b .problem .ends) (b .problem .count)) lows highs
+    unfolding puzzleOf cells
+    board-lent = rw (lent .lowest, lent .highest) (lent-on (puzzleOf (b .problem) .arrows) (b .lowest) (b .highest) arrays cells most)
+
+    -- and are all that it keeps
+    pub board-kept : keptRanges lows highs (length lows) ≡ sizesOn b
+    unfolding sizesOn gridOf size cells
+    board-kept = rw (lent .lowest, lent .highest) (lent-kept (puzzleOf (b .problem) .arrows) (b .lowest) (b .highest) arrays cells most)
+
 -- find of player q on the board b with this buffer: its answer, the board and the buffer after it
 abbrev pub Finds : Board → ℕ → List ℕ → Finding → Board → List ℕ → Type 0
 Finds b q buffer finding left after = (finding ≡ findOf b q buffer) × (left ≡ afterFind b q (length buffer)) × (after ≡ bufferAfter b q buffer)
@@ -161,16 +205,18 @@ find-short b q buffer h m l =
     (rw (h, p, t) refl, rw (h, p, t) refl, rw (h, p, t) refl)
 
 -- a reason goes by the grid and the arrows alone
-pub codes-aside : (e : ℕ) (p : Puzzle) (cells : List ℕ) → findReason (inEdition e (puzzleWith (p .grid) (p .arrows))) cells ≡ findReason (inEdition e p) cells
+pub codes-aside : (l : Leaf) (cells : List ℕ) → findReason (leafWith (l .edition) (l .sizes) (puzzleWith (l .puzzle .grid) (l .puzzle .arrows))) cells ≡ findReason l cells
 unfolding findReason reason1 reason1At reason2 view viewWith kindsOf kindAt blocksTouched arrowBlock
-codes-aside e p cells = refl
+codes-aside l cells = refl
 
-pub find-found : (b : Board) (q : ℕ) (buffer : List ℕ) {after : List ℕ} {r : Finding} → wellFormed b ≡ true → q ≤ 3 → 3 * (b .problem .height * b .problem .width) + 1 ≤ length buffer
-    → FoundAs (findReason (inEdition (b .edition) (puzzleWith (sized (b .problem .height) (b .problem .width)) (linesOf (b .problem .arrows) (b .problem .ends) (b .problem .count)))) (take (b .problem .height * b .problem .width) (b .cells))) buffer after r
+pub find-found : (b : Board) (q : ℕ) (buffer : List ℕ) {after lows highs : List ℕ} {r : Finding} → wellFormed b ≡ true → q ≤ 3 → 3 * (b .problem .height * b .problem .width) + 1 ≤ length buffer
+    → Lent b lows highs
+    → FoundAs (findReason (leafWith (b .edition) (keptRanges lows highs (length lows)) (puzzleWith (sized (b .problem .height) (b .problem .width)) (linesOf (b .problem .arrows) (b .problem .ends) (b .problem .count)))) (take (b .problem .height * b .problem .width) (b .cells))) buffer after r
     → Finds b q buffer r (hinted b q) after
-unfolding findOf afterFind bufferAfter findRefusal hintedBy enough gridOf size reasonOn cellsOn puzzleOf
-find-found b q buffer h m l x =
+unfolding findOf afterFind bufferAfter findRefusal hintedBy enough gridOf size reasonOn leafOn cellsOn puzzleOf
+find-found b q buffer h m l e y =
+    let x = rw (board-kept b h e) at y in
     let p = le-leb q 3 m in
     let t = le-ltb (length buffer) (3 * (b .problem .height * b .problem .width) + 1) l in
-    let same = codes-aside (b .edition) (puzzleOf (b .problem)) (cellsOn b) in
+    let same = codes-aside (leafOn b) (cellsOn b) in
     (x .answer ∙ ap (findingBy 0) same ∙ rw (h, p, t) refl, rw (h, p, t) refl, x .buffer ∙ ap (λ (f : Found). bufferBy 0 f buffer) same ∙ rw (h, p, t) refl)

@@ -16,7 +16,6 @@ use Rattle.record.specs.Leaf.{Leaf}
 use Rattle.record.specs.Problem.{gridOf, problemOf}
 use Rattle.record.proofs.RecordLaws.{valid-size}
 use Rattle.record.proofs.LeafLaws.{ValidLeaf, leaf-valid}
-use Rattle.record.proofs.ProblemLaws.{problem-puzzle}
 use Rattle.grid.specs.Cells.{Literal, word}
 use Rattle.board.specs.Form.{Counts}
 use Rattle.board.specs.Board.{Call, Full, cellsAfter, enough}
@@ -24,9 +23,10 @@ use Rattle.groups.specs.Rules.{BlockRules}
 use Rattle.board.specs.Kept.{boardOf}
 use Rattle.board.specs.Calls.{standing, hintsAfter}
 use Rattle.board.proofs.Standing.{Standing, calls-standing, standing-calls, cells-valid, standing-low}
+use Rattle.board.proofs.BoardForm.{board-leaf}
 use Rattle.board.proofs.CallLaws.{standing-well, after-low, opened-left, after-calls}
 use Rattle.literals.specs.Literals.{Found}
-use Rattle.reasons.specs.Reasons.{findOn}
+use Rattle.reasons.specs.Reasons.{findReason, findOn}
 use Rattle.board.specs.Hints.{findRefusal, hintedBy, afterFind}
 use Rattle.reasons.specs.Find.{cellsOn, reasonOn, findOf, bufferAfter, literalOf, told, answerOn}
 use Rattle.literals.specs.Buffer.{findingBy, bufferBy}
@@ -55,7 +55,7 @@ told-found (some r) a h = rw (take-at (map word r) (drop (length r) a) (length r
 reason-low : (l : Leaf) → ValidLeaf l → {ds : List Literal} → Standing (l .puzzle .grid) ds → (r : List Literal) → findOn l ds ≡ some r → (x : Literal) → List·Memᴰ x r → x .0 < 32768
 reason-low l v {ds} s r e x m =
     let c = standing-calls (l .puzzle .grid) s in
-    let stands : List·Memᴰ x ds = rw (c .1) at (on-machine l (v .puzzle) (c .0) (c .0) .stands r (rw (c .1) e) x m) in
+    let stands : List·Memᴰ x ds = rw (c .1) at (on-machine l v (c .0) (c .0) .stands r (rw (c .1) e) x m) in
     omega (arith, standing-low s x stands .0, valid-size (v .puzzle))
 
 -- on the board of standing decisions, with any counts of hints
@@ -67,8 +67,8 @@ module _ (l : Leaf) (v : ValidLeaf l) (ns : List ℕ) {ds : List Literal} (s : S
 
   -- and so is the reason that applies
   pub reason-on : reasonOn (boardOf l ds ns) ≡ findOn l ds
-  unfolding reasonOn findOn boardOf
-  reason-on = rw (cells-on, problem-puzzle (l .puzzle) (v .puzzle)) refl
+  unfolding reasonOn findOn
+  reason-on = rw (cells-on, board-leaf l v ds ns) refl
 
 module _ (l : Leaf) (v : ValidLeaf l) {ns : List ℕ} (low : Counts ns) {ds : List Literal} (s : Standing (l .puzzle .grid) ds) where
   -- a player above 3 is refused, whatever the buffer
@@ -110,11 +110,11 @@ module _ (l : Leaf) (v : ValidLeaf l) {ns : List ℕ} (low : Counts ns) {ds : Li
       go (yes m) (no h) = let k = short-find q m a (omega arith) .0 in let z : _≡_ {A = ℕ} 0 1 = cc in absurd (omega arith)
       go (no m) h = let k = strange-find q (omega arith) a .0 in let z : _≡_ {A = ℕ} 0 1 = cc in absurd (omega arith)
 
--- demand 3, for every accepted record in either edition and all lists of calls
+-- demand 3, for every accepted record in either edition, with any sizes or none, and all lists of calls
 pub demand-3 : Demand
-demand-3 s e l read cs ds = record {
+demand-3 s e ns l read cs ds = record {
   indexes = m .indexes;
-  cells = after-calls s e l read cs ds .cells;
+  cells = after-calls s e ns l read cs ds .cells;
   answer = λ same q r u w a b h k. reasons cs q u a h ∙ ap ok (m .answer same) ∙ sym (reasons ds r w b k);
   reasons = reasons cs;
   short = λ q u a h. rw (board cs) (short-find l v (after-low p cs) (calls-standing (p .grid) cs) q u a h);
@@ -128,24 +128,24 @@ demand-3 s e l read cs ds = record {
     p = l .puzzle
 
     v : ValidLeaf l
-    v = leaf-valid s e read
+    v = leaf-valid s e ns read
 
     m : OnMachine l cs ds
-    m = on-machine l (v .puzzle) cs ds
+    m = on-machine l v cs ds
 
-    board : (cs : List Call) → boardAfter s e cs ≡ boardOf l (standing p cs) (hintsAfter p cs)
-    board cs = opened-left s e l read cs
+    board : (cs : List Call) → boardAfter s e ns cs ≡ boardOf l (standing p cs) (hintsAfter p cs)
+    board cs = opened-left s e ns l read cs
 
-    reasons : (cs : List Call) (q : ℕ) → q ≤ 3 → (a : List ℕ) → enough (p .grid) ≤ length a → answerOn (boardAfter s e cs) q a ≡ ok (findOn l (standing p cs))
+    reasons : (cs : List Call) (q : ℕ) → q ≤ 3 → (a : List ℕ) → enough (p .grid) ≤ length a → answerOn (boardAfter s e ns cs) q a ≡ ok (findOn l (standing p cs))
     reasons cs q u a h = rw (board cs) (long-answer l v (after-low p cs) (calls-standing (p .grid) cs) q u a h)
 
-    reason : (cs : List Call) (q : ℕ) (a : List ℕ) (r : List Literal) → answerOn (boardAfter s e cs) q a ≡ ok (some r) → findOn l (standing p cs) ≡ some r
+    reason : (cs : List Call) (q : ℕ) (a : List ℕ) (r : List Literal) → answerOn (boardAfter s e ns cs) q a ≡ ok (some r) → findOn l (standing p cs) ≡ some r
     reason cs q a r k = told-reason l v (after-low p cs) (calls-standing (p .grid) cs) q a r (rw (board cs) at k)
 
-    full-board : Full (p .grid) (cellsOn (boardAfter s e cs)) → (q : ℕ) → q ≤ 3 → (a : List ℕ) → enough (p .grid) ≤ length a
-        → (answerOn (boardAfter s e cs) q a ≡ ok none) ↔ BlockRules l (cellsOn (boardAfter s e cs))
+    full-board : Full (p .grid) (cellsOn (boardAfter s e ns cs)) → (q : ℕ) → q ≤ 3 → (a : List ℕ) → enough (p .grid) ≤ length a
+        → (answerOn (boardAfter s e ns cs) q a ≡ ok none) ↔ BlockRules l (cellsOn (boardAfter s e ns cs))
     full-board full q u a h =
-        let shown : cellsOn (boardAfter s e cs) ≡ cellsAfter (p .grid) (standing p cs) = rw (board cs) (cells-on l v (hintsAfter p cs) (calls-standing (p .grid) cs)) in
+        let shown : cellsOn (boardAfter s e ns cs) ≡ cellsAfter (p .grid) (standing p cs) = rw (board cs) (cells-on l v (hintsAfter p cs) (calls-standing (p .grid) cs)) in
         let f = m .finds (rw shown at full) in
         let k = reasons cs q u a h in
         (λ none. rw shown (f .0 (cc)), λ rules. let g = f .1 (rw shown at rules) in cc)

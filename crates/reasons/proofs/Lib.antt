@@ -8,6 +8,7 @@ pub mod BreadthFirstLaws
 pub mod Chosen
 pub mod Sound2
 pub mod Sound34
+pub mod Sound5
 pub mod Stands
 pub mod Sound
 pub mod OnMachine
@@ -15,6 +16,8 @@ pub mod Demand3
 pub mod ReasonLaws
 pub mod Room
 pub mod NonEmpty
+pub mod LentSizes
 pub mod BoardArrays
 pub mod Unchanged
 pub mod Behind
+pub mod WithoutSizes

@@ -2,26 +2,28 @@
 -- Assumes nothing.
 use Prim.Native.Nat.{ℕ, zero, suc, _<_}
 use native.Mathlib.Omega.{arith}
-use mathlib.Core.Path.{_≡_}
+use mathlib.Core.Path.{_≡_, refl}
 use mathlib.Core.Bool.{Bool, true, false, cond}
 use mathlib.Core.List.{List, [], _∷_}
 use mathlib.Core.Option.{none, some}
-use lib.Dec.{eqb}
+use lib.Dec.{eqb, ltb}
 use lib.ListN.{length, length-append}
+use borrow.Author.Tests.{ltb-true}
 use Rattle.grid.specs.Lists.{filter}
 use Rattle.grid.specs.Grid.{Grid}
 use Rattle.record.specs.Record.{Puzzle}
 use Rattle.grid.specs.Cells.{Literal, square, potential}
 use Rattle.groups.specs.Groups.{labels, group, names}
 use Rattle.groups.specs.Arrows.{Pair, onArrow}
-use Rattle.kinds.specs.Kinds.{View, view}
+use Rattle.kinds.specs.Kinds.{View, view, block}
 use Rattle.units.specs.Units.{reason1At, reason1}
 use Rattle.paths.specs.Paths.{Entry, parent, path, reason2At, reason2}
 use Rattle.literals.specs.Literals.{Found, orElse, reasonIf, firstOf}
-use Rattle.growth.specs.Growth.{reasonGrow, reason3At, reasonShrink, reason4At, reason4aAt, reason4bAt, reason34}
+use Rattle.growth.specs.Growth.{blockName, reasonGrow, reason3At, reasonShrink, reason4At, reason4aAt, reason4bAt, reason34}
 use Rattle.reasons.specs.Reasons.{findReason}
 use Rattle.literals.proofs.Pass.{each-length}
-use Rattle.record.specs.Leaf.{inEdition}
+use Rattle.record.specs.Leaf.{Range, Leaf}
+use Rattle.sized.specs.Sized.{reasonLow, reasonHigh, reason5At, reason5}
 
 -- a reason with a literal, or none
 Literate : Found → Type 0
@@ -45,10 +47,13 @@ unfolding firstOf
 firstOf-literate f [] h = none-literate
 firstOf-literate f (x ∷ xs) h = orElse-literate (f x) (firstOf f xs) (h x) (firstOf-literate f xs h)
 
-given-literate : (t : Bool) (s : List Literal) → 0 < length s → Literate (reasonIf t s)
+passed-literate : (t : Bool) (s : List Literal) → (t ≡ true → 0 < length s) → Literate (reasonIf t s)
 unfolding reasonIf
-given-literate true s h = some-literate s h
-given-literate false s h = none-literate
+passed-literate true s h = some-literate s (h refl)
+passed-literate false s h = none-literate
+
+given-literate : (t : Bool) (s : List Literal) → 0 < length s → Literate (reasonIf t s)
+given-literate t s h = passed-literate t s (λ _. h)
 
 -- a path has its first cell
 path-some : (k : ℕ) (cs : List Entry) (a b : ℕ) → 0 < length (path k cs a b)
@@ -107,10 +112,22 @@ module _ (v : View) (e : Pair) where
       by-edition true = given-literate _ (reasonShrink v e) shrink-some
       by-edition false = none-literate
 
+module _ (v : View) (q : Range) where
+  -- reason 5 has the sized cell, or a block that is larger than the highest
+  literate5 : Literate (reason5At v q)
+  unfolding reason5At reasonLow reasonHigh
+  literate5 = orElse-literate _ _ (given-literate _ _ (simp (length-append, each-length) (omega arith)))
+      (passed-literate (ltb (q .highest) (length b)) _ (λ h. rw each-length (omega (arith, ltb-true (q .highest) (length b) h))))
+    where
+      b : List ℕ
+      b = block v (blockName v (q .cell))
+
 -- a reason has a literal
-pub reason-some : (e : ℕ) (p : Puzzle) (cells : List ℕ) (r : List Literal) → findReason (inEdition e p) cells ≡ some r → 0 < length r
-unfolding findReason reason34 Literate
-reason-some e p cells =
+pub reason-some : (l : Leaf) (cells : List ℕ) (r : List Literal) → findReason l cells ≡ some r → 0 < length r
+unfolding findReason reason34 reason5 Literate
+reason-some l cells =
+    let p = l .puzzle in
     let v : View = view p cells in
     orElse-literate _ _ (literate1 p cells) (orElse-literate _ _ (literate2 p cells)
-    (orElse-literate _ _ (firstOf-literate (reason3At v) _ (literate3 v)) (firstOf-literate (λ k. reason4At v k e) _ (λ k. literate4 v k e))))
+    (orElse-literate _ _ (orElse-literate _ _ (firstOf-literate (reason3At v) _ (literate3 v)) (firstOf-literate (λ k. reason4At v k (l .edition)) _ (λ k. literate4 v k (l .edition))))
+    (firstOf-literate (reason5At v) _ (literate5 v))))

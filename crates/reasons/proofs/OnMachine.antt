@@ -12,7 +12,7 @@ use borrow.Author.Tests.{eqb-true}
 use Rattle.grid.specs.Lists.{Distinct}
 use Rattle.grid.specs.Grid.{Grid}
 use Rattle.record.proofs.LineLaws.{valid-arrows}
-use Rattle.record.specs.Valid.{Valid}
+use Rattle.record.proofs.LeafLaws.{ValidLeaf}
 use Rattle.record.specs.Leaf.{Leaf}
 use Rattle.grid.specs.Cells.{Agrees, Literal, undecided}
 use Rattle.board.specs.Board.{Full, SameCells, SameDecisions, Call, cellsAfter}
@@ -56,20 +56,20 @@ unfolding undecided
 decided-all g cells f c u = omega (arith, eqb-true (getD cells c 0) 2 u, f .each c (omega (arith, undecided-below cells c u, f .long)))
 
 -- it holds of every accepted leaf and all lists of calls, refused ones included
-pub on-machine : (l : Leaf) → Valid (l .puzzle) → (cs ds : List Call) → OnMachine l cs ds
+pub on-machine : (l : Leaf) → ValidLeaf l → (cs ds : List Call) → OnMachine l cs ds
 unfolding findOn
 on-machine l v cs ds = record {
   indexes = standing-distinct (stand cs);
   cells = same-board (stand cs) (stand ds);
   answer = λ same. ap (findReason l) (cells-equal (l .puzzle .grid) (standing (l .puzzle) cs) (standing (l .puzzle) ds) (same-board (stand cs) (stand ds) .1 same));
-  stands = λ r e x m. let h = find-stands setting (l .edition) r e (x .0) (x .1) m in
+  stands = λ r e x m. let h = find-stands setting (l .edition) (l .sizes) r e (x .0) (x .1) m in
       cell-stands (l .puzzle .grid) (standing (l .puzzle) cs) (x .0) (x .1) (h .0) (h .1) (h .2);
-  refutes = λ r e full f. sound (l .edition) setting r e full (f .long);
-  finds = λ f. complete (l .edition) setting (decided-all (l .puzzle .grid) (board l cs) f);
+  refutes = λ r e full f. sound (l .edition) (l .sizes) setting (v .sizes) r e full (f .long);
+  finds = λ f. complete (l .edition) (l .sizes) setting (v .sizes) (decided-all (l .puzzle .grid) (board l cs) f);
 }
   where
     stand : (cs : List Call) → Standing (l .puzzle .grid) (standing (l .puzzle) cs)
     stand cs = calls-standing (l .puzzle .grid) cs
 
     setting : Setting
-    setting = record { puzzle = l .puzzle; lines = valid-arrows (l .puzzle) v; cells = board l cs; valid = cells-valid (stand cs) }
+    setting = record { puzzle = l .puzzle; lines = valid-arrows (l .puzzle) (v .puzzle); cells = board l cs; valid = cells-valid (stand cs) }

@@ -17,8 +17,8 @@ use Rattle.grid.specs.Cells.{square}
 use Rattle.grid.proofs.CellLaws.{square-below}
 use Rattle.groups.specs.Arrows.{OnArrow, Pair, Parted, posLast, posCur}
 use Rattle.groups.proofs.ArrowLaws.{NextAt, at-last, at-cur, pos-below, position, mid, tip, whole, mid-clear}
-use Rattle.record.specs.Leaf.{inEdition}
-use Rattle.groups.specs.Rules.{Next, BlockRules, Grown, SameBlock}
+use Rattle.record.specs.Leaf.{Range, leafWith}
+use Rattle.groups.specs.Rules.{Next, InRange, BlockRules, Grown, SameBlock}
 use Rattle.kinds.specs.Kinds.{has}
 use Rattle.reasons.proofs.Refute.{Rules}
 
@@ -42,7 +42,11 @@ on-line arrows t k l = (t .0, t .1, at-mem (t .0) k l)
 abbrev pub RulesAt : ℕ → Puzzle → List ℕ → Type 0
 RulesAt e p full = Rules e (Adjacent (p .grid)) (OnArrow (p .arrows)) (p .grid) (Which (p .arrows)) (lineLen (p .arrows)) (lineAt (p .arrows)) (λ c. So (square full c))
 
-module _ (e : ℕ) (p : Puzzle) (full : List ℕ) (long : length full ≡ size (p .grid)) where
+-- the sizes of a full board
+abbrev pub SizesAt : List Range → Puzzle → List ℕ → Type 0
+SizesAt sizes p full = (r : Range) → List·Memᴰ r sizes → So (square full (r .cell)) → InRange p full r
+
+module _ (e : ℕ) (sizes : List Range) (p : Puzzle) (full : List ℕ) (long : length full ≡ size (p .grid)) where
   abbrev g : Grid
   g = p .grid
 
@@ -57,7 +61,7 @@ module _ (e : ℕ) (p : Puzzle) (full : List ℕ) (long : length full ≡ size (
   low c s = omega (arith, square-below full c s, long)
 
   -- from the rules as stated to positions
-  pub plain-rules : BlockRules (inEdition e p) full → RulesAt e p full
+  pub plain-rules : BlockRules (leafWith e sizes p) full → RulesAt e p full
   plain-rules r = record {
     has = λ c s. let o = r .one c (low c s) s in (o .cell, o .arrow, o .within);
     one = λ d e ad ae l. let o = r .one d (low d (linked-start l)) (linked-start l) in
@@ -77,8 +81,8 @@ module _ (e : ℕ) (p : Puzzle) (full : List ℕ) (long : length full ≡ size (
       }
 
   -- and back
-  pub rules-plain : RulesAt e p full → BlockRules (inEdition e p) full
-  rules-plain r = record {
+  pub rules-plain : RulesAt e p full → SizesAt sizes p full → BlockRules (leafWith e sizes p) full
+  rules-plain r z = record {
     one = λ i l s. let w = r .has i s in record {
       cell = w .0;
       within = w .2;
@@ -86,6 +90,7 @@ module _ (e : ℕ) (p : Puzzle) (full : List ℕ) (long : length full ≡ size (
       unique = λ j k aj. r .one j (w .0) aj (w .1) (linked-trans (linked-sym (adj-sym g) k) (w .2));
     };
     grown = grown;
+    sized = z;
   }
     where
       grown : (i j : ℕ) → Next p full i j → Grown e g (SameBlock g full i) (SameBlock g full j)

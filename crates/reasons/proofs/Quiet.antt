@@ -43,8 +43,9 @@ module _ (e : ℕ) (B : PartialBoard) (G : Grid) (A : Arrows B) (D : Decide B) (
     solid c h (inr (inl s)) = s
     solid c h (inr (inr u)) = absurd (full c u)
 
-    sizes : (a : ℕ) → count (dR a) (size G) ≡ count (D .blk a) (size G)
-    sizes a = omega (arith, count-mono (dR a) (D .blk a) (size G) (λ c _. reach-blk a c), count-mono (D .blk a) (dR a) (size G) (λ c _ b. inl b))
+    -- a reach has no cell that its block has not
+    pub full-reach : (a : ℕ) → count (dR a) (size G) ≡ count (D .blk a) (size G)
+    full-reach a = omega (arith, count-mono (dR a) (D .blk a) (size G) (λ c _. reach-blk a c), count-mono (D .blk a) (dR a) (size G) (λ c _ b. inl b))
 
     -- where no reason applies the rules hold
     pub quiet-rules : Quiet → Rules e Adj Arrow G Which len at Square
@@ -67,5 +68,5 @@ module _ (e : ℕ) (B : PartialBoard) (G : Grid) (A : Arrows B) (D : Decide B) (
             let w = q .q3 t i j jl p in
             size-grown G (D .blk (at t i)) (D .blk (at t j)) (low _) (low _) e (w .0)
             (λ c b. let u = w .1 c b in (u .0, reach-blk _ _ (u .1), u .2))
-            (omega (arith, q .q4a t i j jl p, sizes (at t j)))
-            (λ h. omega (arith, q .q4b h t i j jl p, sizes (at t i)))
+            (omega (arith, q .q4a t i j jl p, full-reach (at t j)))
+            (λ h. omega (arith, q .q4b h t i j jl p, full-reach (at t i)))

@@ -27,7 +27,8 @@ use Rattle.literals.specs.Literals.{Found, orElse, reasonIf, firstOf, each}
 use Rattle.growth.specs.Growth.{blockName, reasonGrow, reason3At, gap, reasonShrink, reason4At, reason4aAt, reason4bAt, reason34}
 use Rattle.reasons.specs.Reasons.{findReason}
 use Rattle.kinds.proofs.Lengths.{block-length, fence-length}
-use Rattle.record.specs.Leaf.{inEdition}
+use Rattle.record.specs.Leaf.{Range, Leaf}
+use Rattle.sized.specs.Sized.{reasonLow, reasonHigh, reason5At, reason5}
 
 -- a reason of this length at most
 Short : ℕ → Found → Type 0
@@ -126,18 +127,31 @@ module _ (v : View) (e : Pair) (h : length (e .between) ≤ size (v .grid)) wher
       by-edition true = reason-if-short (bound (v .grid)) _ (reasonShrink v e) shrink-length
       by-edition false = none-short (bound (v .grid))
 
+-- a sized cell
+module _ (v : View) (q : Range) where
+  short5 : Short (bound (v .grid)) (reason5At v q)
+  unfolding reason5At reasonLow reasonHigh
+  short5 = orElse-short (bound (v .grid)) _ _
+      (reason-if-short (bound (v .grid)) _ _ (simp (length-append, each-length) (omega (arith, fence-length v (blockName v (q .cell))))))
+      (reason-if-short (bound (v .grid)) _ _ (rw each-length (omega (arith, block-length v (blockName v (q .cell))))))
+
 -- a pair's cells lie on an arrow
 pairs-length : (cells a : List ℕ) (p : Pair) → List·Memᴰ p (pairs cells a) → length (p .between) ≤ length a
 pairs-length cells a p m = omega (arith, pos-below cells a p (pairs-parted cells a p m))
 
 -- a reason is no longer than the bound, if no arrow is longer than the grid
-pub reason-length : (e : ℕ) (p : Puzzle) (cells : List ℕ) → ((a : List ℕ) → List·Memᴰ a (p .arrows) → length a ≤ size (p .grid))
-    → (r : List Literal) → findReason (inEdition e p) cells ≡ some r → length r ≤ 3 * size (p .grid) + 1
-unfolding findReason reason34 Short view viewWith
-reason-length e p cells h =
+pub reason-length : (l : Leaf) (cells : List ℕ) → ((a : List ℕ) → List·Memᴰ a (l .puzzle .arrows) → length a ≤ size (l .puzzle .grid))
+    → (r : List Literal) → findReason l cells ≡ some r → length r ≤ 3 * size (l .puzzle .grid) + 1
+unfolding findReason reason34 reason5 Short view viewWith
+reason-length l cells h =
     orElse-short (bound (p .grid)) _ _ (short1 p cells) (orElse-short (bound (p .grid)) _ _ (short2 p cells)
-    (orElse-short (bound (p .grid)) _ _ (firstOf-short (bound (p .grid)) (reason3At v) ps (λ e m. short3 v e (fit e m))) (firstOf-short (bound (p .grid)) (λ k. reason4At v k e) ps (λ k m. short4 v k (fit k m) e))))
+    (orElse-short (bound (p .grid)) _ _
+    (orElse-short (bound (p .grid)) _ _ (firstOf-short (bound (p .grid)) (reason3At v) ps (λ e m. short3 v e (fit e m))) (firstOf-short (bound (p .grid)) (λ k. reason4At v k (l .edition)) ps (λ k m. short4 v k (fit k m) (l .edition))))
+    (firstOf-short (bound (p .grid)) (reason5At v) _ (λ q _. short5 v q))))
   where
+    p : Puzzle
+    p = l .puzzle
+
     v : View
     v = view p cells
 
@@ -148,7 +162,7 @@ reason-length e p cells h =
     fit e m = let r = flatMap-mem (pairs cells) (p .arrows) m in omega (arith, pairs-length cells (r .0) e (r .2), h (r .0) (r .1))
 
 -- a reason found on a record that is read fits the buffer
-pub found-length : (e : ℕ) (s : List ℕ) (p : Puzzle) → readRecord s ≡ ok p → (cells : List ℕ) (r : List Literal)
-    → findReason (inEdition e p) cells ≡ some r → length r ≤ 3 * size (p .grid) + 1
-found-length e s p k cells r f =
-    reason-length e p cells (λ a m. omega (arith, one-length (p .arrows) a m, arrows-length p (record-valid s k))) r f
+pub found-length : (l : Leaf) (s : List ℕ) → readRecord s ≡ ok (l .puzzle) → (cells : List ℕ) (r : List Literal)
+    → findReason l cells ≡ some r → length r ≤ 3 * size (l .puzzle .grid) + 1
+found-length l s k cells r f =
+    reason-length l cells (λ a m. omega (arith, one-length (l .puzzle .arrows) a m, arrows-length (l .puzzle) (record-valid s k))) r f

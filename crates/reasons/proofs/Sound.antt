@@ -1,12 +1,14 @@
 -- Every reason is sound, and on a full board none is given exactly when the block rules hold.
 -- Assumes nothing.
-use Prim.Native.Nat.{ℕ, _+_, _<_}
+use Prim.Native.Nat.{ℕ, _+_, _≤_, _<_}
 use mathlib.Core.Logic.{_↔_, _≢_}
 use mathlib.Core.Path.{_≡_, refl, sym, _∙_}
 use mathlib.Core.Bool.{false, So, _&&_, not}
 use mathlib.Core.List.{List, [], _∷_, List·Memᴰ, List·Memᴰ·not-nil, List·Memᴰ·eq-of-singleton}
 use mathlib.Core.Option.{none, some}
 use native.Mathlib.Omega.{arith}
+use native.Mathlib.Decide.{decLt}
+use lib.Dec.{ltb}
 use lib.ListN.{length, getD}
 use borrow.Author.Tests.{lt-ltb}
 use Rattle.grid.specs.Lists.{filter, any, flatMap, last, init, tail}
@@ -20,7 +22,8 @@ use Rattle.grid.proofs.CellLaws.{square-not-empty}
 use Rattle.groups.proofs.GroupLaws.{mem-group, own-names, group-linked, linked-group}
 use Rattle.groups.specs.Groups.{labels, group, names}
 use Rattle.groups.specs.Arrows.{OnArrow, onArrow, pairs, Pair}
-use Rattle.record.specs.Leaf.{inEdition}
+use Rattle.record.specs.Leaf.{Range, leafWith}
+use Rattle.record.specs.Sizes.{GoodSizes}
 use Rattle.groups.specs.Rules.{Shift, BlockRules, Contains}
 use Rattle.groups.proofs.ArrowLaws.{arrow-so, so-arrow, dec-arrow, NextAt, position-pair}
 use Rattle.kinds.proofs.Bridge.{decisions, dec-reach, sq<, blockName}
@@ -32,16 +35,26 @@ use Rattle.units.specs.Units.{reason1At, reason1}
 use Rattle.paths.specs.Paths.{reason2At, reason2}
 use Rattle.growth.specs.Growth.{mostApart, reason3At, reason4At, reason34}
 use Rattle.growth.proofs.Gap.{most-full}
+use Rattle.sized.specs.Sized.{reason5}
 use Rattle.reasons.specs.Reasons.{findReason}
 use Rattle.reasons.proofs.First.{or-else-some, reason-if-none, first-none, or-else-none}
-use Rattle.reasons.proofs.Plain.{on-line, lineAt, lineLen, Which, RulesAt, plain-rules, rules-plain}
+use Rattle.reasons.proofs.Plain.{on-line, lineAt, lineLen, Which, RulesAt, SizesAt, plain-rules, rules-plain}
 use Rattle.reasons.proofs.Sound1.{so-filled, potential<, filled-so, reason1-sound}
 use Rattle.reasons.proofs.Sound2.{blockOf, reason2-sound}
 use Rattle.reasons.proofs.Sound34.{tooMany, three-none, tooFew, Spot, A, four-none, reason34-sound}
+use Rattle.reasons.proofs.Sound5.{none-5, reason5-sound}
 use Rattle.reasons.proofs.Stands.{find-stands}
-use Rattle.reasons.proofs.Quiet.{Quiet, quiet-rules}
+use Rattle.reasons.proofs.Quiet.{Quiet, full-reach, quiet-rules}
 
-module _ (e : ℕ) (set : Setting) where
+-- a test that does not pass
+not-less : (a b : ℕ) → ¬ So (ltb a b) → b ≤ a
+not-less a b h = go (decLt a b)
+  where
+    go : Dec (a < b) → b ≤ a
+    go (yes l) = absurd (h (lt-ltb a b l))
+    go (no l) = omega arith
+
+module _ (e : ℕ) (sizes : List Range) (set : Setting) (good : GoodSizes (set .puzzle) sizes) where
   open Setting set using (puzzle, cells, valid)
 
   abbrev pub grid : Grid
@@ -59,13 +72,14 @@ module _ (e : ℕ) (set : Setting) where
   v = view puzzle cells
 
   -- every reason is sound
-  pub sound : (r : List Literal) → findReason (inEdition e puzzle) cells ≡ some r → (full : List ℕ) → length full ≡ size grid → Agrees full r → ¬ BlockRules (inEdition e puzzle) full
+  pub sound : (r : List Literal) → findReason (leafWith e sizes puzzle) cells ≡ some r → (full : List ℕ) → length full ≡ size grid → Agrees full r → ¬ BlockRules (leafWith e sizes puzzle) full
   unfolding findReason
   sound r k full long ag rules =
-      let at : RulesAt e puzzle full = plain-rules e puzzle full long rules in
+      let at : RulesAt e puzzle full = plain-rules e sizes puzzle full long rules in
       or-else-some (reason1 puzzle cells) _ r k (λ k. reason1-sound set full long at r k ag)
       (λ k. or-else-some (reason2 puzzle cells) _ r k (λ k. reason2-sound set r k full ag at)
-      (λ k. reason34-sound set e full long at r k ag))
+      (λ k. or-else-some (reason34 e v) (reason5 v sizes) r k (λ k. reason34-sound set e full long at r k ag)
+      (λ k. reason5-sound set sizes good full (at .one) (rules .sized) r k ag)))
 
   -- no reason applies
   abbrev Q : Type 0
@@ -159,13 +173,15 @@ module _ (e : ℕ) (set : Setting) where
       first : reason1 puzzle cells ≡ none
       second : reason2 puzzle cells ≡ none
       third : reason34 e v ≡ none
+      fourth : reason5 v sizes ≡ none
 
-    parts : findReason (inEdition e puzzle) cells ≡ none → NoReason
+    parts : findReason (leafWith e sizes puzzle) cells ≡ none → NoReason
     unfolding findReason
     parts k =
         let w = or-else-none (reason1 puzzle cells) _ k in
         let u = or-else-none (reason2 puzzle cells) _ (w .1) in
-        record { first = w .0; second = u .0; third = u .1 }
+        let z = or-else-none (reason34 e v) (reason5 v sizes) (u .1) in
+        record { first = w .0; second = u .0; third = z .0; fourth = z .1 }
 
     quiet : NoReason → Q
     quiet n = record {
@@ -176,14 +192,26 @@ module _ (e : ℕ) (set : Setting) where
       q4b = λ h t i j jl pr. quiet-4b (n .third) t i j jl pr h;
     }
 
+    quiet-5 : reason5 v sizes ≡ none → SizesAt sizes puzzle cells
+    quiet-5 k q m s =
+        let ar = good .each q m .on in
+        let w = none-5 set sizes k q m s in
+        let whole = full-reach e B grid (A set) (decisions set) (dec-reach set) (dec-arrow arrows) (sq< set) full (q .cell) in
+        record {
+          counted = count (decisions set .blk (q .cell)) (size grid);
+          block-size = (decisions set .blk (q .cell), refl);
+          least = omega (arith, whole, length-reach set (q .cell) ar s (dec-reach set (q .cell)), not-less (length (reach v (blockName set (q .cell)))) (q .lowest) (w .0));
+          most = omega (arith, length-block set (q .cell) ar s, not-less (q .highest) (length (block v (blockName set (q .cell)))) (w .1));
+        }
+
     -- on a full board none is given exactly when the block rules hold
-    pub complete : (findReason (inEdition e puzzle) cells ≡ none) ↔ BlockRules (inEdition e puzzle) cells
-    complete = (λ k. let n = parts k in rules-plain e puzzle cells (valid .long) (by-quiet (quiet n)), λ r. given-up r (findReason (inEdition e puzzle) cells) refl)
+    pub complete : (findReason (leafWith e sizes puzzle) cells ≡ none) ↔ BlockRules (leafWith e sizes puzzle) cells
+    complete = (λ k. let n = parts k in rules-plain e sizes puzzle cells (valid .long) (by-quiet (quiet n)) (quiet-5 (n .fourth)), λ r. given-up r (findReason (leafWith e sizes puzzle) cells) refl)
       where
         by-quiet : Q → RulesAt e puzzle cells
         by-quiet = quiet-rules e B grid (A set) (decisions set) (dec-reach set)
             (dec-arrow arrows) (sq< set) full
 
-        given-up : BlockRules (inEdition e puzzle) cells → (o : Found) → findReason (inEdition e puzzle) cells ≡ o → findReason (inEdition e puzzle) cells ≡ none
+        given-up : BlockRules (leafWith e sizes puzzle) cells → (o : Found) → findReason (leafWith e sizes puzzle) cells ≡ o → findReason (leafWith e sizes puzzle) cells ≡ none
         given-up r none k = k
-        given-up r (some l) k = absurd (sound l k cells (valid .long) (λ i w m. find-stands set e l k i w m .2) r)
+        given-up r (some l) k = absurd (sound l k cells (valid .long) (λ i w m. find-stands set e sizes l k i w m .2) r)

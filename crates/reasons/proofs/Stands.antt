@@ -31,7 +31,9 @@ use Rattle.paths.specs.Paths.{way, reason2}
 use Rattle.growth.specs.Growth.{blockName as viewName, reasonGrow, reason34}
 use Rattle.reasons.specs.Reasons.{findReason}
 use Rattle.paths.proofs.Walk.{path-square}
-use Rattle.record.specs.Leaf.{inEdition}
+use Rattle.record.specs.Leaf.{Range, leafWith}
+use Rattle.sized.specs.Sized.{reason5}
+use Rattle.reasons.proofs.Sound5.{Told5, too-low, too-high, told-5}
 
 module _ (set : Setting) where
   open Setting set using (puzzle, lines, cells, valid)
@@ -138,6 +140,13 @@ module _ (set : Setting) where
       go (too-few spot h z) = subst Stands z (stand-grow spot)
       go (too-many o q h z) = subst Stands z (stand-shrink (q .spot) (gap-low q))
 
+  stand-5 : (sizes : List Range) (r : List Literal) → reason5 v sizes ≡ some r → Stands r
+  stand-5 sizes r k = go (told-5 set sizes r k)
+    where
+      go : Told5 set sizes r → Stands r
+      go (too-low q m s h z) = subst Stands z (stand-join (each 1 (q .cell ∷ [])) (fence v (blockName set (q .cell))) (stand-one (q .cell) s) (stand-fence (blockName set (q .cell))))
+      go (too-high q m s h z) = subst Stands z (stand-block (q .cell) s)
+
   stand-2 : (r : List Literal) → reason2 puzzle cells ≡ some r → Stands r
   stand-2 r e =
       let w = two-of set r e in
@@ -162,6 +171,8 @@ module _ (set : Setting) where
       bounds c = filter (λ i. empty cells i && touches grid c i) (cellsOf grid)
 
   -- every literal of a reason is shown
-  pub find-stands : (e : ℕ) (r : List Literal) → findReason (inEdition e puzzle) cells ≡ some r → Stands r
+  pub find-stands : (e : ℕ) (sizes : List Range) (r : List Literal) → findReason (leafWith e sizes puzzle) cells ≡ some r → Stands r
   unfolding findReason
-  find-stands e r k = or-else-some (reason1 puzzle cells) _ r k (stand-1 r) (λ k. or-else-some (reason2 puzzle cells) _ r k (stand-2 r) (stand-34 e r))
+  find-stands e sizes r k =
+      or-else-some (reason1 puzzle cells) _ r k (stand-1 r)
+      (λ k. or-else-some (reason2 puzzle cells) _ r k (stand-2 r) (λ k. or-else-some (reason34 e v) (reason5 v sizes) r k (stand-34 e r) (stand-5 sizes r)))

@@ -8,12 +8,13 @@ use mathlib.Core.Option.{none, some}
 use lib.ListN.{length}
 use borrow.Author.Tests.{le-leb}
 use Rattle.board.specs.Form.{Counts}
+use Rattle.board.specs.Kept.{sizesOn}
 use Rattle.board.specs.declared.Board.{Board}
 use Rattle.literals.specs.Literals.{Found}
 use Rattle.literals.specs.declared.Finding.the-variants.{Nothing, Refused}
 use Rattle.board.specs.Hints.{withHints, findRefusal, afterFind, hintedBy}
 use Rattle.board.proofs.CountLaws.{any-counts}
-use Rattle.reasons.specs.Find.{cellsOn, reasonOn, findOf, bufferAfter}
+use Rattle.reasons.specs.Find.{cellsOn, leafOn, reasonOn, findOf, bufferAfter}
 use Rattle.literals.specs.Buffer.{findingBy, bufferBy}
 
 by-refusal : (k : ℕ) (f : Found) (buffer : List ℕ) (r : ℕ) → findingBy k f ≡ Refused r → bufferBy k f buffer ≡ buffer
@@ -52,7 +53,7 @@ none-unchanged b q buffer e = by-none (findRefusal b q (length buffer)) (reasonO
 -- what find answers and writes doesn't depend on the counts
 pub counts-aside : (b : Board) (ns : List ℕ) → Counts (b .hints) → Counts ns → (q : ℕ) (buffer : List ℕ)
     → (findOf (withHints b ns) q buffer ≡ findOf b q buffer) × (bufferAfter (withHints b ns) q buffer ≡ bufferAfter b q buffer)
-unfolding findOf bufferAfter findRefusal reasonOn cellsOn
+unfolding findOf bufferAfter findRefusal reasonOn leafOn sizesOn cellsOn
 counts-aside b ns h k q buffer = rw (any-counts b ns h k) (unfold withHints in (refl, refl))
 
 -- nor on the player

@@ -5,10 +5,8 @@ use mathlib.Core.List.{List, map}
 use mathlib.Core.Option.{none, some}
 use lib.ListN.{length, take}
 use Rattle.record.specs.Record.{Outcome, ok, refused}
-use Rattle.record.specs.Leaf.{Leaf, inEdition}
-use Rattle.record.specs.Problem.{puzzleOf}
 use Rattle.grid.specs.Cells.{Literal}
-unfoldable pub use Rattle.board.specs.Kept.{cellsOn}
+unfoldable pub use Rattle.board.specs.Kept.{cellsOn, leafOn}
 use Rattle.board.specs.Hints.{findRefusal}
 use Rattle.board.specs.declared.Board.{Board}
 use Rattle.literals.specs.Literals.{Found}
@@ -16,10 +14,6 @@ use Rattle.reasons.specs.Reasons.{findReason}
 use Rattle.literals.specs.declared.Finding.{Finding}
 use Rattle.literals.specs.declared.Finding.the-variants.{Nothing, Reason, Refused}
 use Rattle.literals.specs.Buffer.{findingBy, bufferBy}
-
--- what the rules read on a board: its puzzle, in its edition
-abbrev pub leafOn : Board → Leaf
-leafOn b = inEdition (b .edition) (puzzleOf (b .problem))
 
 -- the first reason that applies on a board
 unfoldable pub reasonOn : Board → Found

@@ -4,9 +4,10 @@ use board::Board;
 use literals::Finding;
 ghost use mathlib.Core.Path.{_≡_};
 ghost use Prim.Native.Nat.{_≤_};
-ghost use lib.ListN.{length, replicate};
+ghost use lib.ListN.{length, take, replicate};
 ghost use Rattle.board.specs.Hints.{hinted, afterFind};
 ghost use Rattle.reasons.specs.Find.{findOf, bufferAfter};
+ghost use Rattle.reasons.specs.Inside.{lentSizes};
 
 // The answer of `find`, with the board as find leaves it.
 pub struct Asked {
@@ -19,6 +20,25 @@ pub fn no_literals() -> [u16; Board::LITERALS]
     ensures { λ r. ⌜ r ≡ replicate 3073 0 ⌝ }
 {
     [0u16; Board::LITERALS]
+}
+
+// How many of n cells are lent with their sizes to the search for a reason: none on a leaf without sizes, which then pays for none.
+pub fn lent_sizes(lowest: &[u16; 1024], n: usize) -> usize
+    requires { ⌜ length (now lowest) ≡ 1024 ⌝ }
+    ensures { λ r. ⌜ r ≡ lentSizes (now (lowest .entry)) n ⌝ }
+{
+    if form::zeros(lowest, 0) {
+        return 0;
+    }
+    n
+}
+
+// The sizes of the first n cells.
+pub fn first_sizes(sizes: &[u16], n: usize) -> &[u16]
+    requires { ⌜ n ≤ length (now sizes) ⌝ }
+    ensures { λ r. ⌜ now r ≡ take n (now (sizes .entry)) ⌝ }
+{
+    &sizes[..n]
 }
 
 // The board with one more hint counted for the player, and for no other.
@@ -61,8 +81,11 @@ pub fn find(board: Board, player: u8, buffer: &mut [u16]) -> Asked
             board,
         };
     }
+    let n = lent_sizes(&board.lowest, h * w);
     let finding = inconsistency::find_inconsistency(
         board.edition,
+        first_sizes(&board.lowest, n),
+        first_sizes(&board.highest, n),
         &board.cells,
         &board.problem.arrows,
         &board.problem.ends,

@@ -1,5 +1,6 @@
 pub mod RecordLaws
 pub mod FreshLaws
+pub mod SizesLaws
 pub mod LeafLaws
 pub mod LineLaws
 pub mod PackLaws

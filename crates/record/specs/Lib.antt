@@ -1,5 +1,7 @@
 pub mod Record
 pub mod Leaf
+pub mod Arrows
+pub mod Sizes
 pub mod Write
 pub mod Valid
 pub mod Problem

@@ -17,7 +17,7 @@ use Rattle.record.specs.Record.{Puzzle, ok}
 use Rattle.record.specs.Valid.{Valid}
 use Rattle.record.specs.Leaf.{inEdition, isEdition}
 use Rattle.record.proofs.FreshLaws.{arrows-size}
-use Rattle.record.proofs.LeafLaws.{ok-leaf}
+use Rattle.record.proofs.LeafLaws.{plain-leaf}
 use Rattle.record.proofs.RecordLaws.{record-valid}
 use Rattle.finished.specs.Finished.{Finished}
 use Rattle.join.specs.Join.{cut, joinedGrid, leftCell, rightCell, joined, leftHalf, rightHalf, ColumnEmpty, joinRecord}
@@ -169,8 +169,8 @@ joined-leaf n s t {r} o e edition =
     record {
       left = j .left;
       right = j .right;
-      opensLeft = ok-leaf s e (j .left) (j .readLeft) edition;
-      opensRight = ok-leaf t e (j .right) (j .readRight) edition;
-      opens = ok-leaf r e (joined (j .left) (j .right)) (j .read) edition;
+      opensLeft = plain-leaf s e (j .left) (j .readLeft) edition;
+      opensRight = plain-leaf t e (j .right) (j .readRight) edition;
+      opens = plain-leaf r e (joined (j .left) (j .right)) (j .read) edition;
       finished = λ cells full. joined-finished (j .left) (j .right) (record-valid s (j .readLeft)) (record-valid t (j .readRight)) (j .level) cells (full .long) e;
     }

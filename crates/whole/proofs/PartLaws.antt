@@ -5,7 +5,7 @@ use native.Mathlib.Omega.{arith}
 use mathlib.Core.Logic.{_↔_}
 use mathlib.Core.Path.{_≡_, refl, sym, ap, subst, _∙_}
 use mathlib.Core.Bool.{true, false, So}
-use mathlib.Core.List.{List, [], _∷_, _++_, map, map-append, List·Memᴰ, List·Memᴰ·head, List·Memᴰ·tail, Memᴰ·map, Memᴰ·of-map, Memᴰ·append-left, Memᴰ·append-right}
+use mathlib.Core.List.{List, [], _∷_, _++_, map, map-append, List·Memᴰ, List·Memᴰ·head, List·Memᴰ·tail, List·Memᴰ·not-nil, Memᴰ·map, Memᴰ·of-map, Memᴰ·append-left, Memᴰ·append-right}
 use Rattle.grid.specs.Grid.{size}
 use Rattle.grid.specs.Cells.{square}
 use Rattle.grid.proofs.CellLaws.{square-below}
@@ -152,6 +152,7 @@ module _ {p q : Puzzle} {f : ℕ → ℕ} {cells cells′ : List ℕ} (I : Part 
   rules-from {e} r = record {
     one = λ i l s. one-from i l (r .one (f i) (I .embeds .into i l) (same-square i l ∙ s));
     grown = λ i j c. pair-grown e i j c .1 (r .grown (f i) (f j) (next-to i j c));
+    sized = λ r m _. absurd (List·Memᴰ·not-nil m);
   }
 
   -- where the part keeps the rules, so does the whole at the part's cells

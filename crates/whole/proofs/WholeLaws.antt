@@ -5,7 +5,7 @@ use native.Mathlib.Omega.{arith}
 use mathlib.Core.Logic.{_↔_, _⊎_, inl, inr}
 use mathlib.Core.Path.{_≡_, sym, ap, subst, _∙_}
 use mathlib.Core.Bool.{true, So}
-use mathlib.Core.List.{List}
+use mathlib.Core.List.{List, List·Memᴰ·not-nil}
 use lib.ListN.{getD}
 use borrow.Author.Tests.{eqb-true}
 use Rattle.grid.specs.Grid.{size}
@@ -33,7 +33,7 @@ module _ {A : Type 0} {p : A → Puzzle} {q : Puzzle} {f : A → ℕ → ℕ} {c
   finished-whole e F = record {
     decided = record { long = W .total; each = λ j l. each j (W .covers j l) };
     kept = record { black = λ j l e. black j e (W .covers j l); given = λ j l e. given j e (W .covers j l) };
-    rules = record { one = λ j l s. one j s (square-part j l s); grown = grow };
+    rules = record { one = λ j l s. one j s (square-part j l s); grown = grow; sized = λ r m _. absurd (List·Memᴰ·not-nil m) };
     two = λ b m. let r = W .whose b m in subst (TwoSquares cells′) (sym (r .3)) (two-to (W .part (r .0)) (r .1) (r .2) (F (r .0) .two (r .1) (r .2)));
   }
     where

@@ -3,7 +3,7 @@
 use Prim.Native.Nat.{ℕ}
 use mathlib.Core.Logic.{_↔_}
 use mathlib.Core.Path.{_≡_}
-use mathlib.Core.List.{List}
+use mathlib.Core.List.{List, []}
 use Rattle.record.specs.Record.{Puzzle, ok}
 use Rattle.record.specs.Leaf.{inEdition, leafOf}
 use Rattle.board.specs.Board.{Full}
@@ -21,7 +21,7 @@ pub record HalvesFinished (e : ℕ) (p q : Puzzle) (cells : List ℕ) : Type 0 w
 pub record JoinedLeaf (e : ℕ) (s t r : List ℕ) : Type 0 where
   pub left : Puzzle
   pub right : Puzzle
-  pub opensLeft : leafOf s e ≡ ok (inEdition e left)
-  pub opensRight : leafOf t e ≡ ok (inEdition e right)
-  pub opens : leafOf r e ≡ ok (inEdition e (joined left right))
+  pub opensLeft : leafOf s e [] ≡ ok (inEdition e left)
+  pub opensRight : leafOf t e [] ≡ ok (inEdition e right)
+  pub opens : leafOf r e [] ≡ ok (inEdition e (joined left right))
   pub finished : (cells : List ℕ) → Full (joinedGrid left right) cells → Finished (inEdition e (joined left right)) cells ↔ HalvesFinished e left right cells

@@ -29,7 +29,7 @@ use Rattle.certain.proofs.+search_from.{statement}
 use Rattle.certain.proofs.+search_from.Tie.{close}
 
 abbrev μ-search-from : Measures 4 search-from-kinds.ps ℕ
-μ-search-from κs a = howMany 2 (a .1 .0 .now)
+μ-search-from κs a = howMany 2 (a .1 .1 .1 .0 .now)
 
 abbrev search-from-at : ℕ → In 4 search-from-kinds.ps
 search-from-at t =
@@ -64,7 +64,7 @@ abbrev begun : (t : ℕ) → Stepped t → Begun t
 begun t c = c .before .before .before .before
 
 abbrev entry : (t : ℕ) → Stepped t → Entry t
-entry t c = begun t c .before
+entry t c = begun t c .before .before .before
 
 abbrev done : (t : ℕ) → Undecided t → Stepped t
 done t d = d .before .before .before
@@ -80,14 +80,14 @@ formed : (t : ℕ) (s : Entry t) → Formed (problem t s)
 formed t s = formed-is (problem t s) (s .pre .1 .1)
 
 abbrev leaf : (t : ℕ) → Entry t → Leaf
-leaf t s = leafIn (s .args .edition) (s .args .h) (s .args .w) (s .args .codes .now) (s .args .arrows .now) (s .args .ends .now) (s .args .number)
+leaf t s = leafIn (s .args .edition) (s .args .lowest .now) (s .args .highest .now) (s .args .h) (s .args .w) (s .args .codes .now) (s .args .arrows .now) (s .args .ends .now) (s .args .number)
 
 -- one state for each cell
 long : (t : ℕ) (s : Entry t) → length (take (s .args .h * s .args .w) (s .args .cells .now)) ≡ s .args .h * s .args .w
-long t s = cells-long (problem t s) (formed t s) (s .args .edition) (s .pre .1 .2)
+long t s = cells-long (problem t s) (formed t s) (s .args .edition) (leaf t s .sizes) (s .pre .1 .2)
 
 -- a step is left
-some-left : (t : ℕ) (c : Begun t) → 0 < c .before .args .left
+some-left : (t : ℕ) (c : Begun t) → 0 < c .before .before .before .args .left
 some-left t c = omega (arith, c .if1 .left)
 
 -- the undecided cell that is met
@@ -95,11 +95,11 @@ abbrev cell : (t : ℕ) → Undecided t → ℕ
 cell t d = d .before .met .given .0 .0
 
 meets : (t : ℕ) (d : Undecided t) → let s = entry t (done t d) in
-    Meets (leaf t s) (s .args .h * s .args .w) (s .args .cells .now) (s .args .facts .now) (done t d .step .last .1 .1 .1 .1 .1 .1 .1 .1 .0) (met.Undecided (cell t d))
+    Meets (leaf t s) (s .args .h * s .args .w) (s .args .cells .now) (s .args .facts .now) (done t d .step .last .1 .1 .1 .1 .1 .1 .1 .1 .1 .1 .0) (met.Undecided (cell t d))
 meets t d =
     let s = entry t (done t d) in
     subst
-    (λ (m : Met). Meets (leaf t s) (s .args .h * s .args .w) (s .args .cells .now) (s .args .facts .now) (done t d .step .last .1 .1 .1 .1 .1 .1 .1 .1 .0) m)
+    (λ (m : Met). Meets (leaf t s) (s .args .h * s .args .w) (s .args .cells .now) (s .args .facts .now) (done t d .step .last .1 .1 .1 .1 .1 .1 .1 .1 .1 .1 .0) m)
     (d .before .met .given .1) (done t d .step .ensures .0)
 
 spot : (t : ℕ) (d : Undecided t) → let s = entry t (done t d) in
@@ -123,24 +123,24 @@ less t d v low =
 
 search-from-returns : (t : ℕ) → search-from-lts.Need-returns (claims t) (search-from-at t) search-from.Post
 search-from-returns t c =
-    let s = c .before in
+    let s = c .before .before .before in
     let a = s .args in
     (way-none (a .h * a .w) (a .left) (leaf t s) (a .cells .now) (a .facts .now) (s .pre .1 .3) (c .if1 .taken), s .pre .1 .4)
 
 search-from-step-requires : (t : ℕ) → search-from-lts.Need-step-requires (claims t) (search-from-at t) search-from.Post
-search-from-step-requires t c κs = c .before .before .before .before .pre .1
+search-from-step-requires t c κs = c .before .before .before .before .before .before .pre .1
 
 search-from-enum-told : (t : ℕ) → search-from-lts.Need-enum-told (claims t) (search-from-at t) search-from.Post
 search-from-enum-told t c = search needs
 
-search-from-sub-t22 : (t : ℕ) → search-from-lts.Need-sub-t22 (claims t) (search-from-at t) search-from.Post
-search-from-sub-t22 t c = omega (arith, some-left t (begun t (c .before .before)))
+search-from-sub-t24 : (t : ℕ) → search-from-lts.Need-sub-t24 (claims t) (search-from-at t) search-from.Post
+search-from-sub-t24 t c = omega (arith, some-left t (begun t (c .before .before)))
 
 search-from-enum-told-2 : (t : ℕ) → search-from-lts.Need-enum-told-2 (claims t) (search-from-at t) search-from.Post
 search-from-enum-told-2 t c = search needs
 
-search-from-sub-t23 : (t : ℕ) → search-from-lts.Need-sub-t23 (claims t) (search-from-at t) search-from.Post
-search-from-sub-t23 t c = omega (arith, some-left t (begun t (c .before .before)))
+search-from-sub-t25 : (t : ℕ) → search-from-lts.Need-sub-t25 (claims t) (search-from-at t) search-from.Post
+search-from-sub-t25 t c = omega (arith, some-left t (begun t (c .before .before)))
 
 search-from-enum-known-met : (t : ℕ) → search-from-lts.Need-enum-known-met (claims t) (search-from-at t) search-from.Post
 search-from-enum-known-met t c = search needs
@@ -164,6 +164,7 @@ search-from-search-from-requires t c κs =
         states-set (cell t d) 1 (s .pre .1 .2) (omega arith),
         facts-long (a .h * a .w) (a .left) (leaf t s) (a .cells .now) (a .facts .now) (s .pre .1 .3) (some-left t (begun t q)) (long t s) (meets t d),
         q .step .ensures .1,
+        s .pre .1 .5,
       ),
     )
 
@@ -185,10 +186,10 @@ search-from-search-from-requires-2 t c κs =
     let d = choice t f in
     let s = entry t (done t d) in
     let i = cell t d in
-    let e : set (f .search-from .last .1 .0) i 0 ≡ set (s .args .cells .now) i 0 = ap (λ (z : List ℕ). set z i 0) (f .search-from .ensures .0 .same) ∙ set-set (s .args .cells .now) i 1 0 in
-    let fall : howMany 2 (set (f .search-from .last .1 .0) i 0) < t = rw e (less t d 0 (omega arith)) in (
+    let e : set (f .search-from .last .1 .1 .1 .0) i 0 ≡ set (s .args .cells .now) i 0 = ap (λ (z : List ℕ). set z i 0) (f .search-from .ensures .0 .same) ∙ set-set (s .args .cells .now) i 1 0 in
+    let fall : howMany 2 (set (f .search-from .last .1 .1 .1 .0) i 0) < t = rw e (less t d 0 (omega arith)) in (
       fall,
-      (s .pre .1 .0, s .pre .1 .1, rw e (states-set i 0 (s .pre .1 .2) (omega arith)), f .search-from .ensures .0 .long, f .search-from .ensures .1),
+      (s .pre .1 .0, s .pre .1 .1, rw e (states-set i 0 (s .pre .1 .2) (omega arith)), f .search-from .ensures .0 .long, f .search-from .ensures .1, s .pre .1 .5),
     )
 
 search-from-element-write-cells-4 : (t : ℕ) → search-from-lts.Need-element-write-cells-4 (claims t) (search-from-at t) search-from.Post
@@ -234,9 +235,9 @@ pub +search-from-spec : {M : Type 1} → statement M
     (search-from-returns t)
     (search-from-step-requires t)
     (search-from-enum-told t)
-    (search-from-sub-t22 t)
+    (search-from-sub-t24 t)
     (search-from-enum-told-2 t)
-    (search-from-sub-t23 t)
+    (search-from-sub-t25 t)
     (search-from-enum-known-met t)
     (search-from-element-write-cells t)
     (search-from-sub-search-from t)

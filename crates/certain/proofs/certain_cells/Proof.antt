@@ -1,10 +1,15 @@
 -- `certain::certain_cells` meets its contract: what the search leaves of the budget, and what it gathered, is the answer.
 -- Assumes nothing.
-use Prim.Native.Nat.{ℕ}
+use Prim.Native.Nat.{ℕ, _*_}
+use mathlib.Core.List.{List}
 use mathlib.Core.Path.{ap, _∙_}
 use lib.ListN.{length, length-replicate}
 use borrow.Author.Needs.{needs}
+use Rattle.record.specs.Leaf.{Range}
+use Rattle.record.specs.Sizes.{GoodSizes, keptRanges}
+use Rattle.record.specs.Problem.{puzzleOf}
 use Rattle.record.specs.declared.Problem.{Problem}
+use Rattle.sized.proofs.KeptLaws.{kept-good}
 use Rattle.form.proofs.ProblemForm.{Formed, formed-is}
 use Rattle.reasons.proofs.Room.{room-length}
 use Rattle.finished.specs.Inside.{problemOn}
@@ -18,6 +23,14 @@ problem s = problemOn (s .args .h) (s .args .w) (s .args .codes .now) (s .args .
 
 formed : (s : tie.Start) → Formed (problem s)
 formed s = formed-is (problem s) (s .pre .1)
+
+-- the sizes that the slices hold
+abbrev ranges : tie.Start → List Range
+ranges s = keptRanges (s .args .lowest .now) (s .args .highest .now) (length (s .args .lowest .now))
+
+good : (s : tie.Start) → GoodSizes (puzzleOf (problem s)) (ranges s)
+unfolding puzzleOf
+good s = kept-good (puzzleOf (problem s)) (s .args .h * s .args .w) (s .args .lowest .now) (s .args .highest .now) (s .pre .3)
 
 -- where nothing is known yet, seen from before the search and from behind it
 abbrev blank : tie.After-buffer → tie.After-nothing-known
@@ -35,12 +48,13 @@ no-literals-requires c κs = search needs
 search-from-requires : tie.Need-search-from-requires
 search-from-requires c κs =
     let k = blank c in
-    let s = k .before in (
+    let s = k .before .before .before in (
       s .pre .0,
       s .pre .1,
       s .pre .2,
       ap length (k .nothing-known .ensures) ∙ length-replicate {A = ℕ} 1024 3,
       room-length (c .before .before .before .no-literals .ensures),
+      s .pre .3,
     )
 
 enum-told : tie.Need-enum-told
@@ -56,8 +70,8 @@ sub-steps : tie.Need-sub-steps
 sub-steps c =
     let f = c .before .before .before in
     let k = begun f in
-    let s = k .before in
-    rest-within (problem s) (formed s) (s .args .edition) (s .pre .2) (s .args .budget) (k .nothing-known .ensures) (f .search-from .ensures .0) (c .before .left .given .1)
+    let s = k .before .before .before in
+    rest-within (problem s) (formed s) (s .args .edition) (good s) (s .pre .2) (s .args .budget) (k .nothing-known .ensures) (f .search-from .ensures .0) (c .before .left .given .1)
 
 array-read-if1 : tie.Need-array-read-if1
 array-read-if1 c = search needs
@@ -66,22 +80,22 @@ returns : tie.Need-returns
 returns c =
     let f = c .before .before .before .before in
     let k = begun f in
-    let s = k .before in
-    (answer-none (problem s) (formed s) (s .args .edition) (s .pre .2) (s .args .budget) (k .nothing-known .ensures) (f .search-from .ensures .0) (c .before .before .left .given .1) (c .if1 .taken), f .search-from .ensures .0 .same)
+    let s = k .before .before .before in
+    (answer-none (problem s) (formed s) (s .args .edition) (good s) (s .pre .2) (s .args .budget) (k .nothing-known .ensures) (f .search-from .ensures .0) (c .before .before .left .given .1) (c .if1 .taken), f .search-from .ensures .0 .same)
 
 returns-2 : tie.Need-returns-2
 returns-2 c =
     let f = c .before .before .before in
     let k = begun f in
-    let s = k .before in
-    (answer-spent (problem s) (formed s) (s .args .edition) (s .pre .2) (s .args .budget) (k .nothing-known .ensures) (f .search-from .ensures .0) (c .before .enum-told .given .1) (c .nothing-known2 .ensures), f .search-from .ensures .0 .same)
+    let s = k .before .before .before in
+    (answer-spent (problem s) (formed s) (s .args .edition) (good s) (s .pre .2) (s .args .budget) (k .nothing-known .ensures) (f .search-from .ensures .0) (c .before .enum-told .given .1) (c .nothing-known2 .ensures), f .search-from .ensures .0 .same)
 
 returns-3 : tie.Need-returns-3
 returns-3 c =
     let f = c .before .before .before .before in
     let k = begun f in
-    let s = k .before in
-    (answer-told (problem s) (formed s) (s .args .edition) (s .pre .2) (s .args .budget) (k .nothing-known .ensures) (f .search-from .ensures .0) (c .before .before .left .given .1) (c .if1 .left), f .search-from .ensures .0 .same)
+    let s = k .before .before .before in
+    (answer-told (problem s) (formed s) (s .args .edition) (good s) (s .pre .2) (s .args .budget) (k .nothing-known .ensures) (f .search-from .ensures .0) (c .before .before .left .given .1) (c .if1 .left), f .search-from .ensures .0 .same)
 
 pub certain-cells-spec : {M : Type 1} → statement M
 certain-cells-spec =

@@ -1,9 +1,15 @@
 -- `certain::step` meets its contract: find is asked, and then what lies beyond.
 -- Assumes nothing.
 use native.Mathlib.Omega.{arith}
+use Prim.Native.Nat.{_*_}
+use mathlib.Core.List.{List}
+use lib.ListN.{length}
+use Rattle.record.specs.Leaf.{Range}
+use Rattle.record.specs.Sizes.{GoodSizes, keptRanges}
+use Rattle.sized.proofs.KeptLaws.{kept-good}
 use mathlib.Core.Path.{_∙_}
 use borrow.Author.Needs.{needs}
-use Rattle.record.specs.Problem.{gridOf}
+use Rattle.record.specs.Problem.{puzzleOf, gridOf}
 use Rattle.record.specs.declared.Problem.{Problem}
 use Rattle.form.proofs.ProblemForm.{Formed, formed-is}
 use Rattle.literals.proofs.Findings.{not-refused}
@@ -21,16 +27,24 @@ problem s = problemOn (s .args .h) (s .args .w) (s .args .codes .now) (s .args .
 formed : (s : tie.Start) → Formed (problem s)
 formed s = formed-is (problem s) (s .pre .1)
 
+-- the sizes that the slices hold
+abbrev ranges : tie.Start → List Range
+ranges s = keptRanges (s .args .lowest .now) (s .args .highest .now) (length (s .args .lowest .now))
+
+good : (s : tie.Start) → GoodSizes (puzzleOf (problem s)) (ranges s)
+unfolding puzzleOf
+good s = kept-good (puzzleOf (problem s)) (s .args .h * s .args .w) (s .args .lowest .now) (s .args .highest .now) (s .pre .5)
+
 -- the start, seen from behind find
 abbrev start : tie.After-find-inconsistency → tie.Start
-start c = c .before .before
+start c = c .before .before .before .before
 
 find-inconsistency-requires : tie.Need-find-inconsistency-requires
 unfolding gridOf
 find-inconsistency-requires c κs =
-    let s = c .before in
+    let s = c .before .before .before in
     let f = formed s in
-    (record { tall = f .sizes .high .0; wide = f .sizes .high .1; room = omega (arith, few (problem s) f, s .pre .4) }, problem-arrays (problem s) f, s .pre .0)
+    (record { tall = f .sizes .high .0; wide = f .sizes .high .1; room = omega (arith, few (problem s) f, s .pre .4) }, problem-arrays (problem s) f, s .pre .0, s .pre .5)
 
 enum-told : tie.Need-enum-told
 enum-told c = search needs
@@ -54,13 +68,13 @@ returns c =
     let t = c .before .before in
     let k = t .before .before in
     let s = start k in
-    (meets-beyond (problem s) (formed s) (s .args .edition) (s .pre .2) (rw (t .enum-told .given .1) at (k .find-inconsistency .ensures)) (s .pre .3) (c .beyond .ensures), k .find-inconsistency .kept .1 .1 .1 .1 .1 .1 .1 .0 ∙ s .pre .4)
+    (meets-beyond (problem s) (formed s) (s .args .edition) (ranges s) (s .pre .2) (good s) (rw (t .enum-told .given .1) at (k .find-inconsistency .ensures)) (s .pre .3) (c .beyond .ensures), k .find-inconsistency .kept .1 .1 .1 .1 .1 .1 .1 .1 .1 .0 ∙ s .pre .4)
 
 returns-2 : tie.Need-returns-2
 returns-2 c =
     let k = c .before .before in
     let s = start k in
-    (meets-reason (problem s) (formed s) (s .args .edition) (s .pre .2) (rw (c .enum-told2 .given .1) at (k .find-inconsistency .ensures)), k .find-inconsistency .kept .1 .1 .1 .1 .1 .1 .1 .0 ∙ s .pre .4)
+    (meets-reason (problem s) (formed s) (s .args .edition) (ranges s) (s .pre .2) (rw (c .enum-told2 .given .1) at (k .find-inconsistency .ensures)), k .find-inconsistency .kept .1 .1 .1 .1 .1 .1 .1 .1 .1 .0 ∙ s .pre .4)
 
 returns-3 : tie.Need-returns-3
 returns-3 c =

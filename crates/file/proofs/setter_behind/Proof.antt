@@ -16,11 +16,13 @@ use Rattle.record.proofs.HeadLaws.{head-valid, head-length}
 use Rattle.form.specs.Form.{problemFormed}
 use Rattle.form.proofs.ProblemForm.{is-formed, valid-formed}
 use Rattle.writer.proofs.ArrayLaws.{parts}
+use Rattle.sized.proofs.SizeLaws.{no-sizes-on, none-kept}
+use Rattle.call.proofs.EditionLaws.{no-edition, an-edition}
 use Rattle.finished.specs.Finished.{finishedTest}
 use Rattle.file.specs.File.{tailOf, cellsIn, tailTest, solutionIn}
 use Rattle.file.specs.Answers.{setterOf}
 use Rattle.file.proofs.TailLaws.{solution-length}
-use Rattle.file.proofs.AnswerLaws.{length-found, cells-found, cells-few, tested, judged, setter-11, setter-20, setter-16, setter-21, setter-done, no-edition, an-edition}
+use Rattle.file.proofs.AnswerLaws.{length-found, cells-found, cells-few, tested, judged, setter-11, setter-20, setter-16, setter-21, setter-done}
 use Rattle.file.proofs.setter_behind.Statement.{statement}
 use Rattle.file.proofs.setter_behind.Tie as tie
 
@@ -115,18 +117,24 @@ read-solution-requires c κs =
     (short l, cells-few (s .args .file .now) (s .pre .1) (s .args .t1) (s .pre .2), c .before .no-codes .ensures)
 
 -- the edition is one, seen from before the solution is tested
-abbrev edition-told : tie.After-is-finished-arg3 → tie.Else3
-edition-told c = c .before .before .before .before .before .before .before .before
+abbrev edition-told : tie.After-is-finished-arg5 → tie.Else3
+edition-told c = c .before .before .before .before .before .before .before .before .before .before
 
-abbrev tail-told : tie.After-is-finished-arg3 → tie.Else2
+abbrev tail-told : tie.After-is-finished-arg5 → tie.Else2
 tail-told c = edition-told c .before .before
 
-abbrev begun : tie.After-is-finished-arg3 → tie.Start
+abbrev begun : tie.After-is-finished-arg5 → tie.Start
 begun c = start (tail-told c .before .before)
 
 -- the cells that were read
-abbrev cells : tie.After-is-finished-arg3 → List ℕ
-cells c = c .before .before .before .before .before .read-solution .last .1 .1 .1 .0
+abbrev cells : tie.After-is-finished-arg5 → List ℕ
+cells c = c .before .before .before .before .before .before .before .read-solution .last .1 .1 .1 .0
+
+slice-aggregate-is-finished : tie.Need-slice-aggregate-is-finished
+slice-aggregate-is-finished c = search needs
+
+slice-aggregate-is-finished-2 : tie.Need-slice-aggregate-is-finished-2
+slice-aggregate-is-finished-2 c = search needs
 
 is-finished-requires : tie.Need-is-finished-requires
 is-finished-requires c κs =
@@ -135,9 +143,10 @@ is-finished-requires c κs =
     let t = drop (tail-told c .before .before .record-length .result) (s .args .file .now) in
     let n = q .height * q .width in (
       edition-told c .if3 .left,
-      ap length (c .before .before .before .before .before .read-solution .ensures)
+      ap length (c .before .before .before .before .before .before .before .read-solution .ensures)
           ∙ array-length 0 (solutionIn t n) (omega (arith, solution-length t n, cells-few (s .args .file .now) (s .pre .1) q (s .pre .2))),
       ap problemFormed (s .pre .2) ∙ is-formed (problemOf (s .pre .0 .puzzle)) (valid-formed (s .pre .0 .puzzle) (head-valid (s .args .file .now) (s .pre .1))),
+      no-sizes-on _ _,
     )
 
 -- whether the solution is finished
@@ -150,7 +159,7 @@ verdict c h e =
     let l = tail-told b .before .before in
     let i = edition-told b .before in
     let k = an-edition (a .edition) (i .edition-of .result) (i .edition-of .ensures) (edition-told b .if3 .left) in
-    judged (a .file .now) (e .0) (a .t1) (e .1) (i .edition-of .result) (cells b) (l .record-length .result) (found l h e) (b .before .before .before .before .before .read-solution .ensures) (c .is-finished .result) (c .is-finished .ensures)
+    judged (a .file .now) (e .0) (a .t1) (e .1) (i .edition-of .result) (cells b) (l .record-length .result) (found l h e) (b .before .before .before .before .before .before .before .read-solution .ensures) (c .is-finished .result) (rw none-kept at (c .is-finished .ensures))
     ∙ ap (λ (n : ℕ). finishedTest (inEdition n (h .puzzle)) (solutionIn (tailOf (a .file .now) h) (cellsIn h))) (k .1)
 
 no-setter-requires-4 : tie.Need-no-setter-requires-4
@@ -184,7 +193,7 @@ returns-5 c =
     λ h r f.
     setter-done (a .file .now) r (a .room) (a .edition) (room t h (r, f)) (sym (test t h (r, f)) ∙ not-false _ (tail-told b .if2 .left)) (k .0) (sym (verdict y h (r, f)) ∙ not-false _ (c .before .if4 .left))
     (l .record-length .result) (c .read-grade .result) (a .t1 .height * a .t1 .width) (cells b) (found l h (r, f)) (c .read-grade .ensures) (cells-found (a .file .now) r (a .t1) f)
-    (b .before .before .before .before .before .read-solution .ensures)
+    (b .before .before .before .before .before .before .before .read-solution .ensures)
 
 pub setter-behind-spec : {M : Type 1} → statement M
 setter-behind-spec =
@@ -203,6 +212,8 @@ setter-behind-spec =
     returns-3
     no-codes-requires
     read-solution-requires
+    slice-aggregate-is-finished
+    slice-aggregate-is-finished-2
     is-finished-requires
     no-setter-requires-4
     returns-4

@@ -12,7 +12,10 @@ use Rattle.find_replay.proofs.entry_differs.Tie as tie
 
 -- the start, seen from behind the first refusal
 abbrev start : tie.After-number → tie.Start
-start c = c .before .before .before .before .before .before
+start c = c .before .before .before .before .before .before .before
+
+slice-aggregate-open : tie.Need-slice-aggregate-open
+slice-aggregate-open c = search needs
 
 open-requires : tie.Need-open-requires
 open-requires c κs = search needs
@@ -63,6 +66,7 @@ pub entry-differs-spec : {M : Type 1} → statement M
 entry-differs-spec =
     tie.close
     (tie.spec
+    slice-aggregate-open
     open-requires
     number-requires
     returns

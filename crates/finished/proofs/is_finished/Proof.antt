@@ -4,15 +4,20 @@ use Prim.Native.Nat.{_*_}
 use native.Mathlib.Omega.{arith}
 use mathlib.Core.Path.{_≡_, sym, _∙_}
 use mathlib.Core.Bool.{true, _&&_}
+use mathlib.Core.List.{List}
+use lib.ListN.{length}
 use borrow.Author.Tests.{not-true, not-false}
 use Rattle.grid.specs.Lists.{all}
-use Rattle.record.specs.Problem.{gridOf}
+use Rattle.record.specs.Leaf.{Range}
+use Rattle.record.specs.Sizes.{GoodSizes, keptRanges}
+use Rattle.record.specs.Problem.{puzzleOf, gridOf}
 use Rattle.record.specs.declared.Problem.{Problem}
 use Rattle.form.proofs.ProblemForm.{Formed, formed-is}
 use Rattle.groups.specs.Arrays.{linesOf}
 use Rattle.literals.proofs.Findings.{not-refused}
 use Rattle.reasons.proofs.BoardArrays.{problem-arrays}
 use Rattle.reasons.proofs.Room.{room-length}
+use Rattle.sized.proofs.KeptLaws.{kept-good}
 use Rattle.finished.specs.Finished.{keepsAll, twoSquares}
 use Rattle.finished.specs.Inside.{problemOn}
 use Rattle.finished.proofs.VerdictLaws.{few, fails-before, no-reason, some-reason}
@@ -27,9 +32,17 @@ problem s = problemOn (s .args .h) (s .args .w) (s .args .codes .now) (s .args .
 formed : (s : tie.Start) → Formed (problem s)
 formed s = formed-is (problem s) (s .pre .2)
 
+-- the sizes that the slices hold
+abbrev ranges : tie.Start → List Range
+ranges s = keptRanges (s .args .lowest .now) (s .args .highest .now) (length (s .args .lowest .now))
+
+good : (s : tie.Start) → GoodSizes (puzzleOf (problem s)) (ranges s)
+unfolding puzzleOf
+good s = kept-good (puzzleOf (problem s)) (s .args .h * s .args .w) (s .args .lowest .now) (s .args .highest .now) (s .pre .3)
+
 -- the start, seen from behind the search for a reason
 abbrev start : tie.After-find-inconsistency → tie.Start
-start c = c .before .before .before .before .before
+start c = c .before .before .before .before .before .before .before
 
 -- there, all but the block rules holds
 holds : (c : tie.After-find-inconsistency)
@@ -39,15 +52,15 @@ holds c =
     sym (e .before .all-but-rules .ensures) ∙ not-false _ (e .if1 .left)
 
 mul-all-but-rules : tie.Need-mul-all-but-rules
-mul-all-but-rules c = omega (arith, few (problem c) (formed c))
+mul-all-but-rules c = let s = c .before .before in omega (arith, few (problem s) (formed s))
 
 all-but-rules-requires : tie.Need-all-but-rules-requires
-all-but-rules-requires c κs = (few (problem c) (formed c), problem-arrays (problem c) (formed c) .drawn)
+all-but-rules-requires c κs = let s = c .before .before in (few (problem s) (formed s), problem-arrays (problem s) (formed s) .drawn)
 
 returns : tie.Need-returns
 returns c =
-    let s = c .before .before in
-    fails-before (problem s) (formed s) (s .args .edition) (s .args .cells .now) (s .pre .1) (sym (c .before .all-but-rules .ensures) ∙ not-true _ (c .if1 .taken))
+    let s = c .before .before .before .before in
+    fails-before (problem s) (formed s) (s .args .edition) (ranges s) (s .args .cells .now) (s .pre .1) (sym (c .before .all-but-rules .ensures) ∙ not-true _ (c .if1 .taken))
 
 no-literals-requires : tie.Need-no-literals-requires
 no-literals-requires c κs = search needs
@@ -58,9 +71,9 @@ slice-aggregate-find-inconsistency c = search needs
 find-inconsistency-requires : tie.Need-find-inconsistency-requires
 unfolding gridOf
 find-inconsistency-requires c κs =
-    let s = c .before .before .before .before in
+    let s = c .before .before .before .before .before .before in
     let f = formed s in
-    (record { tall = f .sizes .high .0; wide = f .sizes .high .1; room = omega (arith, few (problem s) f, room-length (c .before .no-literals .ensures)) }, problem-arrays (problem s) f, s .pre .0)
+    (record { tall = f .sizes .high .0; wide = f .sizes .high .1; room = omega (arith, few (problem s) f, room-length (c .before .no-literals .ensures)) }, problem-arrays (problem s) f, s .pre .0, s .pre .3)
 
 enum-told : tie.Need-enum-told
 enum-told c = search needs
@@ -75,13 +88,13 @@ returns-2 : tie.Need-returns-2
 returns-2 c =
     let k = c .before .before .before in
     let s = start k in
-    no-reason (problem s) (formed s) (s .args .edition) (s .args .cells .now) (s .pre .1) (holds k) (rw (c .enum-told .given .1) at (k .find-inconsistency .ensures))
+    no-reason (problem s) (formed s) (s .args .edition) (ranges s) (s .args .cells .now) (s .pre .1) (good s) (holds k) (rw (c .enum-told .given .1) at (k .find-inconsistency .ensures))
 
 returns-3 : tie.Need-returns-3
 returns-3 c =
     let k = c .before .before .before in
     let s = start k in
-    some-reason (problem s) (formed s) (s .args .edition) (s .args .cells .now) (s .pre .1) (holds k) (rw (c .enum-told2 .given .1) at (k .find-inconsistency .ensures))
+    some-reason (problem s) (formed s) (s .args .edition) (ranges s) (s .args .cells .now) (s .pre .1) (good s) (holds k) (rw (c .enum-told2 .given .1) at (k .find-inconsistency .ensures))
 
 returns-4 : tie.Need-returns-4
 returns-4 c =

@@ -3,12 +3,14 @@
 use Prim.Native.Nat.{_+_, _*_, _≤_}
 use native.Mathlib.Omega.{arith}
 use mathlib.Core.Path.{_∙_}
-use lib.ListN.{take}
+use mathlib.Core.List.{List}
+use lib.ListN.{length, take}
 use mir.Syntax.{w32}
 use mir.ValLaws.{toZ-pos}
 use Rattle.grid.specs.Side.{sized}
 use Rattle.grid.proofs.SideLaws.{area}
-use Rattle.record.specs.Leaf.{inEdition}
+use Rattle.record.specs.Leaf.{Range, leafWith}
+use Rattle.record.specs.Sizes.{keptRanges}
 use Rattle.kinds.specs.Inside.{puzzleWith}
 use Rattle.literals.specs.Literals.{Found}
 use Rattle.reasons.specs.Reasons.{findReason}
@@ -20,9 +22,14 @@ use borrow.Author.Needs.{needs}
 use Rattle.host_find.proofs.find_on.Statement.{statement}
 use Rattle.host_find.proofs.find_on.Tie as tie
 
+-- the sizes in the slices
+abbrev sizes : tie.Start → List Range
+sizes s = keptRanges (s .args .lowest .now) (s .args .highest .now) (length (s .args .lowest .now))
+
 -- the first reason on the arrays
 abbrev reason : tie.Start → Found
-reason s = findReason (inEdition 1 (puzzleWith (sized (s .args .h) (s .args .w)) (linesOf (s .args .arrows .now) (s .args .ends .now) (s .args .number)))) (take (s .args .h * s .args .w) (s .args .cells .now))
+reason s =
+    findReason (leafWith (s .args .edition) (sizes s) (puzzleWith (sized (s .args .h) (s .args .w)) (linesOf (s .args .arrows .now) (s .args .ends .now) (s .args .number)))) (take (s .args .h * s .args .w) (s .args .cells .now))
 
 -- the cells are few
 cells-few : (s : tie.Start) → s .args .h * s .args .w ≤ 1024
@@ -30,21 +37,21 @@ cells-few s = area (s .args .h) (s .args .w) (s .pre .0) (s .pre .1)
 
 -- the start, seen from where there is a reason
 abbrev start : tie.After-found → tie.Start
-start c = c .before .before .before .before .before .before .before
+start c = c .before .before .before .before .before .before .before .before .before
 
 -- that place, seen from behind the writing of the literals
 abbrev told : tie.After-slice-known2 → tie.After-found
 told c = c .before .before .before .before .before .before
 
 -- the literals found
-literals : (c : tie.After-found) → Literals (reason (start c)) (c .found .given .0 .0) (c .before .before .before .find-inconsistency .last .1 .1 .1 .1 .1 .1 .1 .0)
+literals : (c : tie.After-found) → Literals (reason (start c)) (c .found .given .0 .0) (c .before .before .before .find-inconsistency .last .1 .1 .1 .1 .1 .1 .1 .1 .1 .0)
 literals c = found-literals (reason (start c)) (rw (c .found .given .1) at (c .before .before .before .find-inconsistency .ensures))
 
 -- and they are few
 few : (c : tie.After-found) → c .found .given .0 .0 ≤ 3 * (start c .args .h * start c .args .w) + 1
 few c =
     let s = start c in
-    few-literals (s .args .h) (s .args .w) (take (s .args .h * s .args .w) (s .args .cells .now)) (s .pre .3) (literals c)
+    few-literals (s .args .edition) (sizes s) (s .args .h) (s .args .w) (take (s .args .h * s .args .w) (s .args .cells .now)) (s .pre .3) (literals c)
 
 no-literals-requires : tie.Need-no-literals-requires
 no-literals-requires c κs = search needs
@@ -54,8 +61,8 @@ slice-aggregate-find-inconsistency c = search needs
 
 find-inconsistency-requires : tie.Need-find-inconsistency-requires
 find-inconsistency-requires c κs =
-    let s = c .before .before .before in
-    (record { tall = s .pre .0; wide = s .pre .1; room = omega (arith, cells-few s, room-length (c .before .no-literals .ensures)) }, s .pre .3, λ z. omega arith)
+    let s = c .before .before .before .before .before in
+    (record { tall = s .pre .0; wide = s .pre .1; room = omega (arith, cells-few s, room-length (c .before .no-literals .ensures)) }, s .pre .3, s .pre .4, s .pre .5)
 
 enum-told : tie.Need-enum-told
 enum-told c = search needs
@@ -85,7 +92,7 @@ negated-requires c κs = search needs
 returns : tie.Need-returns
 returns c =
     let k = c .before .before .before in
-    let s = k .before .before .before .before in
+    let s = k .before .before .before .before .before .before in
     none-told (s .args .output .now) (nothing-found (reason s) (rw (c .enum-told .given .1) at (k .find-inconsistency .ensures)) .0)
 
 same-length : tie.Need-same-length
@@ -102,7 +109,7 @@ returns-3 : tie.Need-returns-3
 returns-3 c =
     let f = c .before .before in
     let k = f .before .before .before in
-    absurd (not-refused (reason (k .before .before .before .before)) (rw (f .found2 .given .1) at (k .find-inconsistency .ensures)))
+    absurd (not-refused (reason (k .before .before .before .before .before .before)) (rw (f .found2 .given .1) at (k .find-inconsistency .ensures)))
 
 pub find-on-spec : {M : Type 1} → statement M
 find-on-spec =

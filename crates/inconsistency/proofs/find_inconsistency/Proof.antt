@@ -3,9 +3,11 @@
 use Prim.Native.Nat.{ℕ, _*_}
 use mathlib.Core.Path.{_≡_, _∙_}
 use mathlib.Core.List.{List}
-use lib.ListN.{take, length-replicate}
+use lib.ListN.{length, take, length-replicate}
 use Rattle.grid.specs.Side.{sized}
 use Rattle.record.specs.Record.{Puzzle}
+use Rattle.record.specs.Leaf.{Range}
+use Rattle.record.specs.Sizes.{keptRanges}
 use Rattle.kinds.specs.Inside.{puzzleWith}
 use Rattle.units.specs.Units.{reason1}
 use Rattle.paths.specs.Paths.{reason2}
@@ -29,7 +31,7 @@ abbrev totalled : tie.After-check-potential-groups → tie.After-arrow-total
 totalled c = marked c .before .before
 
 abbrev start : tie.After-check-potential-groups → tie.Start
-start c = totalled c .before .before
+start c = totalled c .before .before .before .before
 
 -- the search for reason 1, seen from where it found nothing
 abbrev searched : tie.After-enum-told → tie.After-check-potential-groups
@@ -51,6 +53,10 @@ searched-2 c = c .before .before .before .before
 abbrev lines : tie.Start → List (List ℕ)
 lines s = linesOf (s .args .arrows .now) (s .args .ends .now) (s .args .number)
 
+-- the sizes that the slices hold
+abbrev ranges : tie.Start → List Range
+ranges s = keptRanges (s .args .lowest .now) (s .args .highest .now) (length (s .args .lowest .now))
+
 -- the puzzle and the cells that the arrays hold
 abbrev puzzle : tie.Start → Puzzle
 puzzle s = puzzleWith (sized (s .args .h) (s .args .w)) (lines s)
@@ -66,8 +72,8 @@ abbrev after-two : tie.After-check-blocks → List ℕ
 after-two c = c .check-blocks .last .1 .1 .1 .1 .1 .1 .1 .1 .0
 
 -- the arrows with the total of their cells, as it was found
-drawn : (c : tie.After-arrow-total) → let s = c .before .before in ArrowArrays (s .args .h * s .args .w) (s .args .arrows .now) (s .args .ends .now) (s .args .number) (c .arrow-total .result)
-drawn c = rw (c .arrow-total .ensures) (c .before .before .pre .1)
+drawn : (c : tie.After-arrow-total) → let s = c .before .before .before .before in ArrowArrays (s .args .h * s .args .w) (s .args .arrows .now) (s .args .ends .now) (s .args .number) (c .arrow-total .result)
+drawn c = rw (c .arrow-total .ensures) (c .before .before .before .before .pre .1)
 
 -- what the search for reason 1 says
 one : (c : tie.After-check-potential-groups) → FoundAs (reason1 (puzzle (start c)) (held (start c))) (start c .args .buffer .now) (after-one c) (c .check-potential-groups .result)
@@ -102,18 +108,18 @@ arrow-total-requires c κs = search needs
 
 mark-arrow-cells-requires : tie.Need-mark-arrow-cells-requires
 mark-arrow-cells-requires c κs =
-    let s = c .before .before .before in
+    let s = c .before .before .before .before .before in
     line-is (s .args .h) (s .args .w) (s .pre .0 .tall) (s .pre .0 .wide) (drawn (c .before))
 
 compute-connected-components-requires : tie.Need-compute-connected-components-requires
 compute-connected-components-requires c κs =
-    let fit = c .before .before .before .before .before .before .before .before .before .pre .0 in
+    let fit = c .before .before .before .before .before .before .before .before .before .before .before .pre .0 in
     (fit .tall, fit .wide, length-replicate {A = ℕ} 1024 0, length-replicate {A = ℕ} 1024 0, length-replicate {A = ℕ} 1024 0)
 
 check-potential-groups-requires : tie.Need-check-potential-groups-requires
 check-potential-groups-requires c κs =
     let t = c .before .before .before .before .before in
-    let s = t .before .before .before .before .before .before .before .before .before .before in
+    let s = t .before .before .before .before .before .before .before .before .before .before .before .before in
     let fit = s .pre .0 in
     (fit, table-few (sized (s .args .h) (s .args .w)) _ (t .compute-connected-components .ensures) (size-most (sized (s .args .h) (s .args .w)) (fit .tall) (fit .wide)))
 
@@ -129,7 +135,7 @@ same-length c = search needs
 returns : tie.Need-returns
 returns c =
     let k = c .before .before .before .before .before in
-    first-found ((start k) .args .edition) (puzzle (start k)) (held (start k)) (one k) (c .before .first .given .1)
+    first-found (start k .args .edition) (ranges (start k)) (puzzle (start k)) (held (start k)) (one k) (c .before .first .given .1)
 
 enum-known-first-2 : tie.Need-enum-known-first-2
 enum-known-first-2 c = search needs
@@ -170,6 +176,7 @@ check-arrows-requires c κs =
       record { drawn = s .pre .1 .drawn; held = record { named = t .groups-are; counted = t .arrowed-are }; counted = t .squares-are },
       s .pre .2,
       record { groups-long = t .firsts-long; rows-long = table-long t (size-most (sized (s .args .h) (s .args .w)) (s .pre .0 .tall) (s .pre .0 .wide)); columns-long = t .arrowed-are .long },
+      s .pre .3,
     )
 
 enum-known-second : tie.Need-enum-known-second
@@ -182,7 +189,7 @@ same-length-3 : tie.Need-same-length-3
 same-length-3 c =
     let k = c .before .before in
     let b = searched-2 (k .before .before .before .before .before .before) in
-    k .check-arrows .kept .1 .1 .1 .1 .1 .1 .1 .1 .1 .1 .1 .0
+    k .check-arrows .kept .1 .1 .1 .1 .1 .1 .1 .1 .1 .1 .1 .1 .1 .0
     ∙ b .check-blocks .kept .1 .1 .1 .1 .1 .1 .1 .1 .0
     ∙ searched (passed (labelled b)) .check-potential-groups .kept .1 .1 .1 .1 .1 .1 .1 .1 .0
 
@@ -193,7 +200,7 @@ returns-3 c =
     let b = searched-2 e in
     let p = passed (labelled b) in
     let s = start (searched p) in
-    rest-found (s .args .edition) (puzzle s) (held s) (one (searched p)) (none p) (two b) (e .enum-told2 .given .1) (k .check-arrows .ensures)
+    rest-found (s .args .edition) (ranges s) (puzzle s) (held s) (one (searched p)) (none p) (two b) (e .enum-told2 .given .1) (k .check-arrows .ensures)
 
 same-length-4 : tie.Need-same-length-4
 same-length-4 c = search needs
@@ -203,7 +210,7 @@ returns-4 c =
     let b = c .before .before .before .before .before in
     let p = passed (labelled b) in
     let s = start (searched p) in
-    second-found (s .args .edition) (puzzle s) (held s) (one (searched p)) (none p) (two b) (c .before .second .given .1)
+    second-found (s .args .edition) (ranges s) (puzzle s) (held s) (one (searched p)) (none p) (two b) (c .before .second .given .1)
 
 same-length-5 : tie.Need-same-length-5
 same-length-5 c = search needs

@@ -11,9 +11,9 @@ use Rattle.grid.specs.Cells.{square}
 use Rattle.growth.specs.Pairs.{Scene}
 use Rattle.shift.specs.Shift.{Work}
 use Rattle.literals.specs.Inside.{FoundAs}
-use Rattle.literals.proofs.Findings.{found-none, nothing-found, not-refused}
+use Rattle.literals.proofs.Findings.{found-same, found-none, nothing-found, not-refused}
 use Rattle.growth.proofs.PairNames.{scene-part}
-use Rattle.pairs.proofs.PairSearch.{found-same, ahead, search-start, search-done, search-more, search-found, search-end}
+use Rattle.pairs.proofs.PairSearch.{ahead, search-start, search-done, search-more, search-found, search-end}
 use borrow.Author.Needs.{needs}
 use Rattle.pairs.proofs.search_arrow.Statement.{statement}
 use Rattle.pairs.proofs.search_arrow.Tie as tie

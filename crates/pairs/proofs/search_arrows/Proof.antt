@@ -12,8 +12,8 @@ use Rattle.growth.specs.Pairs.{reasonAt, viewOn, Scene}
 use Rattle.shift.specs.Shift.{Work}
 use Rattle.literals.specs.Literals.{Found, firstOf}
 use Rattle.literals.specs.Inside.{FoundAs}
-use Rattle.literals.proofs.Findings.{found-none, nothing-found, not-refused}
-use Rattle.pairs.proofs.PairSearch.{found-same, linesFrom, restOf, rest-end, rest-more, rest-found, sub-more, next-scene, next-line}
+use Rattle.literals.proofs.Findings.{found-same, found-none, nothing-found, not-refused}
+use Rattle.pairs.proofs.PairSearch.{linesFrom, restOf, rest-end, rest-more, rest-found, sub-more, next-scene, next-line}
 use borrow.Author.Needs.{needs}
 use Rattle.pairs.proofs.search_arrows.Statement.{statement}
 use Rattle.pairs.proofs.search_arrows.Tie as tie

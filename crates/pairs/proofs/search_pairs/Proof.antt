@@ -76,7 +76,10 @@ returns c =
     let none = passed (c .before .before .before) in
     let found = searched (none .before .before) in
     let s = start (found .before) in
-    found-next (third s) (fourth s) (subst (FoundAs _ _ _) (none .enum-told .given .1) (found .search-arrows .ensures .0)) (fourth-found (s .args .edition) (board s) (flatMap (pairs (board s .cells)) (board s .arrows)) (s .pre .0) (c .before .before .search-arrows2 .ensures .0))
+    let last = c .before .before .search-arrows2 .ensures in (
+      found-next (third s) (fourth s) (subst (FoundAs _ _ _) (none .enum-told .given .1) (found .search-arrows .ensures .0)) (fourth-found (s .args .edition) (board s) (flatMap (pairs (board s .cells)) (board s .arrows)) (s .pre .0) (last .0)),
+      last .1,
+    )
 
 same-length-2 : tie.Need-same-length-2
 same-length-2 c = search needs
@@ -86,13 +89,15 @@ unfolding reason34 reasonAt view viewWith
 returns-2 c =
     let found = searched (c .before .before .before) in
     let s = start (found .before) in
-    found-first (third s) (fourth s) (subst (FoundAs _ _ _) (c .before .finding .given .1) (found .search-arrows .ensures .0))
+    (found-first (third s) (fourth s) (subst (FoundAs _ _ _) (c .before .finding .given .1) (found .search-arrows .ensures .0)), found .search-arrows .ensures .1)
 
 same-length-3 : tie.Need-same-length-3
 same-length-3 c = search needs
 
 returns-3 : tie.Need-returns-3
-returns-3 c = absurd (not-refused _ (subst (FoundAs _ _ _) (c .before .finding2 .given .1) (searched (c .before .before .before) .search-arrows .ensures .0)))
+returns-3 c =
+    let found = searched (c .before .before .before) in
+    (absurd (not-refused _ (subst (FoundAs _ _ _) (c .before .finding2 .given .1) (found .search-arrows .ensures .0))), found .search-arrows .ensures .1)
 
 pub search-pairs-spec : {M : Type 1} → statement M
 search-pairs-spec =

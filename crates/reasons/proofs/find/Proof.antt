@@ -7,7 +7,7 @@ use mathlib.Core.Bool.{true}
 use borrow.Author.Tests.{not-true, not-false}
 use Rattle.grid.proofs.SideLaws.{area}
 use Rattle.board.specs.Form.{wellFormed}
-use Rattle.reasons.proofs.BoardArrays.{board-sizes, board-arrays, board-edition, find-ill, find-stranger, find-short, find-found}
+use Rattle.reasons.proofs.BoardArrays.{board-sizes, board-arrays, board-edition, Lent, lent-by, lent-few, board-lent, find-ill, find-stranger, find-short, find-found}
 use borrow.Author.Needs.{needs}
 use Rattle.reasons.proofs.find.Statement.{statement}
 use Rattle.reasons.proofs.find.Tie as tie
@@ -49,17 +49,53 @@ returns-3 c =
     let s = c .before .before .before .before .before in
     find-short (s .args .t1) (s .args .player) (s .args .buffer .now) (formed (c .before .before)) (c .before .if2 .left) (c .if3 .taken)
 
--- where board, player and buffer have passed their tests, seen from before the search
-abbrev tested : tie.After-find-inconsistency-arg4 → tie.Else3
-tested c = c .before .before .before .before .before
+mul-lent-sizes : tie.Need-mul-lent-sizes
+mul-lent-sizes c = omega (arith, cells-few (c .before .before .before .before))
+
+lent-sizes-requires : tie.Need-lent-sizes-requires
+lent-sizes-requires c κs = search needs
+
+-- where board, player and buffer have passed their tests, seen from where the cells that are lent are counted
+abbrev tested : tie.After-lent-sizes → tie.Else3
+tested c = c .before .before .before
+
+-- where they are counted, seen from behind the first sizes that are lent
+abbrev counted : tie.After-first-sizes → tie.After-lent-sizes
+counted c = c .before .before .before .before
+
+first-sizes-requires : tie.Need-first-sizes-requires
+first-sizes-requires c κs =
+    let k = c .before .before .before in
+    let e = tested k in
+    lent-few (e .before .before .before .before .before .args .t1) (formed (e .before .before)) (k .lent-sizes .ensures) .0
+
+first-sizes-requires-2 : tie.Need-first-sizes-requires-2
+first-sizes-requires-2 c κs =
+    let k = counted (c .before .before) in
+    let e = tested k in
+    lent-few (e .before .before .before .before .before .args .t1) (formed (e .before .before)) (k .lent-sizes .ensures) .1
+
+-- the sizes are lent, seen from before the search
+lent : (c : tie.After-find-inconsistency-arg4)
+    → let h = c .before .before .before .before in
+    let l = h .before .before .before in
+    Lent (tested (counted l) .before .before .before .before .before .args .t1) (l .first-sizes .result .now) (h .first-sizes2 .result .now)
+lent c =
+    let h = c .before .before .before .before in
+    let l = h .before .before .before in
+    lent-by (tested (counted l) .before .before .before .before .before .args .t1) (counted l .lent-sizes .ensures) (l .first-sizes .ensures) (h .first-sizes2 .ensures)
+
+-- where board, player and buffer have passed their tests, seen from there
+abbrev ready : tie.After-find-inconsistency-arg4 → tie.Else3
+ready c = tested (counted (c .before .before .before .before .before .before .before))
 
 find-inconsistency-requires : tie.Need-find-inconsistency-requires
 find-inconsistency-requires c κs =
-    let e = tested c in
+    let e = ready c in
     let s = e .before .before .before .before .before in
     let h = formed (e .before .before) in
     let z = board-sizes (s .args .t1) h in
-    (record { tall = z .0; wide = z .1; room = e .if3 .left }, board-arrays (s .args .t1) h, board-edition (s .args .t1) h)
+    (record { tall = z .0; wide = z .1; room = e .if3 .left }, board-arrays (s .args .t1) h, board-edition (s .args .t1) h, board-lent (s .args .t1) h (lent c))
 
 -- the search, seen from where the find is to be counted
 abbrev searched : tie.After-slice-known2 → tie.After-find-inconsistency
@@ -69,13 +105,13 @@ same-length : tie.Need-same-length
 same-length c = search needs
 
 hinted-requires : tie.Need-hinted-requires
-hinted-requires c κs = tested (searched c .before) .before .if2 .left
+hinted-requires c κs = ready (searched c .before) .before .if2 .left
 
 returns-4 : tie.Need-returns-4
 returns-4 c =
-    let e = tested (searched (c .before) .before) in
+    let e = ready (searched (c .before) .before) in
     let s = e .before .before .before .before .before in
-    rw (c .hinted .ensures) (find-found (s .args .t1) (s .args .player) (s .args .buffer .now) (formed (e .before .before)) (e .before .if2 .left) (e .if3 .left) (searched (c .before) .find-inconsistency .ensures))
+    rw (c .hinted .ensures) (find-found (s .args .t1) (s .args .player) (s .args .buffer .now) (formed (e .before .before)) (e .before .if2 .left) (e .if3 .left) (lent (searched (c .before) .before)) (searched (c .before) .find-inconsistency .ensures))
 
 pub find-spec : {M : Type 1} → statement M
 find-spec =
@@ -88,6 +124,10 @@ find-spec =
     mul-if3-2
     add-if3
     returns-3
+    mul-lent-sizes
+    lent-sizes-requires
+    first-sizes-requires
+    first-sizes-requires-2
     find-inconsistency-requires
     hinted-requires
     same-length

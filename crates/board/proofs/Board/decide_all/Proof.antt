@@ -20,7 +20,7 @@ well-formed-requires c κs = search needs
 
 -- the places passed: the test of the board and the start, seen from the call of `place_all`
 abbrev tested : tie.After-struct-known → tie.Else1
-tested c = c .before .before .before .before .before .before .before
+tested c = c .before .before .before .before .before .before .before .before .before
 
 abbrev entry : tie.After-struct-known → tie.Start
 entry c = tested c .before .before .before

@@ -83,21 +83,29 @@ words-differ-requires-2 : tie.Need-words-differ-requires-2
 words-differ-requires-2 c κs = search needs
 
 returns-5 : tie.Need-returns-5
-returns-5 c =
-    let u = c .before .before .before .before .before in
+returns-5 c = fails (λ e. c .before .words-differ2 .ensures .1 (c .if6 .taken) (ap (λ (b : Board). b .order) e))
+
+sizes-differ-requires : tie.Need-sizes-differ-requires
+sizes-differ-requires c κs = search needs
+
+returns-6 : tie.Need-returns-6
+returns-6 c =
+    let v = c .before .before .before .before .before .before .before .before .before in
+    let u = v .before .before .before .before .before .before in
     let w = u .before in
     let n = numbers (cells w) in
     let s = start n in
-    let orders = c .words-differ2 .ensures in (
+    let sizes = c .sizes-differ .ensures in (
       λ f. board-same
           {x = s .args .x} {y = s .args .y}
           (n .before .before .before .before .problems-differ .ensures .0 (n .before .before .before .if2 .left))
           (n .before .before .before .before .before .before .before .if1 .left)
           (told-cells (cells w) .0 (w .before .before .before .before .before .if4 .left))
-          (orders .0 f)
+          (v .before .words-differ2 .ensures .0 (v .if6 .left))
           (eqb-true _ _ (not-false _ (n .if3 .left)))
-          (w .words-differ .ensures .0 (u .if5 .left)),
-      λ t e. orders .1 t (ap (λ (b : Board). b .order) e),
+          (w .words-differ .ensures .0 (u .if5 .left))
+          (sizes .0 f),
+      λ t e. sizes .1 t (ap (λ (b : Board). b .lowest) e, ap (λ (b : Board). b .highest) e),
     )
 
 pub boards-differ-spec : {M : Type 1} → statement M
@@ -117,4 +125,6 @@ boards-differ-spec =
     slice-aggregate-words-differ-3
     slice-aggregate-words-differ-4
     words-differ-requires-2
-    returns-5)
+    returns-5
+    sizes-differ-requires
+    returns-6)

@@ -11,7 +11,7 @@ abbrev Inv-loop : tie.InvT-loop
 Inv-loop b count₀ k₀ count k = count ≤ k
 
 abbrev μ-loop : tie.MeasureT-loop
-μ-loop b count₀ k₀ count k = 35 - k
+μ-loop b count₀ k₀ count k = 41 - k
 
 loop-holds : tie.Need-loop-holds Inv-loop μ-loop
 loop-holds c = search needs

@@ -1,11 +1,13 @@
--- `file::edition_of` meets its contract.
+-- `call::edition_of` meets its contract.
 -- Assumes nothing.
 use mathlib.Core.Path.{refl}
+use mathlib.Core.Bool.{cond, _||_}
+use lib.Dec.{eqb}
 use Rattle.record.specs.Leaf.{isEdition}
-use Rattle.file.specs.Inside.{editionOf}
-use Rattle.file.proofs.AnswerLaws.{edition-other}
-use Rattle.file.proofs.edition_of.Statement.{statement}
-use Rattle.file.proofs.edition_of.Tie as tie
+use Rattle.call.specs.Inside.{editionOf}
+use Rattle.call.proofs.EditionLaws.{edition-other}
+use Rattle.call.proofs.edition_of.Statement.{statement}
+use Rattle.call.proofs.edition_of.Tie as tie
 
 returns : tie.Need-returns
 unfolding editionOf isEdition

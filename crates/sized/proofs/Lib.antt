@@ -1,0 +1,2 @@
+pub mod SizeLaws
+pub mod KeptLaws

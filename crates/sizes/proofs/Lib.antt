@@ -1,0 +1,4 @@
+pub mod KeptLaws
+pub mod FormLaws
+pub mod DrawnLaws
+pub mod ReadLaws

@@ -1,0 +1,4 @@
+pub mod Kept
+pub mod Form
+pub mod Bytes
+pub mod Inside
