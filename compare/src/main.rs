@@ -59,7 +59,7 @@ compare program PATH [--seed N] [--count N]
 compare bench|steps [--seed N] [--count ROUNDS]
 compare host [--seed N] [--count N]
 compare constraint [--seed N] [--count N]
-compare fuzz|finished|clauses|shades|turn|certain|join|file|sizes [--seed N] [--count N]
+compare fuzz|finished|clauses|shades|turn|certain|join|file|sizes|verdict [--seed N] [--count N]
 compare reason < INPUT
 compare original";
 
@@ -98,6 +98,7 @@ fn run(options: &Options) -> Outcome {
         "join" => commands::join::run(seed, count(10_000)),
         "file" => commands::file::run(seed, count(10_000)),
         "sizes" => commands::sizes::run(seed, count(2_000)),
+        "verdict" => commands::verdict::run(seed, count(100_000)),
         "finds" | "calls" | "groups" | "lists" | "bench" | "host" | "constraint" | "original"
             if !original::AT_HAND =>
         {

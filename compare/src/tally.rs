@@ -3,8 +3,6 @@
 use crate::reading::grid::Size;
 use crate::reading::reasons::{Reason, Which};
 
-const NAMES: [&str; Tally::WITH_SIZES] = ["none", "1", "2", "3", "4(a)", "4(b)", "5 low", "5 high"];
-
 /// Grids by their number of cells: up to each of these.
 const CELLS: [usize; 5] = [4, 16, 64, 256, 1_024];
 
@@ -19,6 +17,9 @@ impl Tally {
 
     /// Behind them 5 for a reach below the lowest size, and 5 for a block above the highest.
     pub const WITH_SIZES: usize = Tally::COLUMNS + 2;
+
+    pub const NAMES: [&'static str; Tally::WITH_SIZES] =
+        ["none", "1", "2", "3", "4(a)", "4(b)", "5 low", "5 high"];
 
     pub fn add(&mut self, size: Size, reason: Option<&Reason>) {
         let row = CELLS.iter().position(|&most| size.cells() <= most);
@@ -56,13 +57,14 @@ impl Tally {
     /// "1200 none, 300 of reason 1, ..."
     pub fn line(&self) -> String {
         let sums = self.sums();
-        let reasons = (1..self.columns()).map(|c| format!(", {} of reason {}", sums[c], NAMES[c]));
+        let reasons =
+            (1..self.columns()).map(|c| format!(", {} of reason {}", sums[c], Tally::NAMES[c]));
         format!("{} none{}", sums[0], reasons.collect::<String>())
     }
 
     pub fn print(&self) {
         print!("{:>14}", "cells up to");
-        for name in &NAMES[..self.columns()] {
+        for name in &Tally::NAMES[..self.columns()] {
             print!("{name:>9}");
         }
         println!();

@@ -28,3 +28,4 @@ pub mod small;
 pub mod steps;
 pub mod turn;
 mod turnings;
+pub mod verdict;

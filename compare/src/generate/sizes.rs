@@ -30,6 +30,14 @@ pub fn as_read(ranges: &[[u16; 3]]) -> Vec<Range> {
     ranges.iter().map(range).collect()
 }
 
+/// The list of the ranges that the reading has.
+pub fn as_written(ranges: &[Range]) -> Ranges {
+    let three = |range: &Range| [range.cell, range.lowest, range.highest];
+    let list = ranges.iter().map(three);
+    list.map(|three| three.map(|number| number as u16))
+        .collect()
+}
+
 /// A good list for a board: some arrow cells, with ranges of which some fit the blocks that stand
 /// there and some don't.
 pub fn any_sizes(random: &mut Random, board: &Decided) -> Ranges {
@@ -283,6 +291,7 @@ mod tests {
             };
             let good = any_sizes(&mut random, &board);
             assert_eq!(read(&size_bytes(&good)), Ok(as_read(&good)));
+            assert_eq!(as_written(&as_read(&good)), good);
             for (place, damage) in Damage::ALL.into_iter().enumerate() {
                 if let Some(bytes) = damage.done_to(&mut random, &board.puzzle, &good) {
                     assert_eq!(read(&bytes), Err(Refusal::Sizes), "{damage:?}: {bytes:?}");

@@ -8,8 +8,9 @@ use super::groups::{block_rules_hold, blocks, potential_groups, Groups};
 use super::host::{finished_call, found_with, host_call, judged_with, literal_bytes};
 use super::leaf::{Leaf, Opening};
 use super::program::reason;
-use super::reasons::{find, find_reason};
+use super::reasons::{find, find_reason, Which};
 use super::record::{decode, encode, plain, Code};
+use super::turn::{turned, turned_decisions, turned_sizes, TURNINGS};
 use super::{Edition, Literal, Refusal};
 
 const S: [u8; 7] = [0x00, 0x80, 0x08, 0x00, 0x00, 0x05, 0xE0];
@@ -417,6 +418,37 @@ fn which_size_comes_first() {
     });
     let too_large = Some(vec![(3, 1), (4, 1), (5, 1), (0, 1), (1, 0)]);
     assert_eq!(found, [too_large, low]);
+}
+
+/// Document 02 §13: turned, the leaf has a reason too, and in four turnings another one, since the other sized
+/// cell comes first.
+#[test]
+fn sizes_whichever_way_up() {
+    let row = encode(&plain(1, 6, vec![vec![0, 1, 2, 3]]));
+    let full = filling(&[1, 0, 0, 1, 1, 0]);
+    let low = (Which::FiveLow, vec![(0, 1), (1, 0)]);
+    let high = (Which::FiveHigh, vec![(3, 1), (4, 1)]);
+    for leaf in sized(&row, &[0, 2, 9, 3, 1, 1]) {
+        let size = leaf.puzzle.size;
+        for k in TURNINGS {
+            let image = Leaf {
+                puzzle: turned(k, &leaf.puzzle),
+                edition: leaf.edition,
+                sizes: turned_sizes(k, size, &leaf.sizes),
+            };
+            let cells = Board::of_leaf(&image, &turned_decisions(k, size, &full)).cells();
+            let found = find_reason(&image, &cells).unwrap();
+            let (which, literals) = match k {
+                0 | 1 | 6 | 7 => &low,
+                _ => &high,
+            };
+            let mut literals = turned_decisions(k, size, literals);
+            if *which == Which::FiveHigh {
+                literals.sort();
+            }
+            assert_eq!((found.which, found.literals), (*which, literals));
+        }
+    }
 }
 
 /// 1 to 5, 16, 22, and then the refusals of the calls without sizes.

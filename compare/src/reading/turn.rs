@@ -1,7 +1,8 @@
-//! Document 02 §5: leaves turned for the page.
+//! Document 02 §5: leaves turned for the page; and §13: what is turned with them.
 
 use super::grid::Size;
 use super::record::{decode, encode, Puzzle};
+use super::sizes::Range;
 use super::{Literal, Refusal};
 
 /// Turning k, 0 to 7.
@@ -64,6 +65,17 @@ pub fn turned_decisions(k: u32, size: Size, decisions: &[Literal]) -> Vec<Litera
         .iter()
         .map(|&(cell, value)| (turned_cell(k, size, cell), value))
         .collect()
+}
+
+/// The turned image of sizes: each at its turned cell, and listed by rising cell again.
+pub fn turned_sizes(k: u32, size: Size, sizes: &[Range]) -> Vec<Range> {
+    let to = |range: &Range| Range {
+        cell: turned_cell(k, size, range.cell),
+        ..*range
+    };
+    let mut turned: Vec<Range> = sizes.iter().map(to).collect();
+    turned.sort_by_key(|range| range.cell);
+    turned
 }
 
 /// The one of the eight that brings every cell home again.
@@ -183,5 +195,27 @@ mod tests {
         };
         let decisions = turned_decisions(1, size, &[(0, 1), (5, 0)]);
         assert_eq!(decisions, [(1, 1), (4, 0)]);
+    }
+
+    /// The range beside each letter of a page has a lowest and a highest size of its own.
+    #[test]
+    fn sizes_rise_again() {
+        let sized = |page: &str| -> Vec<Range> {
+            let letters = page.replace('/', "");
+            let range = |(cell, letter)| {
+                let lowest = "bdcf".find(letter)? + 1;
+                Some(Range {
+                    cell,
+                    lowest,
+                    highest: 10 - lowest,
+                })
+            };
+            letters.chars().enumerate().filter_map(range).collect()
+        };
+        let upright = leaf(PAGES[0]);
+        for (k, page) in TURNINGS.zip(PAGES) {
+            let turned = turned_sizes(k, upright.size, &sized(PAGES[0]));
+            assert_eq!(turned, sized(page), "turning {k}");
+        }
     }
 }

@@ -1,3 +1,4 @@
 pub mod EmbedLaws
 pub mod ByPlace
 pub mod ArrowLaws
+pub mod InverseLaws

@@ -265,6 +265,35 @@ unfolding tail
 getD-tail [] k = refl
 getD-tail (x ∷ xs) k = refl
 
+-- members and maps without the last, and without the first
+pub init-mem : {A : Type 0} (l : List A) {x : A} → List·Memᴰ x (init l) → List·Memᴰ x l
+unfolding init
+init-mem (y ∷ z ∷ l) (List·Memᴰ·head e) = List·Memᴰ·head e
+init-mem (y ∷ z ∷ l) (List·Memᴰ·tail m) = List·Memᴰ·tail (init-mem (z ∷ l) m)
+
+pub tail-mem : {A : Type 0} (l : List A) {x : A} → List·Memᴰ x (tail l) → List·Memᴰ x l
+unfolding tail
+tail-mem (y ∷ l) m = List·Memᴰ·tail m
+
+pub init-map : {A B : Type 0} (f : A → B) (l : List A) → init (map f l) ≡ map f (init l)
+unfolding init
+init-map f [] = refl
+init-map f (x ∷ []) = refl
+init-map {B} f (x ∷ y ∷ l) = ap (λ (w : List B). f x ∷ w) (init-map f (y ∷ l))
+
+pub tail-map : {A B : Type 0} (f : A → B) (l : List A) → tail (map f l) ≡ map f (tail l)
+unfolding tail
+tail-map f [] = refl
+tail-map f (x ∷ l) = refl
+
+-- a map there and one back
+pub map-home : {A B : Type 0} (f : A → B) (h : B → A) (l : List A) → ((x : A) → List·Memᴰ x l → h (f x) ≡ x) → map h (map f l) ≡ l
+map-home f h [] e = refl
+map-home f h (x ∷ l) e =
+    let a = e x (List·Memᴰ·head refl) in
+    let b = map-home f h l (λ y m. e y (List·Memᴰ·tail m)) in
+    cc
+
 -- a map over the numbers below n, by positions
 getD-map-range : {A : Type 0} (f : ℕ → A) (a k i : ℕ) (d : A) → i < k → getD (map f (range a k)) i d ≡ f (a + i)
 unfolding range

@@ -3,7 +3,7 @@
 use mathlib.Core.Bool.{So, Bool, true, false, cond, _&&_}
 use Prim.Native.Nat.{ℕ, suc, _+_, _≤_, _<_}
 use native.Mathlib.Omega.{arith}
-use mathlib.Core.Path.{_≡_, refl, sym}
+use mathlib.Core.Path.{_≡_, refl, sym, subst}
 use mathlib.Core.List.{List, _∷_, _++_, List·Memᴰ}
 use lib.Dec.{eqb, leb, ltb}
 use lib.ListN.{length, getD}
@@ -101,7 +101,8 @@ module _ (p : Puzzle) (cells : List ℕ) (n : length cells ≡ size (p .grid)) w
       (only-one (filter (onArrow arrows) (blockOf i)) (distinct-filter (onArrow arrows) (blockOf i) (group-distinct g (square cells) lab (getD lab i 0))) (c .cell) (mem-filter (onArrow arrows) (blockOf i) (block-in i (c .cell) h (c .within)) (so-arrow arrows (c .cell) (c .arrow)))
       (λ y m. let k = filter-mem (onArrow arrows) (blockOf i) m in c .unique y (in-block i y h (k .0)) (arrow-so arrows y (k .1))))
 
-  next-pair : (e : Pair) → List·Memᴰ e (flatMap (pairs cells) arrows) → Next p cells (e .last) (e .cur)
+  -- a listed pair is two squares of an arrow with none between
+  abbrev pub next-pair : (e : Pair) → List·Memᴰ e (flatMap (pairs cells) arrows) → Next p cells (e .last) (e .cur)
   next-pair e m =
       let r = flatMap-mem (pairs cells) arrows m in
       let q = pairs-parted cells (r .0) e (r .2) in
@@ -109,13 +110,14 @@ module _ (p : Puzzle) (cells : List ℕ) (n : length cells ≡ size (p .grid)) w
         before = q .before;
         between = e .between;
         behind = q .behind;
-        arrow = rw (← q .whole) (r .1);
+        arrow = subst (λ a. List·Memᴰ a arrows) (q .whole) (r .1);
         first = q .first;
         second = q .second;
         none = q .none;
       }
 
-  pair-next : (i j : ℕ) (c : Next p cells i j) → List·Memᴰ (record { last = i; between = c .between; cur = j }) (flatMap (pairs cells) arrows)
+  -- and such two are listed
+  pub pair-next : (i j : ℕ) (c : Next p cells i j) → List·Memᴰ (record { last = i; between = c .between; cur = j }) (flatMap (pairs cells) arrows)
   pair-next i j c =
       mem-flatMap (pairs cells) arrows (c .arrow)
       (parted-pairs cells (c .before ++ (i ∷ (c .between ++ (j ∷ c .behind)))) (record { last = i; between = c .between; cur = j })

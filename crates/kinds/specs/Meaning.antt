@@ -26,15 +26,19 @@ pub record Setting : Type 0 where
   pub cells : List ℕ
   pub valid : ValidCells (puzzle .grid) cells
 
+-- the partial board of a puzzle and cells
+abbrev pub partialIn : Puzzle → List ℕ → PartialBoard
+partialIn p cells = record {
+  Adj = Adjacent (p .grid);
+  Arrow = OnArrow (p .arrows);
+  Empty = λ c. So (empty cells c);
+  Square = λ c. So (square cells c);
+  Undecided = λ c. So (undecided cells c);
+}
+
 -- the partial board of these
 abbrev pub partialOf : Setting → PartialBoard
-partialOf set = record {
-  Adj = Adjacent (set .puzzle .grid);
-  Arrow = OnArrow (set .puzzle .arrows);
-  Empty = λ c. So (empty (set .cells) c);
-  Square = λ c. So (square (set .cells) c);
-  Undecided = λ c. So (undecided (set .cells) c);
-}
+partialOf set = partialIn (set .puzzle) (set .cells)
 
 module _ (B : PartialBoard) where
   open PartialBoard B using (Adj, Arrow, Empty, Square, Undecided)

@@ -7,6 +7,7 @@ pub mod Sound1
 pub mod BreadthFirstLaws
 pub mod Chosen
 pub mod Sound2
+pub mod Quiet12
 pub mod Sound34
 pub mod Sound5
 pub mod Stands

@@ -1,49 +1,45 @@
 -- Every reason is sound, and on a full board none is given exactly when the block rules hold.
 -- Assumes nothing.
 use Prim.Native.Nat.{ℕ, _+_, _≤_, _<_}
-use mathlib.Core.Logic.{_↔_, _≢_}
-use mathlib.Core.Path.{_≡_, refl, sym, _∙_}
-use mathlib.Core.Bool.{false, So, _&&_, not}
-use mathlib.Core.List.{List, [], _∷_, List·Memᴰ, List·Memᴰ·not-nil, List·Memᴰ·eq-of-singleton}
+use mathlib.Core.Logic.{_↔_}
+use mathlib.Core.Path.{_≡_, refl}
+use mathlib.Core.Bool.{false, So}
+use mathlib.Core.List.{List}
 use mathlib.Core.Option.{none, some}
 use native.Mathlib.Omega.{arith}
 use native.Mathlib.Decide.{decLt}
 use lib.Dec.{ltb}
-use lib.ListN.{length, getD}
+use lib.ListN.{length}
 use borrow.Author.Tests.{lt-ltb}
-use Rattle.grid.specs.Lists.{filter, any, flatMap, last, init, tail}
-use Rattle.grid.proofs.ListLaws.{mem-filter, true-and, so-not, any-mem, mem-any, mem-flatMap}
-use Rattle.grid.specs.Grid.{Grid, size, Adjacent}
-use Rattle.grid.specs.Link.{Linked, here}
-use Rattle.grid.proofs.LinkLaws.{linked-end, linked-map, linked-start}
+use Rattle.grid.specs.Lists.{flatMap, last, init, tail}
+use Rattle.grid.proofs.ListLaws.{mem-flatMap}
+use Rattle.grid.specs.Grid.{Grid, size}
 use Rattle.grid.specs.Count.{count}
-use Rattle.grid.specs.Cells.{Literal, empty, square, undecided, potential, Agrees}
-use Rattle.grid.proofs.CellLaws.{square-not-empty}
-use Rattle.groups.proofs.GroupLaws.{mem-group, own-names, group-linked, linked-group}
-use Rattle.groups.specs.Groups.{labels, group, names}
-use Rattle.groups.specs.Arrows.{OnArrow, onArrow, pairs, Pair}
+use Rattle.grid.specs.Cells.{Literal, square, undecided, Agrees}
+use Rattle.groups.specs.Arrows.{pairs, Pair}
 use Rattle.record.specs.Leaf.{Range, leafWith}
 use Rattle.record.specs.Sizes.{GoodSizes}
 use Rattle.groups.specs.Rules.{Shift, BlockRules, Contains}
-use Rattle.groups.proofs.ArrowLaws.{arrow-so, so-arrow, dec-arrow, NextAt, position-pair}
+use Rattle.groups.proofs.ArrowLaws.{dec-arrow, NextAt, position-pair}
 use Rattle.kinds.proofs.Bridge.{decisions, dec-reach, sq<, blockName}
 use Rattle.kinds.specs.Kinds.{View, view, viewWith, block, reach}
 use Rattle.kinds.specs.Meaning.{PartialBoard, Block, Reach, Setting, partialOf}
 use Rattle.kinds.proofs.Fence.{length-reach, length-block}
 use Rattle.literals.specs.Literals.{Found, firstOf}
-use Rattle.units.specs.Units.{reason1At, reason1}
-use Rattle.paths.specs.Paths.{reason2At, reason2}
+use Rattle.units.specs.Units.{reason1}
+use Rattle.paths.specs.Paths.{reason2}
 use Rattle.growth.specs.Growth.{mostApart, reason3At, reason4At, reason34}
 use Rattle.growth.proofs.Gap.{most-full}
 use Rattle.sized.specs.Sized.{reason5}
 use Rattle.reasons.specs.Reasons.{findReason}
-use Rattle.reasons.proofs.First.{or-else-some, reason-if-none, first-none, or-else-none}
+use Rattle.reasons.proofs.First.{or-else-some, first-none, or-else-none}
 use Rattle.reasons.proofs.Plain.{on-line, lineAt, lineLen, Which, RulesAt, SizesAt, plain-rules, rules-plain}
-use Rattle.reasons.proofs.Sound1.{so-filled, potential<, filled-so, reason1-sound}
-use Rattle.reasons.proofs.Sound2.{blockOf, reason2-sound}
+use Rattle.reasons.proofs.Sound1.{reason1-sound}
+use Rattle.reasons.proofs.Sound2.{reason2-sound}
 use Rattle.reasons.proofs.Sound34.{tooMany, three-none, tooFew, Spot, A, four-none, reason34-sound}
 use Rattle.reasons.proofs.Sound5.{none-5, reason5-sound}
 use Rattle.reasons.proofs.Stands.{find-stands}
+use Rattle.reasons.proofs.Quiet12.{quiet-1, quiet-2}
 use Rattle.reasons.proofs.Quiet.{Quiet, full-reach, quiet-rules}
 
 -- a test that does not pass
@@ -87,38 +83,6 @@ module _ (e : ℕ) (sizes : List Range) (set : Setting) (good : GoodSizes (set .
 
   -- where no reason is given none applies
   module _ (full : (c : ℕ) → ¬ So (undecided cells c)) where
-    quiet-1 : reason1 puzzle cells ≡ none → (s : ℕ) → So (square cells s) → ¬ ((c : ℕ) → Linked (Adjacent grid) (λ k. ¬ So (empty cells k)) s c → ¬ OnArrow arrows c)
-    unfolding reason1 reason1At
-    quiet-1 e s sq none-there =
-        let fs : So (potential cells s) = filled-so set s (square-not-empty cells s sq) in
-        let s< = potential< set s fs in
-        let c : List ℕ = group grid (potential cells) l (getD l s 0) in
-        let k = first-none (λ f. reason1At puzzle cells (group grid (potential cells) l f)) (names grid (potential cells) l) e (own-names grid (potential cells) s s< fs) in
-        reason-if-none (any (square cells) c && not (any (onArrow arrows) c)) _ k
-        (true-and (mem-any (square cells) c (mem-group grid (potential cells) l (getD l s 0) s s< fs refl) sq)
-        (so-not (any (onArrow arrows) c) (λ a.
-        let w = any-mem (onArrow arrows) c a in
-        none-there (w .0) (linked-map (λ x q. so-filled set x (linked-end q)) (group-linked grid (potential cells) s (w .0) s< fs (w .1))) (arrow-so arrows (w .0) (w .2)))))
-      where
-        l : List ℕ
-        l = labels grid (potential cells)
-
-    two-none : (a b : ℕ) (l : List ℕ) → List·Memᴰ a l → List·Memᴰ b l → a ≢ b → reason2At grid cells l ≡ none → ⊥
-    unfolding reason2At
-    two-none a b [] ma mb ne e = List·Memᴰ·not-nil ma
-    two-none a b (x ∷ []) ma mb ne e = ne (List·Memᴰ·eq-of-singleton ma ∙ sym (List·Memᴰ·eq-of-singleton mb))
-    two-none a b (x ∷ y ∷ l) ma mb ne e = let z : _≡_ {A = ℕ} 0 1 = cc in omega arith
-
-    quiet-2 : reason2 puzzle cells ≡ none → (a b : ℕ) → OnArrow arrows a → OnArrow arrows b → a ≢ b → ¬ Block B a b
-    unfolding reason2
-    quiet-2 e a b aa ab ne l =
-        let a< = sq< set a (linked-start l) in
-        let c : List ℕ = blockOf set (blockName set a) in
-        let k = first-none (λ f. reason2At grid cells (filter (onArrow arrows) (blockOf set f))) (names grid (square cells) (labels grid (square cells))) e (own-names grid (square cells) a a< (linked-start l)) in
-        two-none a b (filter (onArrow arrows) c)
-        (mem-filter (onArrow arrows) c (linked-group grid (square cells) a a a< (here (linked-start l))) (so-arrow arrows a aa))
-        (mem-filter (onArrow arrows) c (linked-group grid (square cells) a b a< l) (so-arrow arrows b ab)) ne k
-
     -- a pair of positions, and what the two tests say of it
     module _ (h34 : reason34 e v ≡ none) (t : Which arrows) (i j : ℕ) (jl : j < lineLen arrows t) (pr : NextAt (λ c. So (square cells c)) (lineAt arrows t) i j) where
       both : (b : List ℕ) × (reason3At v (record { last = lineAt arrows t i; between = b; cur = lineAt arrows t j }) ≡ none) × (reason4At v (record { last = lineAt arrows t i; between = b; cur = lineAt arrows t j }) e ≡ none)
@@ -185,8 +149,8 @@ module _ (e : ℕ) (sizes : List Range) (set : Setting) (good : GoodSizes (set .
 
     quiet : NoReason → Q
     quiet n = record {
-      q1 = quiet-1 (n .first);
-      q2 = quiet-2 (n .second);
+      q1 = quiet-1 set (n .first);
+      q2 = quiet-2 set (n .second);
       q3 = λ t i j jl pr. quiet-3 (n .third) t i j jl pr;
       q4a = λ t i j jl pr. quiet-4a (n .third) t i j jl pr;
       q4b = λ h t i j jl pr. quiet-4b (n .third) t i j jl pr h;

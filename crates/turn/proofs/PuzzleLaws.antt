@@ -2,13 +2,13 @@
 -- Assumes nothing.
 use Prim.Native.Nat.{ℕ, _≤_, _<_}
 use native.Mathlib.Omega.{arith}
-use mathlib.Core.Path.{_≡_, refl, sym, ap, subst, _∙_}
-use mathlib.Core.List.{List, [], _∷_, map, List·Memᴰ, List·Memᴰ·head, List·Memᴰ·tail, List·Memᴰ·not-nil, Memᴰ·of-map}
+use mathlib.Core.Path.{_≡_, sym, ap, subst, _∙_}
+use mathlib.Core.List.{List, [], map, List·Memᴰ, List·Memᴰ·not-nil, Memᴰ·of-map}
 use lib.ListN.{length, getD, length-append, length-map}
 use lib.Seq.{ext-getD}
 use Rattle.grid.specs.Lists.{upto}
 use Rattle.grid.specs.Grid.{Grid, size, cellsOf}
-use Rattle.grid.proofs.ListLaws.{length-map-upto, map-upto-at, at-mem, upto-mem}
+use Rattle.grid.proofs.ListLaws.{length-map-upto, map-upto-at, at-mem, upto-mem, map-home}
 use Rattle.record.specs.Record.{Puzzle, ok, readRecord}
 use Rattle.record.specs.Valid.{Valid}
 use Rattle.record.specs.Write.{recordBits, writeRecord}
@@ -83,24 +83,13 @@ module _ (p : Puzzle) (v : Valid p) (m : Turn) (t : Turns (p .grid) m) where
             let b : i < size (p .grid) = subst (λ g. i < size g) e a in
             carried-at n (carried m l) i a ∙ carried-at m l (n .from i) (u .into i a) ∙ ap (λ (k : ℕ). getD l k 0) (from-back i b)
 
-    line-back : (a : List ℕ) → ((x : ℕ) → List·Memᴰ x a → x < size (p .grid)) → map (n .to) (map (m .to) a) ≡ a
-    line-back [] b = refl
-    line-back (x ∷ a) b =
-        let h = back x (b x (List·Memᴰ·head refl)) in
-        let r = line-back a (λ y k. b y (List·Memᴰ·tail k)) in
-        cc
-
-    lines-back : (as′ : List (List ℕ)) → ((a : List ℕ) → List·Memᴰ a as′ → (x : ℕ) → List·Memᴰ x a → x < size (p .grid)) → map (map (n .to)) (map (map (m .to)) as′) ≡ as′
-    lines-back [] b = refl
-    lines-back (a ∷ as′) b =
-        let h = line-back a (b a (List·Memᴰ·head refl)) in
-        let r = lines-back as′ (λ c k. b c (List·Memᴰ·tail k)) in
-        cc
+    lines-back : map (map (n .to)) (map (map (m .to)) (p .arrows)) ≡ p .arrows
+    lines-back = map-home (map (m .to)) (map (n .to)) (p .arrows) (λ a k. map-home (m .to) (n .to) a (λ x j. back x (arrows-size (v .arrows) a k x j)))
 
     pub puzzle-back : turnedBy n (turnedBy m p) ≡ p
     puzzle-back =
         let a = carried-back (p .given) (v .total) in
-        let b = lines-back (p .arrows) (arrows-size (v .arrows)) in
+        let b = lines-back in
         build (n .grid) (p .grid) (carried n (carried m (p .given))) (p .given) (map (map (n .to)) (map (map (m .to)) (p .arrows))) (p .arrows) e a b
       where
         build : (g h : Grid) (c d : List ℕ) (x y : List (List ℕ)) → g ≡ h → c ≡ d → x ≡ y → _≡_ {A = Puzzle} (record { grid = g; given = c; arrows = x }) (record { grid = h; given = d; arrows = y })

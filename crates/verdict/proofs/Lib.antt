@@ -1,0 +1,9 @@
+pub mod GivenLaws
+pub mod Applied
+pub mod AlikeLaws
+pub mod Carried
+pub mod SameReasons
+pub mod TurnedCalls
+pub mod TurnedSizes
+pub mod Turnings
+pub mod WayUp

@@ -1,0 +1,4 @@
+pub mod Applies
+pub mod Isomorphism
+pub mod Turned
+pub mod Verdict
