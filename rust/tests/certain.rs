@@ -197,7 +197,7 @@ fn the_largest_grid_in_a_small_stack() {
     })
     .unwrap();
     let search = move || certain(record.bytes(), &[], ANY);
-    let small = thread::Builder::new().stack_size(320 * 1024);
+    let small = thread::Builder::new().stack_size(256 * 1024);
     let answer = small.spawn(search).unwrap().join().unwrap();
     assert_eq!(answer, Ok(told(&".".repeat(1024), 2049)));
 }

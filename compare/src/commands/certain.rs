@@ -27,10 +27,10 @@ const FINISHED: usize = 50;
 const LENGTHS: usize = 10;
 
 /// The bytes of a stack in which the deepest search has room where there is no arrow.
-const STACK: usize = 320 * 1024;
+const STACK: usize = 256 * 1024;
 
 /// And where an arrow stands behind all other cells: the walk inside find is as deep as the search then.
-const STACK_WITH_ARROW: usize = 384 * 1024;
+const STACK_WITH_ARROW: usize = 320 * 1024;
 
 /// What the calls said.
 #[derive(Default)]

@@ -30,8 +30,6 @@ use Rattle.finished.proofs.VerdictLaws.{few}
 use Rattle.certain.specs.Tree.{Reached, search}
 use Rattle.certain.specs.Facts.{factOf, factsIn, certainty, untold, known, certainBy, certainOf}
 use Rattle.certain.specs.Inside.{States, Searched}
-use Rattle.certain.specs.declared.Left.{Left}
-use Rattle.certain.specs.declared.Left.the-variants.{Steps, Exhausted}
 use Rattle.certain.specs.declared.Certainty.the-variants.{Told, Impossible, Spent, Refused}
 use Rattle.certain.specs.declared.Facts.{Facts}
 use Rattle.certain.proofs.FactLaws.{fact-none, no-boards}
@@ -70,7 +68,7 @@ nothing-yet n {facts} h e =
 
 -- ---- on the arrays
 
-module _ (q : Problem) (f : Formed q) (edition : ℕ) {sizes : List Range} (good : GoodSizes (puzzleOf q) sizes) {states : List ℕ} (s : States states) (budget : ℕ) {left : Left} {states′ before facts : List ℕ} (blank : before ≡ replicate 1024 3)
+module _ (q : Problem) (f : Formed q) (edition : ℕ) {sizes : List Range} (good : GoodSizes (puzzleOf q) sizes) {states : List ℕ} (s : States states) (budget : ℕ) {left : ℕ} {states′ before facts : List ℕ} (blank : before ≡ replicate 1024 3)
     (x : Searched (q .height * q .width) budget (search (leafWith edition sizes (puzzleOf q)) (take (q .height * q .width) states)) left states states′ before facts) where
   -- how many cells
   abbrev n : ℕ
@@ -84,18 +82,18 @@ module _ (q : Problem) (f : Formed q) (edition : ℕ) {sizes : List Range} (good
   unfolding gridOf
   some-cells = mul-pos (f .sizes .low .0) (f .sizes .low .1)
 
-  pub answer-spent : {cells : List ℕ} → left ≡ Exhausted → cells ≡ replicate 1024 3 → _≡_ {A = Facts} (record { answer = Spent; steps = budget; cells = cells }) (certainBy n budget r)
+  pub answer-spent : {cells : List ℕ} → left ≡ 0 → cells ≡ replicate 1024 3 → _≡_ {A = Facts} (record { answer = Spent; steps = budget; cells = cells }) (certainBy n budget r)
   unfolding untold
-  answer-spent e c = rw c (sym (by-spent n budget r (left-out (r .steps) budget (sym e ∙ x .left-is))))
+  answer-spent e c = rw c (sym (by-spent n budget r (left-out (r .steps) budget (x .left-is) e)))
 
-  module _ {rest : ℕ} (e : left ≡ Steps rest) where
-    within : (r .steps ≤ budget) × (rest ≡ budget - r .steps)
-    within = left-done (r .steps) budget rest (sym e ∙ x .left-is)
+  module _ (e : left ≡ 0 → ⊥) where
+    within : (r .steps ≤ budget) × (left - 1 ≡ budget - r .steps)
+    within = left-done (r .steps) budget (x .left-is) e
 
-    pub rest-within : rest ≤ budget
+    pub rest-within : left - 1 ≤ budget
     rest-within = omega (arith, within .0, within .1)
 
-    steps-are : budget - rest ≡ r .steps
+    steps-are : budget - (left - 1) ≡ r .steps
     steps-are = omega (arith, within .0, within .1)
 
     facts-are : facts ≡ factsIn n (r .boards)
@@ -108,13 +106,13 @@ module _ (q : Problem) (f : Formed q) (edition : ℕ) {sizes : List Range} (good
     low : (b : List ℕ) → List·Memᴰ b (r .boards) → getD b 0 0 ≤ 1
     low b m = search-solves (leafWith edition sizes (puzzleOf q)) (formed-valid q f) good (take n states) (cells-valid q f edition sizes s) b m .finished .decided .each 0 (unfold puzzleOf gridOf size in some-cells)
 
-    pub answer-none : getD facts 0 0 ≡ 3 → _≡_ {A = Facts} (record { answer = Impossible; steps = budget - rest; cells = facts }) (certainBy n budget r)
+    pub answer-none : getD facts 0 0 ≡ 3 → _≡_ {A = Facts} (record { answer = Impossible; steps = budget - (left - 1); cells = facts }) (certainBy n budget r)
     unfolding known
     answer-none z =
         rw (steps-are, facts-are, certainty-none (r .boards) (no-boards (r .boards) 0 low (sym first-is ∙ z)))
         (sym (by-known n budget r (within .0)))
 
-    pub answer-told : (getD facts 0 0 ≡ 3 → ⊥) → _≡_ {A = Facts} (record { answer = Told; steps = budget - rest; cells = facts }) (certainBy n budget r)
+    pub answer-told : (getD facts 0 0 ≡ 3 → ⊥) → _≡_ {A = Facts} (record { answer = Told; steps = budget - (left - 1); cells = facts }) (certainBy n budget r)
     unfolding known
     answer-told z =
         rw (steps-are, facts-are, certainty-some (r .boards) (λ e. z (first-is ∙ ap (λ (bs : List (List ℕ)). factOf bs 0) e ∙ fact-none 0)))

@@ -13,8 +13,9 @@ use Rattle.grid.specs.Lists.{all, howMany}
 use Rattle.grid.specs.Grid.{size}
 use Rattle.grid.specs.Side.{sized}
 use Rattle.grid.specs.Cells.{ValidCells}
+use Rattle.record.specs.Record.{Puzzle}
 use Rattle.record.specs.Leaf.{Range, Leaf, leafWith}
-use Rattle.record.specs.Sizes.{GoodSizes}
+use Rattle.record.specs.Sizes.{GoodSizes, keptRanges}
 use Rattle.record.specs.Problem.{puzzleOf, gridOf}
 use Rattle.record.specs.declared.Problem.{Problem}
 use Rattle.form.proofs.ProblemForm.{Formed}
@@ -23,6 +24,7 @@ use Rattle.kinds.specs.Inside.{puzzleWith}
 use Rattle.literals.specs.Literals.{Found}
 use Rattle.literals.specs.Buffer.{findingBy}
 use Rattle.literals.specs.Inside.{FoundAs}
+use Rattle.literals.specs.declared.Finding.{Finding}
 use Rattle.literals.specs.declared.Finding.the-variants as finding
 use Rattle.literals.proofs.Findings.{nothing-found}
 use Rattle.reasons.specs.Reasons.{findReason}
@@ -54,6 +56,11 @@ some-found : (f : Found) {b a : List ℕ} {k : ℕ} → FoundAs f b a (finding.R
 unfolding findingBy
 some-found none x e = let z : _≡_ {A = ℕ} 0 1 = cc (x .answer) in omega arith
 some-found (some r) x e = let z : _≡_ {A = ℕ} 0 1 = cc in omega arith
+
+-- what was found, with the sizes that the slices are known to have, and the answer that it is known to be
+pub found-with : (edition : ℕ) (p : Puzzle) (cells : List ℕ) {lows lows′ highs highs′ b a : List ℕ} {r r′ : Finding} → lows ≡ lows′ → highs ≡ highs′ → r ≡ r′
+    → FoundAs (findReason (leafWith edition (keptRanges lows highs (length lows)) p) cells) b a r → FoundAs (findReason (leafWith edition (keptRanges lows′ highs′ (length lows′)) p) cells) b a r′
+found-with edition p cells e f g x = rw (e, f, g) at x
 
 -- no board is gathered
 pub gathers-none : (n : ℕ) {before after : List ℕ} → after ≡ before → Gathers n [] before after

@@ -15,8 +15,6 @@ use Rattle.literals.specs.Literals.{Found}
 use Rattle.reasons.specs.Reasons.{findReason}
 use Rattle.certain.specs.Tree.{lowest, Reached, counted, both, stepped, searchIn, search}
 use Rattle.certain.specs.Inside.{Gathers, Meets, reason, full, undecided, leftAfter, Searched}
-use Rattle.certain.specs.declared.Left.{Left}
-use Rattle.certain.specs.declared.Left.the-variants.{Steps, Exhausted}
 use Rattle.certain.specs.declared.Met.the-variants as met
 use Rattle.certain.proofs.LowestLaws.{Lowest, found, full as is-full, lowest-view, fewer}
 use Rattle.certain.proofs.StepLaws.{none-undecided, gathers-none}
@@ -24,37 +22,38 @@ use Rattle.certain.proofs.StepLaws.{none-undecided, gathers-none}
 -- ---- what is left of a budget
 
 module _ (s b : ℕ) where
-  left-in : s ≤ b → Steps (b - s) ≡ leftAfter s b
+  left-in : s ≤ b → suc (b - s) ≡ leftAfter s b
   unfolding leftAfter
   left-in h = rw (le-leb s b h) refl
 
-  left-over : b < s → Exhausted ≡ leftAfter s b
+  left-over : b < s → 0 ≡ leftAfter s b
   unfolding leftAfter
   left-over h = rw (lt-leb s b h) refl
 
-  pub left-done : (rest : ℕ) → Steps rest ≡ leftAfter s b → (s ≤ b) × (rest ≡ b - s)
-  left-done rest e = go (decLe s b)
-    where
-      go : Dec (s ≤ b) → (s ≤ b) × (rest ≡ b - s)
-      go (yes h) = (h, cc (left-in h))
-      go (no h) = let q = left-over (omega arith) in let z : _≡_ {A = ℕ} 0 1 = cc in absurd (omega arith)
+  module _ {left : ℕ} (e : left ≡ leftAfter s b) where
+    pub left-done : (left ≡ 0 → ⊥) → (s ≤ b) × (left - 1 ≡ b - s)
+    left-done n = go (decLe s b)
+      where
+        go : Dec (s ≤ b) → (s ≤ b) × (left - 1 ≡ b - s)
+        go (yes h) = (h, omega (arith, left-in h, e))
+        go (no h) = absurd (n (e ∙ sym (left-over (omega arith))))
 
-  pub left-out : Exhausted ≡ leftAfter s b → b < s
-  left-out e = go (decLe s b)
-    where
-      go : Dec (s ≤ b) → b < s
-      go (yes h) = let q = left-in h in let z : _≡_ {A = ℕ} 0 1 = cc in absurd (omega arith)
-      go (no h) = omega arith
+    pub left-out : left ≡ 0 → b < s
+    left-out z = go (decLe s b)
+      where
+        go : Dec (s ≤ b) → b < s
+        go (yes h) = absurd (omega (arith, left-in h, e, z))
+        go (no h) = omega arith
 
 -- two searches, one after another, after one step
-left-both : (a c b rest : ℕ) → 0 < b → Steps rest ≡ leftAfter a (b - 1) → leftAfter c rest ≡ leftAfter (suc (a + c)) b
-left-both a c b rest h e = go (left-done a (b - 1) rest e) (decLe c rest)
+left-both : (a c b : ℕ) {left : ℕ} → 0 < b → (left ≡ 0 → ⊥) → left ≡ leftAfter a (b - 1) → leftAfter c (left - 1) ≡ leftAfter (suc (a + c)) b
+left-both a c b {left} h n e = go (left-done a (b - 1) e n) (decLe c (left - 1))
   where
-    go : (a ≤ b - 1) × (rest ≡ b - 1 - a) → Dec (c ≤ rest) → leftAfter c rest ≡ leftAfter (suc (a + c)) b
+    go : (a ≤ b - 1) × (left - 1 ≡ b - 1 - a) → Dec (c ≤ left - 1) → leftAfter c (left - 1) ≡ leftAfter (suc (a + c)) b
     go w (yes k) =
-        let e : rest - c ≡ b - suc (a + c) = omega (arith, w .0, w .1) in
-        sym (left-in c rest k) ∙ ap Steps e ∙ left-in (suc (a + c)) b (omega (arith, w .0, w .1))
-    go w (no k) = sym (left-over c rest (omega arith)) ∙ left-over (suc (a + c)) b (omega (arith, w .0, w .1))
+        let z : suc (left - 1 - c) ≡ suc (b - suc (a + c)) = omega (arith, w .0, w .1) in
+        sym (left-in c (left - 1) k) ∙ z ∙ left-in (suc (a + c)) b (omega (arith, w .0, w .1))
+    go w (no k) = sym (left-over c (left - 1) (omega arith)) ∙ left-over (suc (a + c)) b (omega (arith, w .0, w .1))
 
 -- ---- the search by what find gives
 
@@ -115,7 +114,7 @@ module _ (l : Leaf) (c : List ℕ) where
 
 module _ (n left : ℕ) (l : Leaf) (cells before : List ℕ) (long : length before ≡ 1024) where
   -- no step is left
-  pub way-none : left ≡ 0 → Searched n left (search l (take n cells)) Exhausted cells cells before before
+  pub way-none : left ≡ 0 → Searched n left (search l (take n cells)) 0 cells cells before before
   way-none e = record {
     same = refl;
     long = long;
@@ -126,15 +125,15 @@ module _ (n left : ℕ) (l : Leaf) (cells before : List ℕ) (long : length befo
   module _ (h : 0 < left) (size-is : length (take n cells) ≡ n) where
     -- one step, with these boards
     one-step : (boards : List (List ℕ)) {after : List ℕ} → search l (take n cells) ≡ record { boards = boards; steps = 1 } → length after ≡ 1024 → Gathers n boards before after
-        → Searched n left (search l (take n cells)) (Steps (left - 1)) cells cells before after
-    one-step boards e long′ g = rw e (record { same = refl; long = long′; left-is = left-in 1 left (omega arith); gathers = λ _. g })
+        → Searched n left (search l (take n cells)) left cells cells before after
+    one-step boards e long′ g = rw e (record { same = refl; long = long′; left-is = omega (arith, left-in 1 left (omega arith)); gathers = λ _. g })
 
     -- back on a reason
-    pub way-back : {after : List ℕ} → Meets l n cells before after met.Reason → Searched n left (search l (take n cells)) (Steps (left - 1)) cells cells before after
+    pub way-back : {after : List ℕ} → Meets l n cells before after met.Reason → Searched n left (search l (take n cells)) left cells cells before after
     way-back (reason q e) = one-step [] (search-back l (take n cells) q) (ap length e ∙ long) (gathers-none n e)
 
     -- a full board
-    pub way-full : {after : List ℕ} → Meets l n cells before after met.Full → Searched n left (search l (take n cells)) (Steps (left - 1)) cells cells before after
+    pub way-full : {after : List ℕ} → Meets l n cells before after met.Full → Searched n left (search l (take n cells)) left cells cells before after
     way-full (full q e long′ g) = one-step (counted l (take n cells) .boards) (search-full l (take n cells) q (none-undecided n (take n cells) size-is e)) long′ g
 
     -- an undecided cell
@@ -179,11 +178,11 @@ module _ (n left : ℕ) (l : Leaf) (cells before : List ℕ) (long : length befo
       search-two = rw (branch 1, branch 0) (search-on l (take n cells) (spot .quiet) (spot .some-left))
 
       -- the budget is exhausted in the first branch
-      pub way-exhausted : {r : Left} {cells₁ facts₁ : List ℕ} → r ≡ Exhausted → Searched n (left - 1) (search l (take n (set cells i 1))) r (set cells i 1) cells₁ after facts₁
-          → Searched n left (search l (take n cells)) Exhausted cells (set cells₁ i 2) before facts₁
+      pub way-exhausted : {r : ℕ} {cells₁ facts₁ : List ℕ} → r ≡ 0 → Searched n (left - 1) (search l (take n (set cells i 1))) r (set cells i 1) cells₁ after facts₁
+          → Searched n left (search l (take n cells)) 0 cells (set cells₁ i 2) before facts₁
       way-exhausted e a =
           let more : left < suc (search l (take n (set cells i 1)) .steps + search l (take n (set cells i 0)) .steps) =
-          omega (arith, left-out (search l (take n (set cells i 1)) .steps) (left - 1) (sym e ∙ a .left-is)) in
+          omega (arith, left-out (search l (take n (set cells i 1)) .steps) (left - 1) (a .left-is) e) in
           rw search-two (record {
             same = ap (λ (z : List ℕ). set z i 2) (a .same) ∙ set-back 1;
             long = a .long;
@@ -192,20 +191,20 @@ module _ (n left : ℕ) (l : Leaf) (cells before : List ℕ) (long : length befo
           })
 
       -- both branches
-      pub way-both : {rest : ℕ} {r last : Left} {cells₁ facts₁ cells₂ facts₂ : List ℕ} → r ≡ Steps rest
+      pub way-both : {r last : ℕ} {cells₁ facts₁ cells₂ facts₂ : List ℕ} → (r ≡ 0 → ⊥)
           → Searched n (left - 1) (search l (take n (set cells i 1))) r (set cells i 1) cells₁ after facts₁
-          → Searched n rest (search l (take n (set cells₁ i 0))) last (set cells₁ i 0) cells₂ facts₁ facts₂
+          → Searched n (r - 1) (search l (take n (set cells₁ i 0))) last (set cells₁ i 0) cells₂ facts₁ facts₂
           → Searched n left (search l (take n cells)) last cells (set cells₂ i 2) before facts₂
-      way-both {rest} {r} {last} {cells₁} {facts₁} {cells₂} {facts₂} e a b =
+      way-both {r} {last} {cells₁} {facts₁} {cells₂} {facts₂} e a b =
           let first : Reached = search l (take n (set cells i 1)) in
           let second : Reached = search l (take n (set cells i 0)) in
           let zeroed : set cells₁ i 0 ≡ set cells i 0 = ap (λ (z : List ℕ). set z i 0) (a .same) ∙ set-set cells i 1 0 in
-          let b′ : Searched n rest second last (set cells i 0) cells₂ facts₁ facts₂ =
-          subst (λ (z : List ℕ). Searched n rest (search l (take n z)) last z cells₂ facts₁ facts₂) zeroed b in
-          let d = left-done (first .steps) (left - 1) rest (sym e ∙ a .left-is) in
+          let b′ : Searched n (r - 1) second last (set cells i 0) cells₂ facts₁ facts₂ =
+          subst (λ (z : List ℕ). Searched n (r - 1) (search l (take n z)) last z cells₂ facts₁ facts₂) zeroed b in
+          let d = left-done (first .steps) (left - 1) (a .left-is) e in
           rw search-two (record {
             same = ap (λ (z : List ℕ). set z i 2) (b′ .same) ∙ set-back 0;
             long = b′ .long;
-            left-is = b′ .left-is ∙ left-both (first .steps) (second .steps) left rest h (sym e ∙ a .left-is);
+            left-is = b′ .left-is ∙ left-both (first .steps) (second .steps) left h e (a .left-is);
             gathers = λ k bs s. rw (← append-assoc) (b′ .gathers (omega (arith, k, d .1)) (bs ++ first .boards) (a .gathers (d .0) bs (spot .kept ∙ s)));
           })

@@ -13,7 +13,7 @@ ghost use Rattle.finished.specs.Finished.{keepsAll, twoSquares};
 ghost use Rattle.finished.specs.Inside.{problemOn};
 ghost use Rattle.certain.specs.Tree.{lowest, search};
 ghost use Rattle.certain.specs.Facts.{certainBy, certainOf};
-ghost use Rattle.certain.specs.Inside.{leafIn, States, joinedOf, Noted, Beyond, Meets, Searched};
+ghost use Rattle.certain.specs.Inside.{leafIn, leafBy, cellsBy, Given, States, joinedOf, Noted, Beyond, Meets, Searched};
 
 // The answer of `certain`: the cells are told, there is no finished board that agrees with the decisions, the budget is spent, or a refusal by
 // document 01's number.
@@ -32,18 +32,23 @@ pub struct Facts {
     pub cells: [u8; 1024],
 }
 
-// What is left of a budget of steps.
-enum Left {
-    Steps(u64),
-    Exhausted,
-}
-
 // What a step meets: a reason, a full board, or the lowest undecided cell.
 enum Met {
     Reason,
     Full,
     Undecided(usize),
 }
+
+// The places of the numbers that don't change in a search.
+const EDITION: usize = 0;
+
+const ARROWS: usize = 1;
+
+const HEIGHT: usize = 2;
+
+const WIDTH: usize = 3;
+
+const SIZES: usize = 4;
 
 // Nothing is known of any cell.
 fn nothing_known() -> [u8; 1024]
@@ -118,28 +123,28 @@ fn beyond<'a>(
 
 // One step of the search: find on a board, and what it meets.
 fn step<'a>(
-    edition: u8,
-    lowest: &'a [u16],
-    highest: &'a [u16],
+    shape: &'a [usize; 5],
+    lowest: &'a [u16; 1024],
+    highest: &'a [u16; 1024],
     cells: &'a [u8; 1024],
     codes: &'a [u8; 1024],
     arrows: &'a [u16; 1024],
     ends: &'a [u16; 1024],
-    number: usize,
-    h: usize,
-    w: usize,
     facts: &mut [u8; 1024],
     buffer: &mut [u16; Board::LITERALS],
 ) -> Met
-    requires { ⌜ (edition ≡ 0 → ⊥) × (problemFormed (problemOn h w (now codes) (now arrows) (now ends) number) ≡ true) × States (now cells)
-        × (length (now facts) ≡ 1024) × (length (now buffer) ≡ 3073) × SizesOn (h * w) (linesOf (now arrows) (now ends) number) (now lowest) (now highest) ⌝ }
-    ensures { λ r. ⌜ Meets (leafIn edition (now (lowest .entry)) (now (highest .entry)) h w (now (codes .entry)) (now (arrows .entry)) (now (ends .entry)) number) (h * w) (now (cells .entry)) (now (facts .entry)) (now (facts .exit)) r
+    requires { ⌜ Given (now shape) (now lowest) (now highest) (now codes) (now arrows) (now ends) × States (now cells) × (length (now facts) ≡ 1024) × (length (now buffer) ≡ 3073) ⌝ }
+    ensures { λ r. ⌜ Meets (leafBy (now (shape .entry)) (now (lowest .entry)) (now (highest .entry)) (now (codes .entry)) (now (arrows .entry)) (now (ends .entry))) (cellsBy (now (shape .entry))) (now (cells .entry)) (now (facts .entry)) (now (facts .exit)) r
         × (length (now (buffer .exit)) ≡ 3073) ⌝ }
 {
+    let number = shape[ARROWS];
+    let h = shape[HEIGHT];
+    let w = shape[WIDTH];
+    let n = shape[SIZES];
     let finding = inconsistency::find_inconsistency(
-        edition,
-        lowest,
-        highest,
+        shape[EDITION] as u8,
+        reasons::first_sizes(lowest, n),
+        reasons::first_sizes(highest, n),
         cells,
         arrows,
         ends,
@@ -155,100 +160,86 @@ fn step<'a>(
     }
 }
 
-// The search from a board with at most `left` steps: what is left of them. What it sets in the cells it takes back.
+// The search from a board with at most `left` steps: 0 where it has more, else one more than what is left of them. What it sets in the cells it takes back.
+// It is as deep as there are undecided cells, and each call of it keeps what it is lent. So the numbers that don't change stand in one array, and what is
+// left is told by a number: an enum that holds one comes back in memory.
 fn search_from<'a>(
-    edition: u8,
-    lowest: &'a [u16],
-    highest: &'a [u16],
+    shape: &'a [usize; 5],
+    lowest: &'a [u16; 1024],
+    highest: &'a [u16; 1024],
     cells: &mut [u8; 1024],
     codes: &'a [u8; 1024],
     arrows: &'a [u16; 1024],
     ends: &'a [u16; 1024],
-    number: usize,
-    h: usize,
-    w: usize,
     facts: &mut [u8; 1024],
     buffer: &mut [u16; Board::LITERALS],
     left: u64,
-) -> Left
-    requires { ⌜ (edition ≡ 0 → ⊥) × (problemFormed (problemOn h w (now codes) (now arrows) (now ends) number) ≡ true) × States (now cells)
-        × (length (now facts) ≡ 1024) × (length (now buffer) ≡ 3073) × SizesOn (h * w) (linesOf (now arrows) (now ends) number) (now lowest) (now highest) ⌝ }
-    ensures { λ r. ⌜ Searched (h * w) left (search (leafIn edition (now (lowest .entry)) (now (highest .entry)) h w (now (codes .entry)) (now (arrows .entry)) (now (ends .entry)) number) (take (h * w) (now (cells .entry)))) r
+) -> u64
+    requires { ⌜ Given (now shape) (now lowest) (now highest) (now codes) (now arrows) (now ends) × States (now cells) × (length (now facts) ≡ 1024) × (length (now buffer) ≡ 3073) ⌝ }
+    ensures { λ r. ⌜ Searched (cellsBy (now (shape .entry))) left (search (leafBy (now (shape .entry)) (now (lowest .entry)) (now (highest .entry)) (now (codes .entry)) (now (arrows .entry)) (now (ends .entry))) (take (cellsBy (now (shape .entry))) (now (cells .entry)))) r
         (now (cells .entry)) (now (cells .exit)) (now (facts .entry)) (now (facts .exit)) × (length (now (buffer .exit)) ≡ 3073) ⌝ }
 {
     if left == 0 {
-        return Left::Exhausted;
+        return 0;
     }
     let met = step(
-        edition,
+        shape,
         lowest,
         highest,
         cells,
         codes,
         arrows,
         ends,
-        number,
-        h,
-        w,
         facts,
         buffer,
     );
     match met {
-        Met::Reason => Left::Steps(left - 1),
-        Met::Full => Left::Steps(left - 1),
+        Met::Reason => left,
+        Met::Full => left,
         Met::Undecided(i) => {
             cells[i] = 1;
             let first = search_from(
-                edition,
+                shape,
                 lowest,
                 highest,
                 cells,
                 codes,
                 arrows,
                 ends,
-                number,
-                h,
-                w,
                 facts,
                 buffer,
                 left - 1,
             );
-            match first {
-                Left::Exhausted => {
-                    cells[i] = 2;
-                    Left::Exhausted
-                }
-                Left::Steps(rest) => {
-                    cells[i] = 0;
-                    let second = search_from(
-                        edition,
-                        lowest,
-                        highest,
-                        cells,
-                        codes,
-                        arrows,
-                        ends,
-                        number,
-                        h,
-                        w,
-                        facts,
-                        buffer,
-                        rest,
-                    );
-                    cells[i] = 2;
-                    second
-                }
+            if first == 0 {
+                cells[i] = 2;
+                return 0;
             }
+            cells[i] = 0;
+            let second = search_from(
+                shape,
+                lowest,
+                highest,
+                cells,
+                codes,
+                arrows,
+                ends,
+                facts,
+                buffer,
+                first - 1,
+            );
+            cells[i] = 2;
+            second
         }
     }
 }
 
 // What `certain` answers, on the arrays of a board that is known to be well formed: for `certain`, which has tested its board, and for a caller
-// that has opened the board itself. The cells are as they were.
+// that has opened the board itself. Of the sizes those of the first `sized` cells are taken. The cells are as they were.
 pub fn certain_cells<'a>(
     edition: u8,
-    lowest: &'a [u16],
-    highest: &'a [u16],
+    sized: usize,
+    lowest: &'a [u16; 1024],
+    highest: &'a [u16; 1024],
     cells: &mut [u8; 1024],
     codes: &'a [u8; 1024],
     arrows: &'a [u16; 1024],
@@ -259,48 +250,44 @@ pub fn certain_cells<'a>(
     budget: u64,
 ) -> Facts
     requires { ⌜ (edition ≡ 0 → ⊥) × (problemFormed (problemOn h w (now codes) (now arrows) (now ends) number) ≡ true) × States (now cells)
-        × SizesOn (h * w) (linesOf (now arrows) (now ends) number) (now lowest) (now highest) ⌝ }
-    ensures { λ r. ⌜ (r ≡ certainBy (h * w) budget (search (leafIn edition (now (lowest .entry)) (now (highest .entry)) h w (now (codes .entry)) (now (arrows .entry)) (now (ends .entry)) number) (take (h * w) (now (cells .entry)))))
+        × (sized ≤ 1024) × SizesOn (h * w) (linesOf (now arrows) (now ends) number) (take sized (now lowest)) (take sized (now highest)) ⌝ }
+    ensures { λ r. ⌜ (r ≡ certainBy (h * w) budget (search (leafIn edition (take sized (now (lowest .entry))) (take sized (now (highest .entry))) h w (now (codes .entry)) (now (arrows .entry)) (now (ends .entry)) number) (take (h * w) (now (cells .entry)))))
         × (now (cells .exit) ≡ now (cells .entry)) ⌝ }
 {
     let mut facts = nothing_known();
     let mut buffer = reasons::no_literals();
-    let left = search_from(
-        edition,
+    let shape = [edition as usize, number, h, w, sized];
+    let rest = search_from(
+        &shape,
         lowest,
         highest,
         cells,
         codes,
         arrows,
         ends,
-        number,
-        h,
-        w,
         &mut facts,
         &mut buffer,
         budget,
     );
-    match left {
-        Left::Exhausted => Facts {
+    if rest == 0 {
+        return Facts {
             answer: Certainty::Spent,
             steps: budget,
             cells: nothing_known(),
-        },
-        Left::Steps(rest) => {
-            let steps = budget - rest;
-            if facts[0] == 3 {
-                return Facts {
-                    answer: Certainty::Impossible,
-                    steps,
-                    cells: facts,
-                };
-            }
-            Facts {
-                answer: Certainty::Told,
-                steps,
-                cells: facts,
-            }
-        }
+        };
+    }
+    let steps = budget - (rest - 1);
+    if facts[0] == 3 {
+        return Facts {
+            answer: Certainty::Impossible,
+            steps,
+            cells: facts,
+        };
+    }
+    Facts {
+        answer: Certainty::Told,
+        steps,
+        cells: facts,
     }
 }
 
@@ -323,8 +310,9 @@ pub fn certain(board: Board, budget: u64) -> Facts
     let n = reasons::lent_sizes(&board.lowest, height * width);
     certain_cells(
         board.edition,
-        reasons::first_sizes(&board.lowest, n),
-        reasons::first_sizes(&board.highest, n),
+        n,
+        &board.lowest,
+        &board.highest,
         &mut cells,
         &board.problem.cells,
         &board.problem.arrows,

@@ -70,12 +70,13 @@ fn write_certain(facts: Facts, n: usize, output: &mut [u8]) -> i32
     }
 }
 
-// Decides in order on the leaf that is held, and searches: 11 for an output that is too short, then the decisions' refusals. Nothing is tested, as in
-// `host_find`.
+// Decides in order on the leaf that is held, and searches: 11 for an output that is too short, then the decisions' refusals. Of the sizes those of the
+// first `sized` cells are taken. Nothing is tested, as in `host_find`.
 fn certain_behind<'a>(
     edition: u8,
-    lowest: &'a [u16],
-    highest: &'a [u16],
+    sized: usize,
+    lowest: &'a [u16; 1024],
+    highest: &'a [u16; 1024],
     codes: &'a [u8; 1024],
     arrows: &'a [u16; 1024],
     ends: &'a [u16; 1024],
@@ -86,8 +87,8 @@ fn certain_behind<'a>(
     budget: u64,
     output: &mut [u8],
 ) -> i32
-    requires { ⌜ ((l : Leaf) × Holds l edition (now lowest) (now highest) h w (now arrows) (now ends) number × (now codes ≡ problemOf (l .puzzle) .cells)) ⌝ }
-    ensures { λ r. ⌜ ((l : Leaf) → Holds l edition (now (lowest .entry)) (now (highest .entry)) h w (now (arrows .entry)) (now (ends .entry)) number → now (codes .entry) ≡ problemOf (l .puzzle) .cells
+    requires { ⌜ ((l : Leaf) × Holds l edition (take sized (now lowest)) (take sized (now highest)) h w (now arrows) (now ends) number × (now codes ≡ problemOf (l .puzzle) .cells) × (sized ≤ 1024)) ⌝ }
+    ensures { λ r. ⌜ ((l : Leaf) → Holds l edition (take sized (now (lowest .entry))) (take sized (now (highest .entry))) h w (now (arrows .entry)) (now (ends .entry)) number → now (codes .entry) ≡ problemOf (l .puzzle) .cells
         → (r ≡ saidNumber (leafCertain (now (decisions .entry)) budget (length (now (output .entry))) l))
         × (now (output .exit) ≡ outputWith (saidBytes (leafCertain (now (decisions .entry)) budget (length (now (output .entry))) l)) (now (output .entry)))) ⌝ }
 {
@@ -100,6 +101,7 @@ fn certain_behind<'a>(
         Answer::Done => {
             let facts = certain::certain_cells(
                 edition,
+                sized,
                 lowest,
                 highest,
                 &mut cells,
@@ -142,11 +144,11 @@ fn certain_sized<'a>(
     if let Answer::Refused(k) = read {
         return negated(k);
     }
-    let n = h * w;
     certain_behind(
         edition,
-        &lowest[..n],
-        &highest[..n],
+        h * w,
+        &lowest,
+        &highest,
         codes,
         arrows,
         ends,
@@ -184,10 +186,12 @@ pub fn certain_with(
         return negated(16);
     }
     if sizes.len() == 0 {
+        // no sizes are taken, so that any arrays stand for theirs
         return certain_behind(
             e,
-            &[],
-            &[],
+            0,
+            &reading.problem.arrows,
+            &reading.problem.arrows,
             &reading.problem.cells,
             &reading.problem.arrows,
             &reading.problem.ends,
@@ -214,10 +218,29 @@ pub fn certain_with(
     )
 }
 
-// The same in edition 1 and without sizes.
+// The same in edition 1 and without sizes, by a way of its own as in `host_find`.
 pub fn certain(record: &[u8], decisions: &[u8], budget: u64, output: &mut [u8]) -> i32
     ensures { λ r. ⌜ (r ≡ saidNumber (hostCertain (now («record» .entry)) (now (decisions .entry)) budget (length (now (output .entry)))))
         × (now (output .exit) ≡ outputWith (saidBytes (hostCertain (now («record» .entry)) (now (decisions .entry)) budget (length (now (output .entry))))) (now (output .entry))) ⌝ }
 {
-    certain_with(record, 1, &[], decisions, budget, output)
+    let opened = record::read(record);
+    let read = opened.answer;
+    if let Answer::Refused(k) = read {
+        return negated(k);
+    }
+    certain_behind(
+        1,
+        0,
+        &opened.problem.arrows,
+        &opened.problem.arrows,
+        &opened.problem.cells,
+        &opened.problem.arrows,
+        &opened.problem.ends,
+        opened.problem.count,
+        opened.problem.height,
+        opened.problem.width,
+        decisions,
+        budget,
+        output,
+    )
 }

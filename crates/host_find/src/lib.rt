@@ -194,10 +194,26 @@ pub fn find_with(
     )
 }
 
-// The same in edition 1 and without sizes.
+// The same in edition 1 and without sizes. It goes its own way to what lies behind the record, so that it has no room for sizes in its frame.
 pub fn find(record: &[u8], decisions: &[u8], output: &mut [u8]) -> i32
     ensures { λ r. ⌜ (r ≡ returned (hostFinds (now («record» .entry)) (now (decisions .entry)) (length (now (output .entry)))))
         × (now (output .exit) ≡ outputAfter (hostFinds (now («record» .entry)) (now (decisions .entry)) (length (now (output .entry)))) (now (output .entry))) ⌝ }
 {
-    find_with(record, 1, &[], decisions, output)
+    let opened = record::read(record);
+    let read = opened.answer;
+    if let Answer::Refused(k) = read {
+        return negated(k);
+    }
+    find_behind(
+        1,
+        &[],
+        &[],
+        &opened.problem.arrows,
+        &opened.problem.ends,
+        opened.problem.count,
+        opened.problem.height,
+        opened.problem.width,
+        decisions,
+        output,
+    )
 }

@@ -14,9 +14,8 @@ use Rattle.grid.proofs.ArrayLaws.{fewer-set}
 use Rattle.record.specs.Leaf.{Leaf}
 use Rattle.record.specs.declared.Problem.{Problem}
 use Rattle.form.proofs.ProblemForm.{Formed, formed-is}
-use Rattle.finished.specs.Inside.{problemOn}
 use Rattle.finished.proofs.VerdictLaws.{few}
-use Rattle.certain.specs.Inside.{leafIn, Meets}
+use Rattle.certain.specs.Inside.{cellsBy, problemBy, leafBy, Meets}
 use Rattle.certain.specs.declared.Met.{Met}
 use Rattle.certain.specs.declared.Met.the-variants as met
 use Rattle.certain.proofs.StepLaws.{states-set, cells-long}
@@ -64,7 +63,7 @@ abbrev begun : (t : ℕ) → Stepped t → Begun t
 begun t c = c .before .before .before .before
 
 abbrev entry : (t : ℕ) → Stepped t → Entry t
-entry t c = begun t c .before .before .before
+entry t c = begun t c .before
 
 abbrev done : (t : ℕ) → Undecided t → Stepped t
 done t d = d .before .before .before
@@ -74,20 +73,20 @@ choice t f = f .before .before .before .before
 
 -- the problem that the arrays hold, which is that of an accepted record
 abbrev problem : (t : ℕ) → Entry t → Problem
-problem t s = problemOn (s .args .h) (s .args .w) (s .args .codes .now) (s .args .arrows .now) (s .args .ends .now) (s .args .number)
+problem t s = problemBy (s .args .shape .now) (s .args .codes .now) (s .args .arrows .now) (s .args .ends .now)
 
 formed : (t : ℕ) (s : Entry t) → Formed (problem t s)
-formed t s = formed-is (problem t s) (s .pre .1 .1)
+formed t s = formed-is (problem t s) (s .pre .1 .0 .formed)
 
 abbrev leaf : (t : ℕ) → Entry t → Leaf
-leaf t s = leafIn (s .args .edition) (s .args .lowest .now) (s .args .highest .now) (s .args .h) (s .args .w) (s .args .codes .now) (s .args .arrows .now) (s .args .ends .now) (s .args .number)
+leaf t s = leafBy (s .args .shape .now) (s .args .lowest .now) (s .args .highest .now) (s .args .codes .now) (s .args .arrows .now) (s .args .ends .now)
 
 -- one state for each cell
-long : (t : ℕ) (s : Entry t) → length (take (s .args .h * s .args .w) (s .args .cells .now)) ≡ s .args .h * s .args .w
-long t s = cells-long (problem t s) (formed t s) (s .args .edition) (leaf t s .sizes) (s .pre .1 .2)
+long : (t : ℕ) (s : Entry t) → length (take (cellsBy (s .args .shape .now)) (s .args .cells .now)) ≡ cellsBy (s .args .shape .now)
+long t s = cells-long (problem t s) (formed t s) (leaf t s .edition) (leaf t s .sizes) (s .pre .1 .1)
 
 -- a step is left
-some-left : (t : ℕ) (c : Begun t) → 0 < c .before .before .before .args .left
+some-left : (t : ℕ) (c : Begun t) → 0 < c .before .args .left
 some-left t c = omega (arith, c .if1 .left)
 
 -- the undecided cell that is met
@@ -95,20 +94,20 @@ abbrev cell : (t : ℕ) → Undecided t → ℕ
 cell t d = d .before .met .given .0 .0
 
 meets : (t : ℕ) (d : Undecided t) → let s = entry t (done t d) in
-    Meets (leaf t s) (s .args .h * s .args .w) (s .args .cells .now) (s .args .facts .now) (done t d .step .last .1 .1 .1 .1 .1 .1 .1 .1 .1 .1 .0) (met.Undecided (cell t d))
+    Meets (leaf t s) (cellsBy (s .args .shape .now)) (s .args .cells .now) (s .args .facts .now) (done t d .step .last .1 .1 .1 .1 .1 .1 .1 .0) (met.Undecided (cell t d))
 meets t d =
     let s = entry t (done t d) in
     subst
-    (λ (m : Met). Meets (leaf t s) (s .args .h * s .args .w) (s .args .cells .now) (s .args .facts .now) (done t d .step .last .1 .1 .1 .1 .1 .1 .1 .1 .1 .1 .0) m)
+    (λ (m : Met). Meets (leaf t s) (cellsBy (s .args .shape .now)) (s .args .cells .now) (s .args .facts .now) (done t d .step .last .1 .1 .1 .1 .1 .1 .1 .0) m)
     (d .before .met .given .1) (done t d .step .ensures .0)
 
 spot : (t : ℕ) (d : Undecided t) → let s = entry t (done t d) in
-    (cell t d < s .args .h * s .args .w) × (getD (s .args .cells .now) (cell t d) 0 ≡ 2)
+    (cell t d < cellsBy (s .args .shape .now)) × (getD (s .args .cells .now) (cell t d) 0 ≡ 2)
 spot t d =
     let q = done t d in
     let s = entry t q in
     let a = s .args in
-    undecided-there (a .h * a .w) (a .left) (leaf t s) (a .cells .now) (a .facts .now) (s .pre .1 .3) (some-left t (begun t q)) (long t s) (meets t d)
+    undecided-there (cellsBy (a .shape .now)) (a .left) (leaf t s) (a .cells .now) (a .facts .now) (s .pre .1 .2) (some-left t (begun t q)) (long t s) (meets t d)
 
 -- it has a place in the array
 placed : (t : ℕ) (d : Undecided t) → cell t d < 1024
@@ -123,24 +122,18 @@ less t d v low =
 
 search-from-returns : (t : ℕ) → search-from-lts.Need-returns (claims t) (search-from-at t) search-from.Post
 search-from-returns t c =
-    let s = c .before .before .before in
+    let s = c .before in
     let a = s .args in
-    (way-none (a .h * a .w) (a .left) (leaf t s) (a .cells .now) (a .facts .now) (s .pre .1 .3) (c .if1 .taken), s .pre .1 .4)
+    (way-none (cellsBy (a .shape .now)) (a .left) (leaf t s) (a .cells .now) (a .facts .now) (s .pre .1 .2) (c .if1 .taken), s .pre .1 .3)
 
 search-from-step-requires : (t : ℕ) → search-from-lts.Need-step-requires (claims t) (search-from-at t) search-from.Post
-search-from-step-requires t c κs = c .before .before .before .before .before .before .pre .1
+search-from-step-requires t c κs = c .before .before .before .before .pre .1
 
 search-from-enum-told : (t : ℕ) → search-from-lts.Need-enum-told (claims t) (search-from-at t) search-from.Post
 search-from-enum-told t c = search needs
 
-search-from-sub-t24 : (t : ℕ) → search-from-lts.Need-sub-t24 (claims t) (search-from-at t) search-from.Post
-search-from-sub-t24 t c = omega (arith, some-left t (begun t (c .before .before)))
-
 search-from-enum-told-2 : (t : ℕ) → search-from-lts.Need-enum-told-2 (claims t) (search-from-at t) search-from.Post
 search-from-enum-told-2 t c = search needs
-
-search-from-sub-t25 : (t : ℕ) → search-from-lts.Need-sub-t25 (claims t) (search-from-at t) search-from.Post
-search-from-sub-t25 t c = omega (arith, some-left t (begun t (c .before .before)))
 
 search-from-enum-known-met : (t : ℕ) → search-from-lts.Need-enum-known-met (claims t) (search-from-at t) search-from.Post
 search-from-enum-known-met t c = search needs
@@ -149,7 +142,7 @@ search-from-element-write-cells : (t : ℕ) → search-from-lts.Need-element-wri
 search-from-element-write-cells t c = placed t c
 
 search-from-sub-search-from : (t : ℕ) → search-from-lts.Need-sub-search-from (claims t) (search-from-at t) search-from.Post
-search-from-sub-search-from t c = some-left t (begun t (done t (c .before .before .before)))
+search-from-sub-search-from t c = omega (arith, some-left t (begun t (done t (c .before .before .before))))
 
 search-from-search-from-requires : (t : ℕ) → search-from-lts.Need-search-from-requires (claims t) (search-from-at t) search-from.Post
 search-from-search-from-requires t c κs =
@@ -160,73 +153,68 @@ search-from-search-from-requires t c κs =
       less t d 1 (omega arith),
       (
         s .pre .1 .0,
-        s .pre .1 .1,
-        states-set (cell t d) 1 (s .pre .1 .2) (omega arith),
-        facts-long (a .h * a .w) (a .left) (leaf t s) (a .cells .now) (a .facts .now) (s .pre .1 .3) (some-left t (begun t q)) (long t s) (meets t d),
+        states-set (cell t d) 1 (s .pre .1 .1) (omega arith),
+        facts-long (cellsBy (a .shape .now)) (a .left) (leaf t s) (a .cells .now) (a .facts .now) (s .pre .1 .2) (some-left t (begun t q)) (long t s) (meets t d),
         q .step .ensures .1,
-        s .pre .1 .5,
       ),
     )
 
-search-from-enum-told-3 : (t : ℕ) → search-from-lts.Need-enum-told-3 (claims t) (search-from-at t) search-from.Post
-search-from-enum-told-3 t c = search needs
-
 search-from-element-write-cells-2 : (t : ℕ) → search-from-lts.Need-element-write-cells-2 (claims t) (search-from-at t) search-from.Post
-search-from-element-write-cells-2 t c = placed t (choice t (c .before .before))
+search-from-element-write-cells-2 t c = placed t (choice t (c .before))
 
-search-from-enum-known-first : (t : ℕ) → search-from-lts.Need-enum-known-first (claims t) (search-from-at t) search-from.Post
-search-from-enum-known-first t c = search needs
+search-from-returns-2 : (t : ℕ) → search-from-lts.Need-returns-2 (claims t) (search-from-at t) search-from.Post
+search-from-returns-2 t c =
+    let f = c .before in
+    let d = choice t f in
+    let q = done t d in
+    let s = entry t q in
+    let a = s .args in
+    (way-exhausted (cellsBy (a .shape .now)) (a .left) (leaf t s) (a .cells .now) (a .facts .now) (s .pre .1 .2) (some-left t (begun t q)) (long t s) (meets t d) (c .if2 .taken) (f .search-from .ensures .0), f .search-from .ensures .1)
 
 search-from-element-write-cells-3 : (t : ℕ) → search-from-lts.Need-element-write-cells-3 (claims t) (search-from-at t) search-from.Post
-search-from-element-write-cells-3 t c = placed t (choice t (c .before .before .before))
+search-from-element-write-cells-3 t c = placed t (choice t (c .before))
+
+search-from-sub-search-from-2 : (t : ℕ) → search-from-lts.Need-sub-search-from-2 (claims t) (search-from-at t) search-from.Post
+search-from-sub-search-from-2 t c = omega (arith, c .before .before .before .if2 .left)
 
 search-from-search-from-requires-2 : (t : ℕ) → search-from-lts.Need-search-from-requires-2 (claims t) (search-from-at t) search-from.Post
 search-from-search-from-requires-2 t c κs =
-    let f = c .before .before .before .before .before .before in
+    let f = c .before .before .before .before in
     let d = choice t f in
     let s = entry t (done t d) in
     let i = cell t d in
     let e : set (f .search-from .last .1 .1 .1 .0) i 0 ≡ set (s .args .cells .now) i 0 = ap (λ (z : List ℕ). set z i 0) (f .search-from .ensures .0 .same) ∙ set-set (s .args .cells .now) i 1 0 in
     let fall : howMany 2 (set (f .search-from .last .1 .1 .1 .0) i 0) < t = rw e (less t d 0 (omega arith)) in (
       fall,
-      (s .pre .1 .0, s .pre .1 .1, rw e (states-set i 0 (s .pre .1 .2) (omega arith)), f .search-from .ensures .0 .long, f .search-from .ensures .1, s .pre .1 .5),
+      (s .pre .1 .0, rw e (states-set i 0 (s .pre .1 .1) (omega arith)), f .search-from .ensures .0 .long, f .search-from .ensures .1),
     )
 
 search-from-element-write-cells-4 : (t : ℕ) → search-from-lts.Need-element-write-cells-4 (claims t) (search-from-at t) search-from.Post
-search-from-element-write-cells-4 t c = placed t (choice t (c .before .before .before .before .before .before .before))
-
-search-from-returns-2 : (t : ℕ) → search-from-lts.Need-returns-2 (claims t) (search-from-at t) search-from.Post
-search-from-returns-2 t c =
-    let q = c .before .before in
-    let s = entry t q in
-    let a = s .args in
-    (way-back (a .h * a .w) (a .left) (leaf t s) (a .cells .now) (a .facts .now) (s .pre .1 .3) (some-left t (begun t q)) (long t s) (rw (c .enum-told .given .1) at (q .step .ensures .0)), q .step .ensures .1)
+search-from-element-write-cells-4 t c = placed t (choice t (c .before .before .before .before .before))
 
 search-from-returns-3 : (t : ℕ) → search-from-lts.Need-returns-3 (claims t) (search-from-at t) search-from.Post
 search-from-returns-3 t c =
     let q = c .before .before in
     let s = entry t q in
     let a = s .args in
-    (way-full (a .h * a .w) (a .left) (leaf t s) (a .cells .now) (a .facts .now) (s .pre .1 .3) (some-left t (begun t q)) (long t s) (rw (c .enum-told2 .given .1) at (q .step .ensures .0)), q .step .ensures .1)
+    (way-back (cellsBy (a .shape .now)) (a .left) (leaf t s) (a .cells .now) (a .facts .now) (s .pre .1 .2) (some-left t (begun t q)) (long t s) (rw (c .enum-told .given .1) at (q .step .ensures .0)), q .step .ensures .1)
 
 search-from-returns-4 : (t : ℕ) → search-from-lts.Need-returns-4 (claims t) (search-from-at t) search-from.Post
 search-from-returns-4 t c =
-    let f = c .before .before in
-    let d = choice t f in
-    let q = done t d in
+    let q = c .before .before in
     let s = entry t q in
     let a = s .args in
-    (way-exhausted (a .h * a .w) (a .left) (leaf t s) (a .cells .now) (a .facts .now) (s .pre .1 .3) (some-left t (begun t q)) (long t s) (meets t d) (c .enum-told3 .given .1) (f .search-from .ensures .0), f .search-from .ensures .1)
+    (way-full (cellsBy (a .shape .now)) (a .left) (leaf t s) (a .cells .now) (a .facts .now) (s .pre .1 .2) (some-left t (begun t q)) (long t s) (rw (c .enum-told2 .given .1) at (q .step .ensures .0)), q .step .ensures .1)
 
 search-from-returns-5 : (t : ℕ) → search-from-lts.Need-returns-5 (claims t) (search-from-at t) search-from.Post
 search-from-returns-5 t c =
-    let g = c .before .before .before .before .before in
-    let f = g .before .before in
+    let g = c .before .before .before .before in
+    let f = g .before in
     let d = choice t f in
     let q = done t d in
     let s = entry t q in
     let a = s .args in
-    (way-both (a .h * a .w) (a .left) (leaf t s) (a .cells .now) (a .facts .now) (s .pre .1 .3) (some-left t (begun t q)) (long t s) (meets t d) (g .first .given .1) (f .search-from .ensures .0) (c .search-from2 .ensures .0), c .search-from2 .ensures .1)
+    (way-both (cellsBy (a .shape .now)) (a .left) (leaf t s) (a .cells .now) (a .facts .now) (s .pre .1 .2) (some-left t (begun t q)) (long t s) (meets t d) (g .if2 .left) (f .search-from .ensures .0) (c .search-from2 .ensures .0), c .search-from2 .ensures .1)
 
 pub +search-from-spec : {M : Type 1} → statement M
 +search-from-spec = close μ-search-from λ t. search-from-lts.spec (claims t)
@@ -235,20 +223,17 @@ pub +search-from-spec : {M : Type 1} → statement M
     (search-from-returns t)
     (search-from-step-requires t)
     (search-from-enum-told t)
-    (search-from-sub-t24 t)
     (search-from-enum-told-2 t)
-    (search-from-sub-t25 t)
     (search-from-enum-known-met t)
     (search-from-element-write-cells t)
     (search-from-sub-search-from t)
     (search-from-search-from-requires t)
-    (search-from-enum-told-3 t)
     (search-from-element-write-cells-2 t)
-    (search-from-enum-known-first t)
+    (search-from-returns-2 t)
     (search-from-element-write-cells-3 t)
+    (search-from-sub-search-from-2 t)
     (search-from-search-from-requires-2 t)
     (search-from-element-write-cells-4 t)
-    (search-from-returns-2 t)
     (search-from-returns-3 t)
     (search-from-returns-4 t)
     (search-from-returns-5 t)

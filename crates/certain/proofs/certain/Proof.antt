@@ -1,8 +1,9 @@
 -- `certain::certain` meets its contract: the board is tested, and then its arrays tell.
 -- Assumes nothing.
 use native.Mathlib.Omega.{arith}
-use mathlib.Core.Path.{_≡_, sym, _∙_}
+use mathlib.Core.Path.{_≡_, refl, sym, _∙_}
 use mathlib.Core.Bool.{true}
+use lib.ListN.{take}
 use borrow.Author.Needs.{needs}
 use borrow.Author.Tests.{not-true, not-false}
 use Rattle.grid.specs.Grid.{size}
@@ -21,27 +22,21 @@ use Rattle.certain.proofs.certain.Tie as tie
 formed : (c : tie.Else1) → wellFormed (c .before .before .args .t1) ≡ true
 formed c = sym (c .before .well-formed .ensures) ∙ not-false _ (c .if1 .left)
 
--- where it was, seen from where the cells that are lent are counted
+-- where it was, seen from where the cells that are lent are counted, and that from before the board's arrays are asked
 abbrev tested : tie.After-lent-sizes → tie.Else1
 tested c = c .before .before .before .before
 
--- where they are counted, seen from behind the first sizes that are lent
-abbrev counted : tie.After-first-sizes → tie.After-lent-sizes
-counted c = c .before .before .before .before
+abbrev counted : tie.After-certain-cells-arg5 → tie.After-lent-sizes
+counted c = c .before .before .before .before .before .before .before
 
--- the sizes are lent, seen from before the board's arrays are asked
-lent : (c : tie.After-certain-cells-arg3)
-    → let h = c .before .before .before .before in
-    let l = h .before .before .before in
-    Lent (tested (counted l) .before .before .args .t1) (l .first-sizes .result .now) (h .first-sizes2 .result .now)
-lent c =
-    let h = c .before .before .before .before in
-    let l = h .before .before .before in
-    lent-by (tested (counted l) .before .before .args .t1) (counted l .lent-sizes .ensures) (l .first-sizes .ensures) (h .first-sizes2 .ensures)
+abbrev ready : tie.After-certain-cells-arg5 → tie.Else1
+ready c = tested (counted c)
 
--- where the board was found to be well formed, seen from there
-abbrev ready : tie.After-certain-cells-arg3 → tie.Else1
-ready c = tested (counted (c .before .before .before .before .before .before .before))
+-- the sizes are lent
+lent : (c : tie.After-certain-cells-arg5) → let b = ready c .before .before .args .t1 in
+    let n = counted c .lent-sizes .result in
+    Lent b (take n (b .lowest)) (take n (b .highest))
+lent c = lent-by (ready c .before .before .args .t1) (counted c .lent-sizes .ensures) refl refl
 
 well-formed-requires : tie.Need-well-formed-requires
 well-formed-requires c κs = search needs
@@ -63,23 +58,11 @@ mul-lent-sizes c =
 lent-sizes-requires : tie.Need-lent-sizes-requires
 lent-sizes-requires c κs = search needs
 
-first-sizes-requires : tie.Need-first-sizes-requires
-first-sizes-requires c κs =
-    let k = c .before .before .before in
-    let e = tested k in
-    lent-few (e .before .before .args .t1) (formed e) (k .lent-sizes .ensures) .0
-
-first-sizes-requires-2 : tie.Need-first-sizes-requires-2
-first-sizes-requires-2 c κs =
-    let k = counted (c .before .before) in
-    let e = tested k in
-    lent-few (e .before .before .args .t1) (formed e) (k .lent-sizes .ensures) .1
-
 certain-cells-requires : tie.Need-certain-cells-requires
 certain-cells-requires c κs =
     let e = ready c in
     let b = e .before .before .args .t1 in
-    (board-edition b (formed e), is-formed (b .problem) (whole-is b (formed e) .problem), board-states b (formed e), board-lent b (formed e) (lent c))
+    (board-edition b (formed e), is-formed (b .problem) (whole-is b (formed e) .problem), board-states b (formed e), rw (whole-is b (formed e) .sizes .lowest-long) at (lent-few b (formed e) (counted c .lent-sizes .ensures) .0), board-lent b (formed e) (lent c))
 
 returns-2 : tie.Need-returns-2
 unfolding gridOf size leafOn cellsOn
@@ -97,7 +80,5 @@ certain-spec =
     returns
     mul-lent-sizes
     lent-sizes-requires
-    first-sizes-requires
-    first-sizes-requires-2
     certain-cells-requires
     returns-2)

@@ -1,9 +1,10 @@
 -- `certain::certain_cells` meets its contract: what the search leaves of the budget, and what it gathered, is the answer.
 -- Assumes nothing.
 use Prim.Native.Nat.{ℕ, _*_}
+use native.Mathlib.Omega.{arith}
 use mathlib.Core.List.{List}
 use mathlib.Core.Path.{ap, _∙_}
-use lib.ListN.{length, length-replicate}
+use lib.ListN.{length, take, length-replicate}
 use borrow.Author.Needs.{needs}
 use Rattle.record.specs.Leaf.{Range}
 use Rattle.record.specs.Sizes.{GoodSizes, keptRanges}
@@ -24,17 +25,17 @@ problem s = problemOn (s .args .h) (s .args .w) (s .args .codes .now) (s .args .
 formed : (s : tie.Start) → Formed (problem s)
 formed s = formed-is (problem s) (s .pre .1)
 
--- the sizes that the slices hold
+-- the sizes that are lent
 abbrev ranges : tie.Start → List Range
-ranges s = keptRanges (s .args .lowest .now) (s .args .highest .now) (length (s .args .lowest .now))
+ranges s = let lows = take (s .args .sized) (s .args .lowest .now) in keptRanges lows (take (s .args .sized) (s .args .highest .now)) (length lows)
 
 good : (s : tie.Start) → GoodSizes (puzzleOf (problem s)) (ranges s)
 unfolding puzzleOf
-good s = kept-good (puzzleOf (problem s)) (s .args .h * s .args .w) (s .args .lowest .now) (s .args .highest .now) (s .pre .3)
+good s = kept-good (puzzleOf (problem s)) (s .args .h * s .args .w) (take (s .args .sized) (s .args .lowest .now)) (take (s .args .sized) (s .args .highest .now)) (s .pre .4)
 
 -- where nothing is known yet, seen from before the search and from behind it
 abbrev blank : tie.After-buffer → tie.After-nothing-known
-blank c = c .before .before .before .before
+blank c = c .before .before .before .before .before
 
 abbrev begun : tie.After-search-from → tie.After-nothing-known
 begun c = blank (c .before)
@@ -48,54 +49,51 @@ no-literals-requires c κs = search needs
 search-from-requires : tie.Need-search-from-requires
 search-from-requires c κs =
     let k = blank c in
-    let s = k .before .before .before in (
-      s .pre .0,
-      s .pre .1,
+    let s = k .before in (
+      record { byte = search needs; edition = s .pre .0; formed = s .pre .1; room = s .pre .3; sizes = s .pre .4 },
       s .pre .2,
       ap length (k .nothing-known .ensures) ∙ length-replicate {A = ℕ} 1024 3,
-      room-length (c .before .before .before .no-literals .ensures),
-      s .pre .3,
+      room-length (c .before .before .before .before .no-literals .ensures),
     )
-
-enum-told : tie.Need-enum-told
-enum-told c = search needs
 
 nothing-known-requires-2 : tie.Need-nothing-known-requires-2
 nothing-known-requires-2 c κs = search needs
 
-enum-known-left : tie.Need-enum-known-left
-enum-known-left c = search needs
-
-sub-steps : tie.Need-sub-steps
-sub-steps c =
-    let f = c .before .before .before in
-    let k = begun f in
-    let s = k .before .before .before in
-    rest-within (problem s) (formed s) (s .args .edition) (good s) (s .pre .2) (s .args .budget) (k .nothing-known .ensures) (f .search-from .ensures .0) (c .before .left .given .1)
-
-array-read-if1 : tie.Need-array-read-if1
-array-read-if1 c = search needs
-
 returns : tie.Need-returns
 returns c =
-    let f = c .before .before .before .before in
+    let f = c .before .before in
     let k = begun f in
-    let s = k .before .before .before in
-    (answer-none (problem s) (formed s) (s .args .edition) (good s) (s .pre .2) (s .args .budget) (k .nothing-known .ensures) (f .search-from .ensures .0) (c .before .before .left .given .1) (c .if1 .taken), f .search-from .ensures .0 .same)
+    let s = k .before in
+    (answer-spent (problem s) (formed s) (s .args .edition) (good s) (s .pre .2) (s .args .budget) (k .nothing-known .ensures) (f .search-from .ensures .0) (c .before .if1 .taken) (c .nothing-known2 .ensures), f .search-from .ensures .0 .same)
+
+sub-steps : tie.Need-sub-steps
+sub-steps c = omega (arith, c .if1 .left)
+
+sub-steps-2 : tie.Need-sub-steps-2
+sub-steps-2 c =
+    let f = c .before in
+    let k = begun f in
+    let s = k .before in
+    rest-within (problem s) (formed s) (s .args .edition) (good s) (s .pre .2) (s .args .budget) (k .nothing-known .ensures) (f .search-from .ensures .0) (c .if1 .left)
+
+array-read-if2 : tie.Need-array-read-if2
+array-read-if2 c = search needs
 
 returns-2 : tie.Need-returns-2
 returns-2 c =
-    let f = c .before .before .before in
+    let e = c .before in
+    let f = e .before in
     let k = begun f in
-    let s = k .before .before .before in
-    (answer-spent (problem s) (formed s) (s .args .edition) (good s) (s .pre .2) (s .args .budget) (k .nothing-known .ensures) (f .search-from .ensures .0) (c .before .enum-told .given .1) (c .nothing-known2 .ensures), f .search-from .ensures .0 .same)
+    let s = k .before in
+    (answer-none (problem s) (formed s) (s .args .edition) (good s) (s .pre .2) (s .args .budget) (k .nothing-known .ensures) (f .search-from .ensures .0) (e .if1 .left) (c .if2 .taken), f .search-from .ensures .0 .same)
 
 returns-3 : tie.Need-returns-3
 returns-3 c =
-    let f = c .before .before .before .before in
+    let e = c .before in
+    let f = e .before in
     let k = begun f in
-    let s = k .before .before .before in
-    (answer-told (problem s) (formed s) (s .args .edition) (good s) (s .pre .2) (s .args .budget) (k .nothing-known .ensures) (f .search-from .ensures .0) (c .before .before .left .given .1) (c .if1 .left), f .search-from .ensures .0 .same)
+    let s = k .before in
+    (answer-told (problem s) (formed s) (s .args .edition) (good s) (s .pre .2) (s .args .budget) (k .nothing-known .ensures) (f .search-from .ensures .0) (e .if1 .left) (c .if2 .left), f .search-from .ensures .0 .same)
 
 pub certain-cells-spec : {M : Type 1} → statement M
 certain-cells-spec =
@@ -104,11 +102,10 @@ certain-cells-spec =
     nothing-known-requires
     no-literals-requires
     search-from-requires
-    enum-told
     nothing-known-requires-2
-    enum-known-left
-    sub-steps
-    array-read-if1
     returns
+    sub-steps
+    sub-steps-2
+    array-read-if2
     returns-2
     returns-3)

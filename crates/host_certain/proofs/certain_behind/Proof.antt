@@ -25,11 +25,11 @@ abbrev long : tie.After-decide-in-order → tie.Else1
 long c = c .before .before
 
 abbrev begun : tie.After-decide-in-order → tie.Start
-begun c = c .before .before .before .before .before .before .before
+begun c = c .before .before .before .before .before
 
 -- the leaf that is held
 abbrev Held : tie.Start → Leaf → Type 0
-Held s l = Holds l (s .args .edition) (s .args .lowest .now) (s .args .highest .now) (s .args .h) (s .args .w) (s .args .arrows .now) (s .args .ends .now) (s .args .number)
+Held s l = Holds l (s .args .edition) (take (s .args .sized) (s .args .lowest .now)) (take (s .args .sized) (s .args .highest .now)) (s .args .h) (s .args .w) (s .args .arrows .now) (s .args .ends .now) (s .args .number)
 
 -- what deciding in order says
 decided : (c : tie.After-decide-in-order) (l : Leaf) → Held (begun c) l → Decides (l .puzzle .grid) (begun c .args .decisions .now) (c .decide-in-order .result) (c .decide-in-order .last .1 .1 .0)
@@ -44,17 +44,17 @@ abbrev placing : tie.After-enum-told → tie.After-decide-in-order
 placing c = c .before .before
 
 mul-if1 : tie.Need-mul-if1
-mul-if1 c = omega (arith, few (c .before .before .before .before))
+mul-if1 c = omega (arith, few (c .before .before))
 
 add-if1 : tie.Need-add-if1
-add-if1 c = omega (arith, few (c .before .before .before .before))
+add-if1 c = omega (arith, few (c .before .before))
 
 negated-requires : tie.Need-negated-requires
 negated-requires c κs = search needs
 
 returns : tie.Need-returns
 returns c =
-    let a = c .before .before .before .before .before .before .args in
+    let a = c .before .before .before .before .args in
     let n = c .negated in
     λ l x k.
     tells-refused _ 11 _ (a .output .now) (certain-short x (a .decisions .now) (a .budget) (length (a .output .now)) (c .before .if1 .taken))
@@ -65,7 +65,7 @@ mul-decide-in-order c = search needs
 
 decide-in-order-requires : tie.Need-decide-in-order-requires
 decide-in-order-requires c κs =
-    let s = c .before .before .before .before .before .before in
+    let s = c .before .before .before .before in
     ((s .pre .0 .puzzle, s .pre .1 .drawn .valid, sym (holds-size (s .pre .1))), refl)
 
 enum-told : tie.Need-enum-told
@@ -80,6 +80,7 @@ certain-cells-requires c κs =
       λ z. edition-not-0 (s .pre .0 .edition) (x .one) (sym (x .edition) ∙ z),
       holds-formed x (s .pre .2),
       left-states x (s .args .decisions .now) (decided p (s .pre .0) x) (t .enum-told .given .1),
+      s .pre .3,
       holds-on x,
     )
 

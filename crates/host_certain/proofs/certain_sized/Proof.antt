@@ -1,5 +1,6 @@
 -- `host_certain::certain_sized` meets its contract: the refusal of the sizes comes first, and then the answer with them.
 -- Assumes nothing.
+use Prim.Native.Nat.{_*_, _≤_}
 use native.Mathlib.Omega.{arith}
 use mathlib.Core.Path.{refl, _∙_}
 use lib.ListN.{length}
@@ -7,7 +8,7 @@ use mir.Syntax.{w32}
 use mir.ValLaws.{toZ-ofZ}
 use Rattle.sizes.specs.Bytes.{sizesIn}
 use Rattle.sizes.specs.Inside.{SizesRead}
-use Rattle.call.proofs.Holding.{holds-bare, holds-few, sized-refused, sizedLeaf, sized-asked, sized-long, sized-taken, sized-holds}
+use Rattle.call.proofs.Holding.{holds-bare, holds-few, sized-refused, sizedLeaf, sized-asked, sized-holds}
 use Rattle.host_certain.specs.Inside.{leafCertain}
 use Rattle.host_certain.proofs.ToldLaws.{tells-refused, tells-as}
 use borrow.Author.Needs.{needs}
@@ -24,6 +25,10 @@ reading c = c .before .before
 -- what was read, for the puzzle that is there
 read : (c : tie.After-read-size-bytes) → SizesRead (sizesIn (start c .pre .1 .0) (start c .args .sizes .now)) (c .read-size-bytes .last .1 .1 .1 .1 .0) (c .read-size-bytes .last .1 .1 .1 .1 .1 .0) (c .read-size-bytes .result)
 read c = c .read-size-bytes .ensures (start c .pre .1 .0) (start c .pre .1 .1)
+
+-- the cells are few
+few : (s : tie.Start) → s .args .h * s .args .w ≤ 1024
+few s = holds-few (holds-bare (s .pre .1 .0) (s .pre .1 .1) (s .pre .1 .2) (s .args .edition) (s .pre .0))
 
 read-size-bytes-requires : tie.Need-read-size-bytes-requires
 read-size-bytes-requires c κs = let s = c .before .before .before .before .before in ((s .pre .1 .0, s .pre .1 .1), refl, refl)
@@ -48,35 +53,8 @@ returns c =
 enum-told : tie.Need-enum-told
 enum-told c = search needs
 
-mul-n : tie.Need-mul-n
-mul-n c = let s = start (reading c) in omega (arith, holds-few (holds-bare (s .pre .1 .0) (s .pre .1 .1) (s .pre .1 .2) (s .args .edition) (s .pre .0)))
-
-array-share-prefix-lowest : tie.Need-array-share-prefix-lowest
-array-share-prefix-lowest c =
-    let r = reading c in
-    let s = start r in
-    sized-long (s .pre .1 .0) (s .pre .1 .1) (s .pre .1 .2) (s .args .edition) (s .pre .0) (s .args .sizes .now) (read r) (c .enum-told .given .1) .0
-
-slice-aggregate-certain-behind : tie.Need-slice-aggregate-certain-behind
-slice-aggregate-certain-behind c =
-    let t = c .before in
-    let r = reading t in
-    let s = start r in
-    sized-taken (s .pre .1 .0) (s .pre .1 .1) (s .pre .1 .2) (s .args .edition) (s .pre .0) (s .args .sizes .now) (read r) (t .enum-told .given .1) .0
-
-array-share-prefix-highest : tie.Need-array-share-prefix-highest
-array-share-prefix-highest c =
-    let t = c .before in
-    let r = reading t in
-    let s = start r in
-    sized-long (s .pre .1 .0) (s .pre .1 .1) (s .pre .1 .2) (s .args .edition) (s .pre .0) (s .args .sizes .now) (read r) (t .enum-told .given .1) .1
-
-slice-aggregate-certain-behind-2 : tie.Need-slice-aggregate-certain-behind-2
-slice-aggregate-certain-behind-2 c =
-    let t = c .before .before in
-    let r = reading t in
-    let s = start r in
-    sized-taken (s .pre .1 .0) (s .pre .1 .1) (s .pre .1 .2) (s .args .edition) (s .pre .0) (s .args .sizes .now) (read r) (t .enum-told .given .1) .1
+mul-certain-behind : tie.Need-mul-certain-behind
+mul-certain-behind c = let s = start (reading c) in omega (arith, few s)
 
 certain-behind-requires : tie.Need-certain-behind-requires
 certain-behind-requires c κs =
@@ -86,6 +64,7 @@ certain-behind-requires c κs =
       sizedLeaf (s .pre .1 .0) (s .pre .1 .1) (s .pre .1 .2) (s .args .edition) (s .pre .0) (s .args .sizes .now) (read r) (t .enum-told .given .1),
       sized-holds (s .pre .1 .0) (s .pre .1 .1) (s .pre .1 .2) (s .args .edition) (s .pre .0) (s .args .sizes .now) (read r) (t .enum-told .given .1),
       s .pre .1 .3,
+      few s,
     )
 
 same-length : tie.Need-same-length
@@ -114,11 +93,7 @@ certain-sized-spec =
     negated-requires
     returns
     enum-told
-    mul-n
-    array-share-prefix-lowest
-    slice-aggregate-certain-behind
-    array-share-prefix-highest
-    slice-aggregate-certain-behind-2
+    mul-certain-behind
     certain-behind-requires
     same-length
     returns-2)

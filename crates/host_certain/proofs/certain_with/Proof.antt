@@ -1,5 +1,6 @@
 -- `host_certain::certain_with` meets its contract: the record's refusals come first, then 16, then the answer behind them.
 -- Assumes nothing.
+use native.Mathlib.Omega.{arith}
 use mathlib.Core.Path.{_≡_, _∙_}
 use lib.ListN.{length}
 use mir.Syntax.{w32}
@@ -83,19 +84,13 @@ bare c = c .before .before .before .before .before .before .before
 abbrev sized : tie.After-certain-sized-arg4 → tie.Else2
 sized c = c .before .before .before .before .before
 
-slice-aggregate-certain-behind : tie.Need-slice-aggregate-certain-behind
-slice-aggregate-certain-behind c = search needs
-
-slice-aggregate-certain-behind-2 : tie.Need-slice-aggregate-certain-behind-2
-slice-aggregate-certain-behind-2 c = search needs
-
 certain-behind-requires : tie.Need-certain-behind-requires
 certain-behind-requires c κs =
     let i = bare c .before in
     let b = i .before in
     let r = reads (accepted b) in
     let a = start (reading (accepted b)) .args in
-    (inEdition (b .edition-of .result) (r .puzzle), opened-bare r (a .edition) (b .edition-of .ensures) (one i), reads-codes r)
+    (inEdition (b .edition-of .result) (r .puzzle), opened-bare r (a .edition) (b .edition-of .ensures) (one i), reads-codes r, omega arith)
 
 same-length : tie.Need-same-length
 same-length c = search needs
@@ -148,8 +143,6 @@ certain-with-spec =
     edition-of-requires
     negated-requires-2
     returns-2
-    slice-aggregate-certain-behind
-    slice-aggregate-certain-behind-2
     certain-behind-requires
     same-length
     returns-3
