@@ -5,3 +5,4 @@ pub mod StepLaws
 pub mod WayLaws
 pub mod AnswerLaws
 pub mod MeaningLaws
+pub mod WithoutSizes

@@ -2,3 +2,4 @@ pub mod ArrowSquares
 pub mod FinishedLaws
 pub mod TwoBlocks
 pub mod VerdictLaws
+pub mod WithoutSizes
