@@ -32,8 +32,7 @@ pub means-without : (e : ℕ) (p : Puzzle) (cells : List ℕ)
     × ((i j : ℕ) → Next p cells i j → Grown e (p .grid) (SameBlock (p .grid) cells i) (SameBlock (p .grid) cells j))
     × ((a : List ℕ) → List·Memᴰ a (p .arrows) → TwoSquares cells a))
 means-without e p cells =
-    let w = rules-without e p cells in
-    (
+    let w = rules-without e p cells in (
       λ f. let r = w .0 (f .rules) in (f .decided, f .kept, r .0, r .1, f .two),
       λ (d, k, one, grown, two). record { decided = d; kept = k; rules = w .1 (one, grown); two = two },
     )

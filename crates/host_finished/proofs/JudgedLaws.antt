@@ -4,7 +4,7 @@
 use Prim.Native.Nat.{ℕ, zero, suc, _*_}
 use native.Mathlib.Omega.{arith}
 use mathlib.Core.Logic.{_↔_}
-use mathlib.Core.Path.{_≡_, refl, sym}
+use mathlib.Core.Path.{_≡_, refl, sym, ap, _∙_}
 use mathlib.Core.Bool.{Bool, true, false}
 use mathlib.Core.List.{List, []}
 use lib.IntN.{pos, negℤ}
@@ -15,7 +15,6 @@ use Rattle.record.specs.Record.{Outcome, ok, refused, _>>=_, Puzzle, readRecord
 use Rattle.record.specs.Leaf.{Leaf, inEdition}
 use Rattle.record.specs.declared.Answer.{Answer}
 use Rattle.record.specs.declared.Answer.the-variants.{Done, Refused}
-use Rattle.record.proofs.RecordLaws.{record-valid}
 use Rattle.record.proofs.LeafLaws.{ValidLeaf}
 use Rattle.board.specs.Board.{cellsAfter}
 use Rattle.board.proofs.Standing.{none, cells-valid}
@@ -24,7 +23,7 @@ use Rattle.finished.proofs.FinishedLaws.{finished-means}
 use Rattle.call.specs.Call.{decideBytes, leafFrom}
 use Rattle.call.specs.Inside.{Decides, Holds}
 use Rattle.call.proofs.Opened.{with-none, from-valid}
-use Rattle.call.proofs.Steps.{bytes-standing, first-leaf, states-taken}
+use Rattle.call.proofs.Steps.{bytes-standing, states-taken}
 use Rattle.call.proofs.Holding.{holds-size, holds-few}
 use Rattle.host_finished.specs.Judged.{judgeOn, hostFinished, hostFinishedWith, judged, FinishedBy, FinishedWith}
 
@@ -93,21 +92,6 @@ module _ (decisions : List ℕ) where
     leaf-one ds d f = rw (d, means ds d .1 f) refl
 
   module _ (s : List ℕ) where
-    read-as : (r : Outcome Puzzle) → readRecord s ≡ r → judged (r >>= λ p. judgeOn decisions (inEdition 1 p)) ≡ pos 1 → FinishedBy s decisions
-    unfolding judged _>>=_
-    read-as (refused k) e h = absurd (never-one k h)
-    read-as (ok p) e h =
-        let y = leaf-yes (inEdition 1 p) (first-leaf p (record-valid s e)) (decideBytes (p .grid) [] decisions) refl h in
-        record { puzzle = p; reads = e; accepted = y .accepted; decides = y .decides; finished = y .finished }
-
-    -- the call returns 1 exactly where the record and the decisions are accepted and the board that they leave is finished
-    pub judged-exact : (judged (hostFinished s decisions) ≡ pos 1) ↔ FinishedBy s decisions
-    unfolding hostFinished _>>=_
-    judged-exact = (
-      λ e. read-as (readRecord s) refl e,
-      λ f. rw (f .reads) (leaf-one (inEdition 1 (f .puzzle)) (first-leaf (f .puzzle) (record-valid s (f .reads))) (f .accepted) (f .decides) (f .finished)),
-    )
-
     module _ (e : ℕ) (sizes : List ℕ) where
       opened-as : (o : Outcome Leaf) → leafFrom s e sizes ≡ o → judged (o >>= λ l. judgeOn decisions l) ≡ pos 1 → FinishedWith s e sizes decisions
       unfolding judged _>>=_
@@ -116,10 +100,41 @@ module _ (decisions : List ℕ) where
           let y = leaf-yes l (from-valid s e sizes q) (decideBytes (l .puzzle .grid) [] decisions) refl h in
           record { leaf = l; opens = q; accepted = y .accepted; decides = y .decides; finished = y .finished }
 
-      -- so it does in an edition with sizes
+      -- the call in an edition with sizes returns 1 exactly where the record, the edition, the sizes and the decisions are accepted and the board that they
+      -- leave is finished
       pub with-exact : (judged (hostFinishedWith s e sizes decisions) ≡ pos 1) ↔ FinishedWith s e sizes decisions
       unfolding hostFinishedWith _>>=_
       with-exact = (
         λ q. opened-as (leafFrom s e sizes) refl q,
         λ f. rw (f .opens) (leaf-one (f .leaf) (from-valid s e sizes (f .opens)) (f .accepted) (f .decides) (f .finished)),
       )
+
+    -- in edition 1 without sizes the leaf is that of the record alone
+    from-plain : leafFrom s 1 [] ≡ (readRecord s >>= λ p. ok (inEdition 1 p))
+    unfolding _>>=_
+    from-plain = sym (as-it-is (leafFrom s 1 [])) ∙ with-none (λ l. ok l) s
+      where
+        as-it-is : (o : Outcome Leaf) → (o >>= λ l. ok l) ≡ o
+        as-it-is (refused k) = refl
+        as-it-is (ok l) = refl
+
+    with-by : FinishedWith s 1 [] decisions → FinishedBy s decisions
+    unfolding _>>=_
+    with-by f = go (readRecord s) refl (sym (f .opens) ∙ from-plain)
+      where
+        go : (r : Outcome Puzzle) → readRecord s ≡ r → ok (f .leaf) ≡ (r >>= λ p. ok (inEdition 1 p)) → FinishedBy s decisions
+        go (refused k) e q = let z : _≡_ {A = ℕ} 0 1 = cc in absurd (omega arith)
+        go (ok p) e q =
+            let i : f .leaf ≡ inEdition 1 p = cc in
+            record { puzzle = p; reads = e; accepted = f .accepted; decides = rw i at (f .decides); finished = rw i at (f .finished) }
+
+    by-with : FinishedBy s decisions → FinishedWith s 1 [] decisions
+    unfolding _>>=_
+    by-with f = record { leaf = inEdition 1 (f .puzzle); opens = from-plain ∙ rw (f .reads) refl; accepted = f .accepted; decides = f .decides; finished = f .finished }
+
+    -- so does the call in edition 1 without sizes
+    pub judged-exact : (judged (hostFinished s decisions) ≡ pos 1) ↔ FinishedBy s decisions
+    judged-exact =
+        let same = ap judged (finished-plain s decisions) in
+        let w = with-exact 1 [] in
+        (λ e. with-by (w .0 (sym same ∙ e)), λ f. same ∙ w .1 (by-with f))
