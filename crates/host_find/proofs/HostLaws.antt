@@ -10,7 +10,6 @@ use Rattle.grid.specs.Side.{sized}
 use Rattle.grid.specs.Lists.{last, arrayOf}
 use Rattle.grid.specs.Cells.{Literal}
 use Rattle.record.specs.Record.{Outcome, ok, refused, Puzzle, readRecord, _>>=_}
-use Rattle.record.specs.Problem.{problemOf}
 use Rattle.record.specs.Leaf.{Leaf, leafWith, inEdition}
 use Rattle.record.specs.Sizes.{keptRanges}
 use Rattle.record.specs.declared.Answer.{Answer}

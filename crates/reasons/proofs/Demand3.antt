@@ -26,7 +26,7 @@ use Rattle.board.proofs.Standing.{Standing, calls-standing, standing-calls, cel
 use Rattle.board.proofs.BoardForm.{board-leaf}
 use Rattle.board.proofs.CallLaws.{standing-well, after-low, opened-left, after-calls}
 use Rattle.literals.specs.Literals.{Found}
-use Rattle.reasons.specs.Reasons.{findReason, findOn}
+use Rattle.reasons.specs.Reasons.{findOn}
 use Rattle.board.specs.Hints.{findRefusal, hintedBy, afterFind}
 use Rattle.reasons.specs.Find.{cellsOn, reasonOn, findOf, bufferAfter, literalOf, told, answerOn}
 use Rattle.literals.specs.Buffer.{findingBy, bufferBy}

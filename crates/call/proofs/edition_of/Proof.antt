@@ -1,8 +1,6 @@
 -- `call::edition_of` meets its contract.
 -- Assumes nothing.
 use mathlib.Core.Path.{refl}
-use mathlib.Core.Bool.{cond, _||_}
-use lib.Dec.{eqb}
 use Rattle.record.specs.Leaf.{isEdition}
 use Rattle.call.specs.Inside.{editionOf}
 use Rattle.call.proofs.EditionLaws.{edition-other}
