@@ -55,7 +55,7 @@ pub record TrueOf (n : ℕ) (S : List ℕ → Type 0) (f : Facts) : Type 0 where
 
 -- the record s in the edition e with the sizes ns, accepted as the leaf l, and a list of calls
 pub record CertainCells (s : List ℕ) (e : ℕ) (ns : List ℕ) (l : Leaf) (cs : List Call) : Type 0 where
-  -- the answer is that of the search from the standing decisions; in edition 1 so it is with the call for the outside
+  -- the answer is that of the search from the standing decisions; by the same search the calls for the outside answer, in edition 1 and in an edition with sizes
   pub search-is : (budget : ℕ)
       → certainOf (boardAfter s e ns cs) budget ≡ certainBy (size (l .puzzle .grid)) budget (search l (cellsAfter (l .puzzle .grid) (standing (l .puzzle) cs)))
   -- "for each cell, square in every finished board that agrees with the standing decisions, empty in every one, or open; or that there is no such board":

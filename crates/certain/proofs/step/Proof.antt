@@ -1,10 +1,9 @@
 -- `certain::step` meets its contract: find is asked, and then what lies beyond.
 -- Assumes nothing.
 use native.Mathlib.Omega.{arith}
-use Prim.Native.Nat.{_*_}
 use mathlib.Core.Path.{_∙_}
 use mathlib.Core.List.{List}
-use lib.ListN.{length, take}
+use lib.ListN.{take}
 use borrow.Author.Needs.{needs}
 use Rattle.grid.specs.Side.{sized}
 use Rattle.record.specs.Record.{Puzzle}
