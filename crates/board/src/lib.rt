@@ -78,7 +78,7 @@ pub struct Placed {
 }
 
 // Adds the decisions in the bytes, two bytes each, to a board of n cells that is known to be well formed, up to the first that is refused:
-// for `decide_all`, which has tested its board, and for a caller that has opened the board itself.
+// for `decide_all`, which has tested its board, and for `call::decide_in_order`, which has the arrays of a fresh one.
 pub fn place_all(
     cells: &mut [u8; 1024],
     order: &mut [u16; 1024],

@@ -91,9 +91,9 @@ fn check_arrows(
     }
 }
 
-// The first reason that applies, on the arrays of a board that is known to be well formed: for `find`, which has tested its board, and
-// for a caller that has opened the board itself. The slices have the lowest and the highest size of each cell, 0 for none; a board without
-// sizes lends empty ones.
+// The first reason that applies, on the arrays of a board that is known to be well formed: for `reasons`, `finished` and `certain`, which have
+// tested their board, and for what goes by an accepted record alone, as `host_find` does. The slices have the lowest and the highest size of
+// each cell, 0 for none; a board without sizes lends empty ones.
 pub fn find_inconsistency<'a>(
     edition: u8,
     lowest: &'a [u16],
