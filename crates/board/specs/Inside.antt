@@ -26,6 +26,19 @@ pub data Placing (n count word : ℕ) (cells order : List ℕ) : Answer → List
 abbrev pub freshOf : Problem → ℕ → List ℕ → List ℕ → Board
 freshOf q e low high = record { problem = q; edition = e; cells = replicate 1024 2; order = replicate 1024 0; decided = 0; hints = noHints; lowest = low; highest = high }
 
+-- the board of these numbers and arrays
+abbrev pub boardIn : ℕ → ℕ → ℕ → List ℕ → List ℕ → List ℕ → ℕ → List ℕ → List ℕ → ℕ → List ℕ → List ℕ → List ℕ → Board
+boardIn height width count codes arrows ends edition cells order decided hints low high = record {
+  problem = record { height = height; width = width; cells = codes; arrows = arrows; ends = ends; count = count };
+  edition = edition;
+  cells = cells;
+  order = order;
+  decided = decided;
+  hints = hints;
+  lowest = low;
+  highest = high;
+}
+
 -- the arrays are those of a well-formed board of n cells
 pub record Held (n decided : ℕ) (cells order : List ℕ) : Type 0 where
   pub board : Board

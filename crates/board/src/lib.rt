@@ -4,17 +4,18 @@ use record::Answer;
 use record::Problem;
 ghost use mathlib.Core.Path.{_≡_};
 ghost use mathlib.Core.Bool.{true};
+ghost use mathlib.Core.List.{List};
 ghost use Prim.Native.Nat.{ℕ, _≤_, _<_};
-ghost use lib.ListN.{getD, replicate};
+ghost use lib.ListN.{length, getD, replicate};
 ghost use Rattle.grid.specs.Grid.{size};
 ghost use Rattle.record.specs.Problem.{gridOf};
 ghost use Rattle.record.specs.Record.{refused};
 ghost use Rattle.record.specs.Leaf.{isEdition};
 ghost use Rattle.board.specs.Kept.{noHints, opening, openOf};
-ghost use Rattle.board.specs.Form.{wellFormed};
+ghost use Rattle.board.specs.Form.{Counts, wellFormed};
 ghost use Rattle.board.specs.Decide.{withDecisions, decideOf, undoOf, decideAllOf, placedFrom};
 ghost use Rattle.board.specs.Hints.{raised};
-ghost use Rattle.board.specs.Inside.{Placing, freshOf, Held};
+ghost use Rattle.board.specs.Inside.{Placing, freshOf, boardIn, Held};
 
 // A problem with its decisions. `edition` is 1, or 2 for free growth; `cells` has the state of each cell (0 empty, 1 square, 2 undecided), with 2 behind the grid;
 // `order` has the decided cells in the order decided, `decided` of them, with 0 behind; `hints` counts for each player, 0 to 3, that
@@ -195,6 +196,40 @@ pub fn raised(count: u16) -> u16
     count + 1
 }
 
+// Whether some list of calls on the board of some record leaves the board of these numbers and arrays. They are lent, so that a caller who asks it of a board
+// copies nothing. The counts of hints are not asked for: any will do.
+pub fn good_board<'a>(
+    height: usize,
+    width: usize,
+    count: usize,
+    codes: &'a [u8; 1024],
+    arrows: &'a [u16; 1024],
+    ends: &'a [u16; 1024],
+    edition: u8,
+    cells: &'a [u8; 1024],
+    order: &'a [u16; 1024],
+    decided: usize,
+    lowest: &'a [u16; 1024],
+    highest: &'a [u16; 1024],
+) -> bool
+    requires { ⌜ (length (now codes) ≡ 1024) × (length (now arrows) ≡ 1024) × (length (now ends) ≡ 1024) × (length (now cells) ≡ 1024) × (length (now order) ≡ 1024)
+        × (length (now lowest) ≡ 1024) × (length (now highest) ≡ 1024) ⌝ }
+    ensures { λ r. ⌜ ((hints : List ℕ) → Counts hints
+        → r ≡ wellFormed (boardIn height width count (now (codes .entry)) (now (arrows .entry)) (now (ends .entry)) edition (now (cells .entry)) (now (order .entry)) decided hints (now (lowest .entry)) (now (highest .entry)))) ⌝ }
+{
+    if !form::good_problem(height, width, count, codes, arrows, ends) {
+        return false;
+    }
+    let one = is_edition(edition);
+    if !one {
+        return false;
+    }
+    if !sizes::good_sizes(arrows, ends, count, lowest, highest) {
+        return false;
+    }
+    decisions::good_decisions(height * width, decided, cells, order)
+}
+
 impl Board {
     // The most cells that a grid has.
     pub const CELLS: usize = 32 * 32;
@@ -239,33 +274,21 @@ impl Board {
     pub fn well_formed(self) -> bool
         ensures { λ r. ⌜ r ≡ wellFormed self ⌝ }
     {
-        let height = self.problem.height;
-        let width = self.problem.width;
-        let count = self.problem.count;
-        if !form::good_problem(
-            height,
-            width,
-            count,
+        let decided = self.decided;
+        good_board(
+            self.problem.height,
+            self.problem.width,
+            self.problem.count,
             &self.problem.cells,
             &self.problem.arrows,
             &self.problem.ends,
-        ) {
-            return false;
-        }
-        if !is_edition(self.edition) {
-            return false;
-        }
-        let sized = sizes::good_sizes(
-            &self.problem.arrows,
-            &self.problem.ends,
-            count,
+            self.edition,
+            &self.cells,
+            &self.order,
+            decided,
             &self.lowest,
             &self.highest,
-        );
-        if !sized {
-            return false;
-        }
-        decisions::good_decisions(height * width, self.decided, &self.cells, &self.order)
+        )
     }
 
     // Adds a standing decision. Refused: 6 a board that no list of calls could leave, 7 an index off the grid, 8 a value above 1,

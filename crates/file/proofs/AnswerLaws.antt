@@ -4,11 +4,10 @@ use Prim.Native.Nat.{ℕ, suc, _+_, _*_, _≤_, _<_}
 use native.Mathlib.Omega.{arith}
 use mathlib.Core.Path.{_≡_, refl, sym, ap, _∙_}
 use mathlib.Core.Bool.{Bool, true, false}
-use mathlib.Core.List.{List, [], _∷_, _++_, append-assoc}
+use mathlib.Core.List.{List, [], _∷_, _++_}
 use lib.Dec.{leb}
 use lib.IntN.{ℤ, pos, negℤ}
-use lib.ListN.{length, getD, take, drop, set, length-append, length-drop}
-use lib.Seq.{take-suc, length-take-le, drop-cons, set-at}
+use lib.ListN.{length, take, drop, set}
 use borrow.Author.Tests.{le-leb, lt-leb, leb-true}
 use Rattle.grid.specs.Lists.{arrayOf}
 use Rattle.grid.specs.Grid.{size}
@@ -161,24 +160,10 @@ grade-alone grade k old = let m : 1 + k ≡ suc k = omega arith in rw m (go old)
 pub grade-put : (grade : ℕ) (old : List ℕ) → 1 ≤ length old → set old 0 grade ≡ (grade ∷ []) ++ drop 1 old
 grade-put grade old h = grade-first grade old h ∙ ap (λ (l : List ℕ). grade ∷ l) (grade-alone grade 0 old)
 
-module _ (grade : ℕ) (cells old : List ℕ) where
-  -- the next cell
-  pub cell-next : (k : ℕ) → k < length cells → 1 + k < length old → set ((grade ∷ take k cells) ++ drop (1 + k) old) (1 + k) (getD cells k 0) ≡ (grade ∷ take (k + 1) cells) ++ drop (1 + (k + 1)) old
-  cell-next k h r =
-      let e : length (grade ∷ take k cells) ≡ 1 + k = omega (arith, length-take-le k cells (omega arith)) in
-      let m : 1 + (k + 1) ≡ suc (1 + k) = omega arith in
-      let j : k + 1 ≡ suc k = omega arith in
-      rw (
-        drop-cons old (1 + k) 0 r,
-        set-at (grade ∷ take k cells) (getD old (1 + k) 0) (drop (suc (1 + k)) old) (getD cells k 0) (1 + k) e,
-        m,
-        j,
-        take-suc cells k 0 h,
-      ) (simp append-assoc)
-
-  -- the output stays as long as it was
-  pub cells-length : (k : ℕ) → k ≤ length cells → 1 + k ≤ length old → length ((grade ∷ take k cells) ++ drop (1 + k) old) ≡ length old
-  cells-length k h r = simp (length-append, length-drop) (omega (arith, length-take-le k cells h))
+-- the grade, and behind it n cells
+pub grade-cells : (grade n : ℕ) (cells old : List ℕ) → 1 ≤ length old → (take 1 (set old 0 grade) ++ take n cells) ++ drop (1 + n) (set old 0 grade) ≡ (grade ∷ take n cells) ++ drop (1 + n) old
+grade-cells grade n cells [] h = absurd (omega arith)
+grade-cells grade n cells (x ∷ old) h = ap (λ (l : List ℕ). (grade ∷ take n cells) ++ l) (grade-alone grade n (x ∷ old))
 
 -- ---- the exported calls
 

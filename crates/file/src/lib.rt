@@ -3,6 +3,7 @@
 use call::edition_of;
 use exported::counted;
 use exported::negated;
+use exported::write_behind;
 use record::Answer;
 use record::Problem;
 ghost use mathlib.Core.Path.{_≡_};
@@ -199,11 +200,7 @@ fn write_solution(grade: u8, cells: &[u8; 1024], n: usize, output: &mut [u8])
     ensures { λ _. ⌜ now (output .exit) ≡ (grade ∷ take n (now (cells .entry))) ++ drop (1 + n) (now (output .entry)) ⌝ }
 {
     output[0] = grade;
-    let mut i = 0;
-    while i < n {
-        output[1 + i] = cells[i];
-        i += 1;
-    }
+    write_behind(cells, n, 1, output);
 }
 
 // Reads a file for the player: returns the record's length in bytes and writes the grade to the output's first byte; or the negated number of a

@@ -1,12 +1,12 @@
 -- The call for the cells that are certain, step by step, and the bytes that it writes.
 -- Assumes nothing.
-use Prim.Native.Nat.{ℕ, suc, _+_, _*_, _≤_, _<_}
+use Prim.Native.Nat.{ℕ, _+_, _*_, _≤_, _<_}
 use native.Mathlib.Omega.{arith}
 use mathlib.Core.Path.{_≡_, refl, sym, ap, _∙_}
-use mathlib.Core.List.{List, [], _∷_, _++_, append-nil, append-assoc}
+use mathlib.Core.List.{List, [], _++_}
 use lib.IntN.{ℤ, pos, negℤ}
-use lib.ListN.{length, getD, set, take, drop, take-append-drop, length-append, length-drop}
-use lib.Seq.{take-suc, drop-cons, set-at, take-at, drop-at, drop-drop, length-take-le}
+use lib.ListN.{length, take, drop, length-append}
+use lib.Seq.{take-at, drop-at, drop-drop, length-take-le}
 use Rattle.grid.specs.Grid.{Grid, size}
 use Rattle.grid.specs.Cells.{Literal}
 use Rattle.grid.specs.Lists.{flatMap, arrayOf}
@@ -29,32 +29,6 @@ use Rattle.host_certain.specs.Inside.{leafCertain}
 use Rattle.call.specs.Inside.{Decides, Holds}
 use Rattle.call.proofs.Steps.{bytes-standing, states-taken, call-short, call-refused, call-done, call-plain}
 use Rattle.call.proofs.Holding.{holds-size, holds-few}
-
--- ---- the bytes
-
--- the next byte behind those written
-byte-next : (front out : List ℕ) (n a : ℕ) → length front ≡ n → n < length out → set (front ++ drop n out) n a ≡ (front ++ (a ∷ [])) ++ drop (suc n) out
-byte-next front out n a e h = rw (drop-cons out n 0 h, set-at front (getD out n 0) (drop (suc n) out) a n e) (sym (append-assoc front (a ∷ []) (drop (suc n) out)))
-
-module _ (facts out : List ℕ) (k : ℕ) where
-  front-length : k ≤ length facts → 8 ≤ length out → length (take 8 out ++ take k facts) ≡ 8 + k
-  front-length h r = simp length-append (omega (arith, length-take-le 8 out r, length-take-le k facts h))
-
-  -- the next cell
-  pub facts-next : k < length facts → 8 + k < length out → set ((take 8 out ++ take k facts) ++ drop (8 + k) out) (8 + k) (getD facts k 0) ≡ (take 8 out ++ take (k + 1) facts) ++ drop (8 + (k + 1)) out
-  facts-next h r =
-      let m : 8 + (k + 1) ≡ suc (8 + k) = omega arith in
-      let j : k + 1 ≡ suc k = omega arith in
-      byte-next (take 8 out ++ take k facts) out (8 + k) (getD facts k 0) (front-length (omega arith) (omega arith)) r
-      ∙ rw (m, j, take-suc facts k 0 h) (ap (λ (z : List ℕ). z ++ drop (suc (8 + k)) out) (append-assoc (take 8 out) (take k facts) (getD facts k 0 ∷ [])))
-
-  -- the output stays as long as it was
-  pub facts-length : k ≤ length facts → 8 + k ≤ length out → length ((take 8 out ++ take k facts) ++ drop (8 + k) out) ≡ length out
-  facts-length h r = simp (length-append, length-drop) (omega (arith, length-take-le 8 out (omega arith), length-take-le k facts h))
-
--- nothing is written yet
-pub facts-begin : (facts out : List ℕ) → out ≡ (take 8 out ++ take 0 facts) ++ drop (8 + 0) out
-facts-begin facts out = rw (append-nil (take 8 out)) (sym (take-append-drop 8 out))
 
 -- ---- what is said
 

@@ -3,6 +3,7 @@
 use certain::Certainty;
 use certain::Facts;
 use exported::negated;
+use exported::write_behind;
 use exported::write_numbers;
 use record::Answer;
 ghost use mathlib.Core.Path.{_≡_};
@@ -34,19 +35,7 @@ fn write_steps(steps: u64, output: &mut [u8])
     write_numbers(&words, 4, output);
 }
 
-// Writes what is known of the first n cells to the output behind the number of steps, one byte a cell.
-fn write_facts(facts: &[u8; 1024], n: usize, output: &mut [u8])
-    requires { ⌜ (length (now facts) ≡ 1024) × (n ≤ 1024) × (8 + n ≤ length (now output)) ⌝ }
-    ensures { λ _. ⌜ now (output .exit) ≡ (take 8 (now (output .entry)) ++ take n (now (facts .entry))) ++ drop (8 + n) (now (output .entry)) ⌝ }
-{
-    let mut k = 0;
-    while k < n {
-        output[8 + k] = facts[k];
-        k += 1;
-    }
-}
-
-// Writes an answer for n cells to the output, which is long enough: the steps, and the cells where they are told. Returns the answer's number.
+// Writes an answer for n cells to the output, which is long enough: the steps, and behind them the cells where they are told, one byte a cell. Returns the answer's number.
 fn write_certain(facts: Facts, n: usize, output: &mut [u8]) -> i32
     requires { ⌜ (n ≤ 1024) × (8 + n ≤ length (now output)) ⌝ }
     ensures { λ r. ⌜ (r ≡ saidNumber (ok (saidOf n facts))) × (now (output .exit) ≡ outputWith (saidBytes (ok (saidOf n facts))) (now (output .entry))) ⌝ }
@@ -55,7 +44,7 @@ fn write_certain(facts: Facts, n: usize, output: &mut [u8]) -> i32
     match answer {
         Certainty::Told => {
             write_steps(facts.steps, output);
-            write_facts(&facts.cells, n, output);
+            write_behind(&facts.cells, n, 8, output);
             0
         }
         Certainty::Impossible => {

@@ -60,7 +60,22 @@ pub fn find(board: Board, player: u8, buffer: &mut [u16]) -> Asked
     ensures { λ r. ⌜ (r .finding ≡ findOf board player (now (buffer .entry))) × (r .board ≡ afterFind board player (length (now (buffer .entry))))
         × (now (buffer .exit) ≡ bufferAfter board player (now (buffer .entry))) ⌝ }
 {
-    if !board.well_formed() {
+    let decided = board.decided;
+    let good = board::good_board(
+        board.problem.height,
+        board.problem.width,
+        board.problem.count,
+        &board.problem.cells,
+        &board.problem.arrows,
+        &board.problem.ends,
+        board.edition,
+        &board.cells,
+        &board.order,
+        decided,
+        &board.lowest,
+        &board.highest,
+    );
+    if !good {
         return Asked {
             finding: Finding::Refused(6),
             board,

@@ -14,18 +14,18 @@ use Rattle.record.specs.Record.{Puzzle}
 use Rattle.record.specs.Leaf.{Range}
 use Rattle.record.specs.Sizes.{sizedCells, Proper, GoodSizes, keptAt, keptBy, keptRanges}
 use Rattle.groups.proofs.ArrowLaws.{arrow-so}
-use Rattle.sized.specs.Inside.{rangeAt, SizesOn}
+use Rattle.sized.specs.Inside.{rangeIn, SizesOn}
 
 module _ (lows highs : List ℕ) where
   abbrev at : ℕ → List Range
   at = keptAt (λ i. getD lows i 0) (λ i. getD highs i 0)
 
   -- the range of a cell, where its lowest size is not 0
-  at-mem : (i : ℕ) (r : Range) → List·Memᴰ r (at i) → (r ≡ rangeAt lows highs i) × (getD lows i 0 ≡ 0 → ⊥)
+  at-mem : (i : ℕ) (r : Range) → List·Memᴰ r (at i) → (r ≡ rangeIn lows highs i) × (getD lows i 0 ≡ 0 → ⊥)
   unfolding keptAt
   at-mem i r m = go (eqb (getD lows i 0) 0) refl m
     where
-      go : (t : Bool) → eqb (getD lows i 0) 0 ≡ t → List·Memᴰ r (cond t [] (rangeAt lows highs i ∷ [])) → (r ≡ rangeAt lows highs i) × (getD lows i 0 ≡ 0 → ⊥)
+      go : (t : Bool) → eqb (getD lows i 0) 0 ≡ t → List·Memᴰ r (cond t [] (rangeIn lows highs i ∷ [])) → (r ≡ rangeIn lows highs i) × (getD lows i 0 ≡ 0 → ⊥)
       go true e k = absurd (List·Memᴰ·not-nil k)
       go false e k = (List·Memᴰ·eq-of-singleton k, eqb-false (getD lows i 0) 0 e)
 
@@ -41,7 +41,7 @@ module _ (lows highs : List ℕ) where
   rises zero a = nil
   rises (suc k) a = go (eqb (getD lows a 0) 0) (rises k (suc a))
     where
-      go : (t : Bool) → Rising (sizedCells (flatMap at (range (suc a) k))) → Rising (sizedCells (cond t [] (rangeAt lows highs a ∷ []) ++ flatMap at (range (suc a) k)))
+      go : (t : Bool) → Rising (sizedCells (flatMap at (range (suc a) k))) → Rising (sizedCells (cond t [] (rangeIn lows highs a ∷ []) ++ flatMap at (range (suc a) k)))
       go true up = up
       go false up = cons {x = a} (λ y m. behind y (not-below k (suc a) y m)) up
         where

@@ -28,7 +28,7 @@ use Rattle.growth.specs.Growth.{blockName, cellFence}
 use Rattle.growth.specs.Pairs.{viewOn}
 use Rattle.growth.proofs.PairNames.{owner-is, name-inside, name-code}
 use Rattle.sized.specs.Sized.{reasonLow, reasonHigh, reason5At, reason5}
-use Rattle.sized.specs.Inside.{Measured, too-low, too-high, within, rangeAt, sizeAt, SizesOn, Board}
+use Rattle.sized.specs.Inside.{Measured, too-low, too-high, within, rangeIn, reason5In, SizesOn, Board}
 use Rattle.sized.specs.declared.Measure.the-variants.{Within, Low, High}
 
 -- ---- a board without sizes
@@ -60,30 +60,30 @@ module _ (v : View) (lows highs : List ℕ) where
   abbrev filled : Range → Bool
   filled r = square (v .cells) (r .cell)
 
-  at-cell : (i : ℕ) → firstOf (reason5At v) (filter filled (keptAt low high i)) ≡ sizeAt v lows highs i
-  unfolding keptAt firstOf filter sizeAt
+  at-cell : (i : ℕ) → firstOf (reason5At v) (filter filled (keptAt low high i)) ≡ reason5In v lows highs i
+  unfolding keptAt firstOf filter reason5In
   at-cell i = go (eqb (low i) 0)
     where
-      two : (b : Bool) → firstOf (reason5At v) (cond b (rangeAt lows highs i ∷ []) []) ≡ cond b (reason5At v (rangeAt lows highs i)) none
-      two true = or-none (reason5At v (rangeAt lows highs i))
+      two : (b : Bool) → firstOf (reason5At v) (cond b (rangeIn lows highs i ∷ []) []) ≡ cond b (reason5At v (rangeIn lows highs i)) none
+      two true = or-none (reason5At v (rangeIn lows highs i))
       two false = refl
 
-      go : (a : Bool) → firstOf (reason5At v) (filter filled (cond a [] (rangeAt lows highs i ∷ []))) ≡ cond a none (cond (square (v .cells) i) (reason5At v (rangeAt lows highs i)) none)
+      go : (a : Bool) → firstOf (reason5At v) (filter filled (cond a [] (rangeIn lows highs i ∷ []))) ≡ cond a none (cond (square (v .cells) i) (reason5At v (rangeIn lows highs i)) none)
       go true = refl
       go false = two (square (v .cells) i)
 
-  through : (l : List ℕ) → firstOf (reason5At v) (filter filled (flatMap (keptAt low high) l)) ≡ firstOf (sizeAt v lows highs) l
+  through : (l : List ℕ) → firstOf (reason5At v) (filter filled (flatMap (keptAt low high) l)) ≡ firstOf (reason5In v lows highs) l
   unfolding flatMap firstOf filter
   through [] = refl
   through (i ∷ l) =
       ap (firstOf (reason5At v)) (filter-append filled (keptAt low high i) (flatMap (keptAt low high) l))
       ∙ first-append (reason5At v) (filter filled (keptAt low high i)) (filter filled (flatMap (keptAt low high) l))
       ∙ ap (λ (x : Found). orElse x (firstOf (reason5At v) (filter filled (flatMap (keptAt low high) l)))) (at-cell i)
-      ∙ ap (orElse (sizeAt v lows highs i)) (through l)
+      ∙ ap (orElse (reason5In v lows highs i)) (through l)
 
   -- the first reason among the cells from i on, below n
   abbrev pub ahead : ℕ → ℕ → Found
-  ahead n i = firstOf (sizeAt v lows highs) (range i (n - i))
+  ahead n i = firstOf (reason5In v lows highs) (range i (n - i))
 
   -- from the first cell on it is reason 5 of the sizes
   pub ahead-all : (n : ℕ) → reason5 v (keptRanges lows highs n) ≡ ahead n 0
@@ -96,17 +96,17 @@ module _ (v : View) (lows highs : List ℕ) where
   ahead-end n i h = let z : n - i ≡ 0 = omega arith in rw z refl
 
   module _ (n i : ℕ) (h : i < n) where
-    ahead-split : ahead n i ≡ orElse (sizeAt v lows highs i) (ahead n (i + 1))
+    ahead-split : ahead n i ≡ orElse (reason5In v lows highs i) (ahead n (i + 1))
     unfolding firstOf range
     ahead-split = let z : n - i ≡ suc (n - (i + 1)) = omega arith in rw (z, ← add-one i) refl
 
     -- the cell gives none, or the reason
-    pub ahead-more : {b a : List ℕ} → FoundAs (sizeAt v lows highs i) b a Nothing → ahead n i ≡ ahead n (i + 1)
+    pub ahead-more : {b a : List ℕ} → FoundAs (reason5In v lows highs i) b a Nothing → ahead n i ≡ ahead n (i + 1)
     unfolding orElse
-    ahead-more x = ahead-split ∙ rw (nothing-found (sizeAt v lows highs i) x .0) refl
+    ahead-more x = ahead-split ∙ rw (nothing-found (reason5In v lows highs i) x .0) refl
 
-    pub ahead-found : {b a : List ℕ} {k : ℕ} → FoundAs (sizeAt v lows highs i) b a (Reason k) → FoundAs (ahead n i) b a (Reason k)
-    ahead-found x = rw ahead-split (found-first (sizeAt v lows highs i) (ahead n (i + 1)) x)
+    pub ahead-found : {b a : List ℕ} {k : ℕ} → FoundAs (reason5In v lows highs i) b a (Reason k) → FoundAs (ahead n i) b a (Reason k)
+    ahead-found x = rw ahead-split (found-first (reason5In v lows highs i) (ahead n (i + 1)) x)
 
 -- ---- a cell
 
@@ -133,13 +133,13 @@ module _ {h w : ℕ} {lines : List (List ℕ)} {lows highs cells kinds owners : 
   board-square = square-taken cells (h * w) i on
 
   -- no sizes, or not square
-  pub not-sized : getD lows i 0 ≡ 0 → (c : List ℕ) → FoundAs (sizeAt board lows highs i) c c Nothing
-  unfolding sizeAt
+  pub not-sized : getD lows i 0 ≡ 0 → (c : List ℕ) → FoundAs (reason5In board lows highs i) c c Nothing
+  unfolding reason5In
   not-sized z c = rw (eq-eqb (getD lows i 0) 0 z) (found-none c)
 
   module _ (sizes : getD lows i 0 ≡ 0 → ⊥) where
-    pub not-square : square cells i ≡ false → (c : List ℕ) → FoundAs (sizeAt board lows highs i) c c Nothing
-    unfolding sizeAt
+    pub not-square : square cells i ≡ false → (c : List ℕ) → FoundAs (reason5In board lows highs i) c c Nothing
+    unfolding reason5In
     not-square z c = rw (ne-eqb (getD lows i 0) 0 sizes, board-square ∙ z) (found-none c)
 
     module _ (filled : square cells i ≡ true) where
@@ -160,25 +160,25 @@ module _ {h w : ℕ} {lines : List (List ℕ)} {lows highs cells kinds owners : 
       size-kind = rw (size-owner, b .held .kind) (name-code (puzzleWith (sized h w) lines) (take (h * w) cells) i on taken (b .sizes .on-arrow i inside sizes))
 
       -- reason 5 for the cell is the one given
-      size-is : sizeAt board lows highs i ≡ reason5At board (rangeAt lows highs i)
-      unfolding sizeAt
+      size-is : reason5In board lows highs i ≡ reason5At board (rangeIn lows highs i)
+      unfolding reason5In
       size-is = rw (ne-eqb (getD lows i 0) 0 sizes, board-square ∙ filled) refl
 
       module _ {f : ℕ} (e : f ≡ getD owners i 0) {c : List ℕ} where
         -- the reach of its block is smaller than the lowest
-        pub low-found : length (reach board f) < getD lows i 0 → {a : List ℕ} {k : ℕ} → Wrote (cellFence board i f) c a k → FoundAs (sizeAt board lows highs i) c a (Reason k)
+        pub low-found : length (reach board f) < getD lows i 0 → {a : List ℕ} {k : ℕ} → Wrote (cellFence board i f) c a k → FoundAs (reason5In board lows highs i) c a (Reason k)
         unfolding reason5At reasonLow reasonIf orElse
         low-found t x =
             rw (size-is, ← (e ∙ size-owner), lt-ltb (length (reach board f)) (getD lows i 0) t) (wrote-found x)
 
         module _ (enough : getD lows i 0 ≤ length (reach board f)) where
           -- the block is not larger than the highest, or it is
-          pub size-none : length (block board f) ≤ getD highs i 0 → FoundAs (sizeAt board lows highs i) c c Nothing
+          pub size-none : length (block board f) ≤ getD highs i 0 → FoundAs (reason5In board lows highs i) c c Nothing
           unfolding reason5At reasonLow reasonHigh reasonIf orElse
           size-none t =
               rw (size-is, ← (e ∙ size-owner), le-ltb (length (reach board f)) (getD lows i 0) enough, le-ltb (getD highs i 0) (length (block board f)) t) (found-none c)
 
-          pub high-found : getD highs i 0 < length (block board f) → {a : List ℕ} {k : ℕ} → Wrote (each 1 (block board f)) c a k → FoundAs (sizeAt board lows highs i) c a (Reason k)
+          pub high-found : getD highs i 0 < length (block board f) → {a : List ℕ} {k : ℕ} → Wrote (each 1 (block board f)) c a k → FoundAs (reason5In board lows highs i) c a (Reason k)
           unfolding reason5At reasonLow reasonHigh reasonIf orElse
           high-found t x =
               rw (size-is, ← (e ∙ size-owner), le-ltb (length (reach board f)) (getD lows i 0) enough, lt-ltb (getD highs i 0) (length (block board f)) t) (wrote-found x)

@@ -8,7 +8,7 @@ use mathlib.Core.Option.{none}
 use lib.Dec.{eqb}
 use lib.ListN.{length, getD}
 use Rattle.grid.specs.Cells.{square}
-use Rattle.record.specs.Leaf.{Range}
+use Rattle.record.specs.Leaf.{Range, rangeAt}
 use Rattle.groups.specs.Arrows.{onArrow}
 use Rattle.kinds.specs.Kinds.{View}
 use Rattle.kinds.specs.Inside.{Held}
@@ -25,12 +25,12 @@ pub data Measured (low high reach size : ℕ) : Measure → Type 0 where
   within : low ≤ reach → size ≤ high → Measured low high reach size Within
 
 -- the range of the cell i in two arrays
-abbrev pub rangeAt : List ℕ → List ℕ → ℕ → Range
-rangeAt lows highs i = record { cell = i; lowest = getD lows i 0; highest = getD highs i 0 }
+abbrev pub rangeIn : List ℕ → List ℕ → ℕ → Range
+rangeIn lows highs i = rangeAt i (getD lows i 0) (getD highs i 0)
 
 -- reason 5 for the cell i, if it has sizes and is square
-unfoldable pub sizeAt : View → List ℕ → List ℕ → ℕ → Found
-sizeAt v lows highs i = cond (eqb (getD lows i 0) 0) none (cond (square (v .cells) i) (reason5At v (rangeAt lows highs i)) none)
+unfoldable pub reason5In : View → List ℕ → List ℕ → ℕ → Found
+reason5In v lows highs i = cond (eqb (getD lows i 0) 0) none (cond (square (v .cells) i) (reason5At v (rangeIn lows highs i)) none)
 
 -- the slices hold sizes for cells of a board of n cells with these arrows: each sized cell is an arrow cell, and no range is upside down
 pub record SizesOn (n : ℕ) (lines : List (List ℕ)) (lows highs : List ℕ) : Type 0 where

@@ -8,7 +8,7 @@ ghost use Rattle.record.specs.Sizes.{keptRanges};
 ghost use Rattle.literals.specs.Inside.{FoundAs, Fit};
 ghost use Rattle.growth.specs.Pairs.{viewOn, Grouped};
 ghost use Rattle.sized.specs.Sized.{reason5};
-ghost use Rattle.sized.specs.Inside.{Measured, sizeAt, Board, SizedBoard};
+ghost use Rattle.sized.specs.Inside.{Measured, reason5In, Board, SizedBoard};
 
 // A block against the sizes of its cell: it may come to lie within them, its reach is too small, or it is too large.
 enum Measure {
@@ -51,7 +51,7 @@ fn check_size(
     requires { ⌜ Fit h w (now buffer) × SizedBoard h w (now lowest) (now highest) (now cells) (now kinds) (now owners) × (i < length (now lowest))
         × Grouped (now kinds) (now owners) (now head) (now next) (now sizes) (now squares) (h * w) × (length (now groups) ≡ 1024) ⌝ }
     ensures { λ r. ⌜ ((lines : List (List ℕ)) → Board h w lines (now (lowest .entry)) (now (highest .entry)) (now (cells .entry)) (now (kinds .entry)) (now (owners .entry))
-        → FoundAs (sizeAt (viewOn h w lines (now (cells .entry))) (now (lowest .entry)) (now (highest .entry)) i) (now (buffer .entry)) (now (buffer .exit)) r) ⌝ }
+        → FoundAs (reason5In (viewOn h w lines (now (cells .entry))) (now (lowest .entry)) (now (highest .entry)) i) (now (buffer .entry)) (now (buffer .exit)) r) ⌝ }
     ensures { λ r. ⌜ length (now (groups .exit)) ≡ 1024 ⌝ }
 {
     let low = grid::wide(lowest[i]);

@@ -20,8 +20,8 @@ enum-told c = search needs
 write-steps-requires : tie.Need-write-steps-requires
 write-steps-requires c κs = search needs
 
-write-facts-requires : tie.Need-write-facts-requires
-write-facts-requires c κs =
+write-behind-requires : tie.Need-write-behind-requires
+write-behind-requires c κs =
     let s = c .before .before .before .before .before .before .before .before .before .before in
     (long s, s .pre .0, omega (arith, s .pre .1, c .before .before .before .before .output .given))
 
@@ -52,7 +52,7 @@ returns c =
     let p = w .before .before .before .before .before .before in
     let t = p .before .before in
     let s = t .before .before .before in
-    says-told (s .args .n) (s .args .t1) (s .args .output .now) (t .enum-told .given .1) (omega (arith, s .pre .0, long s)) (p .write-steps .ensures) (w .write-facts .ensures)
+    says-told (s .args .n) (s .args .t1) (s .args .output .now) (t .enum-told .given .1) (omega (arith, s .pre .0, long s)) (p .write-steps .ensures) (w .write-behind .ensures)
 
 same-length-2 : tie.Need-same-length-2
 same-length-2 c = search needs
@@ -87,7 +87,7 @@ write-certain-spec =
     (tie.spec
     enum-told
     write-steps-requires
-    write-facts-requires
+    write-behind-requires
     enum-told-2
     write-steps-requires-2
     enum-told-3

@@ -2,7 +2,6 @@
 -- Assumes nothing.
 use mathlib.Core.Path.{refl, sym, _∙_}
 use borrow.Author.Needs.{needs}
-use borrow.Author.Tests.{not-true, not-false}
 use Rattle.reasons.specs.Inside.{lentSizes}
 use Rattle.reasons.proofs.lent_sizes.Statement.{statement}
 use Rattle.reasons.proofs.lent_sizes.Tie as tie

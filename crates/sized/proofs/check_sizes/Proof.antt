@@ -10,7 +10,7 @@ use Rattle.growth.specs.Pairs.{viewOn}
 use Rattle.literals.specs.Inside.{FoundAs}
 use Rattle.literals.specs.declared.Finding.the-variants.{Nothing}
 use Rattle.literals.proofs.Findings.{found-same, found-none, nothing-found, not-refused}
-use Rattle.sized.specs.Inside.{sizeAt, Board}
+use Rattle.sized.specs.Inside.{reason5In, Board}
 use Rattle.sized.proofs.SizeLaws.{ahead, ahead-all, ahead-end, ahead-more, ahead-found}
 use borrow.Author.Needs.{needs}
 use Rattle.sized.proofs.check_sizes.Statement.{statement}
@@ -79,7 +79,7 @@ nothing : (c : tie.After-enum-told Inv-loop μ-loop) (lines : List (List ℕ))
     → let p = c .before .before .before .before in
     let s = start (inside p) in
     let l = inside p .before .loop in
-    OnBoard s lines → FoundAs (sizeAt (board s lines) (s .args .lowest .now) (s .args .highest .now) (l .i)) (l .buffer) (p .check-size .last .1 .1 .1 .1 .1 .1 .1 .1 .1 .1 .1 .1 .1 .1 .0) Nothing
+    OnBoard s lines → FoundAs (reason5In (board s lines) (s .args .lowest .now) (s .args .highest .now) (l .i)) (l .buffer) (p .check-size .last .1 .1 .1 .1 .1 .1 .1 .1 .1 .1 .1 .1 .1 .1 .0) Nothing
 nothing c lines k = subst (FoundAs _ _ _) (c .enum-told .given .1) (c .before .before .before .before .check-size .ensures .0 lines k)
 
 loop-again : tie.Need-loop-again Inv-loop μ-loop

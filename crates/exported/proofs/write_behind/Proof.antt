@@ -1,4 +1,4 @@
--- `host_certain::write_facts` meets its contract: the cells passed stand behind the steps, and behind them nothing changed.
+-- `exported::write_behind` meets its contract: the bytes passed stand behind the place, and behind them nothing changed.
 -- Assumes nothing.
 use Prim.Native.Nat.{ℕ, _+_, _-_, _≤_}
 use native.Mathlib.Omega.{arith}
@@ -6,25 +6,25 @@ use mathlib.Core.Path.{_≡_, ap, _∙_}
 use mathlib.Core.List.{_++_}
 use borrow.Author.Needs.{needs}
 use lib.ListN.{length, take, drop}
-use Rattle.host_certain.proofs.ToldLaws.{facts-next, facts-length, facts-begin}
-use Rattle.host_certain.proofs.write_facts.Statement.{statement}
-use Rattle.host_certain.proofs.write_facts.Tie as tie
+use Rattle.exported.proofs.BehindLaws.{behind-begin, behind-next, behind-length}
+use Rattle.exported.proofs.write_behind.Statement.{statement}
+use Rattle.exported.proofs.write_behind.Tie as tie
 
 abbrev Inv-loop : tie.InvT-loop
-Inv-loop facts n output₀ k₀ output k = (k ≤ n) × (output ≡ (take 8 output₀ ++ take k facts) ++ drop (8 + k) output₀)
+Inv-loop bytes n at output₀ k₀ output k = (k ≤ n) × (output ≡ (take at output₀ ++ take k bytes) ++ drop (at + k) output₀)
 
 abbrev μ-loop : tie.MeasureT-loop
-μ-loop facts n output₀ k₀ output k = n - k
+μ-loop bytes n at output₀ k₀ output k = n - k
 
 -- the output is as long as it was
 as-long : (c : tie.In-loop Inv-loop μ-loop) → length (c .before .loop .output) ≡ length (c .before .before .args .output .now)
 as-long c =
     let s = c .before .before in
     let t = c .before .loop in
-    ap length (t .inv .1) ∙ facts-length (s .args .facts .now) (s .args .output .now) (t .k) (omega (arith, s .pre)) (omega (arith, s .pre))
+    ap length (t .inv .1) ∙ behind-length (s .args .bytes .now) (s .args .output .now) (s .args .at) (t .k) (omega (arith, s .pre)) (omega (arith, s .pre))
 
 loop-holds : tie.Need-loop-holds Inv-loop μ-loop
-loop-holds c = (search needs, facts-begin (c .args .facts .now) (c .args .output .now))
+loop-holds c = (search needs, behind-begin (c .args .bytes .now) (c .args .output .now) (c .args .at))
 
 element-copy-out-output : tie.Need-element-copy-out-output Inv-loop μ-loop
 element-copy-out-output c = search needs
@@ -45,23 +45,23 @@ loop-again : tie.Need-loop-again Inv-loop μ-loop
 loop-again c =
     let s = c .before .before .before in
     let t = c .before .before .loop in
-    (search needs, rw (t .inv .1) (facts-next (s .args .facts .now) (s .args .output .now) (t .k) (omega (arith, s .pre)) (omega (arith, s .pre))))
+    (search needs, rw (t .inv .1) (behind-next (s .args .bytes .now) (s .args .output .now) (s .args .at) (t .k) (omega (arith, s .pre)) (omega (arith, s .pre))))
 
 same-length : tie.Need-same-length Inv-loop μ-loop
 same-length c =
     let s = c .before .before in
     let t = c .before .loop in
-    ap length (t .inv .1) ∙ facts-length (s .args .facts .now) (s .args .output .now) (t .k) (omega (arith, s .pre)) (omega (arith, s .pre))
+    ap length (t .inv .1) ∙ behind-length (s .args .bytes .now) (s .args .output .now) (s .args .at) (t .k) (omega (arith, s .pre)) (omega (arith, s .pre))
 
 returns : tie.Need-returns Inv-loop μ-loop
 returns c =
     let s = c .before .before in
     let t = c .before .loop in
     let e : t .k ≡ s .args .n = omega arith in
-    t .inv .1 ∙ ap (λ (k : ℕ). (take 8 (s .args .output .now) ++ take k (s .args .facts .now)) ++ drop (8 + k) (s .args .output .now)) e
+    t .inv .1 ∙ ap (λ (k : ℕ). (take (s .args .at) (s .args .output .now) ++ take k (s .args .bytes .now)) ++ drop (s .args .at + k) (s .args .output .now)) e
 
-pub write-facts-spec : {M : Type 1} → statement M
-write-facts-spec =
+pub write-behind-spec : {M : Type 1} → statement M
+write-behind-spec =
     tie.close
     (tie.spec
     Inv-loop
