@@ -1,6 +1,7 @@
 /* The proved Evolmino constraint, for C and C++. `rt staticlib host` writes the library, target/staticlib/libhost.a. The calls are for edition 1
- * of the rules (README, The puzzle) and leaves without sizes, but for those that take an edition and sizes, whose names end in _with, and
- * evolmino_setter_file, which takes the edition; a record that is turned or joined is so for both editions. */
+ * of the rules (README, The puzzle) and leaves without sizes, but for those that take an edition and sizes, whose names end in _with,
+ * evolmino_board_open, which takes both for the board that it opens, and evolmino_setter_file, which takes the edition; a record that is turned or
+ * joined is so for both editions. The calls whose names begin with evolmino_board_ are for a game, on one board that the caller keeps and lends. */
 #ifndef EVOLMINO_H
 #define EVOLMINO_H
 
@@ -18,7 +19,8 @@
 /* The length in bytes of an output that is long enough for evolmino_shades and every record: 4 * 32 * 32. */
 #define EVOLMINO_SHADES 4096
 
-/* The length in bytes of an output that is long enough for evolmino_certain, evolmino_certain_with and every record: 8 + 32 * 32. */
+/* The length in bytes of an output that is long enough for evolmino_certain, evolmino_certain_with, evolmino_board_certain and every record:
+ * 8 + 32 * 32. */
 #define EVOLMINO_CERTAIN 1032
 
 /* The length in bytes of the longest record, so the same for evolmino_turn and evolmino_join. */
@@ -30,6 +32,9 @@
 /* The length in bytes of an output that is long enough for evolmino_setter_file and every file: 1 + 32 * 32. */
 #define EVOLMINO_SETTER 1025
 
+/* The length in literals of a buffer that is long enough for evolmino_board_find and every board: 3 * 32 * 32 + 1. */
+#define EVOLMINO_LITERALS 3073
+
 /* What a negated return value says. */
 enum {
     EVOLMINO_RECORD_ENDS = 1,   /* the record ends inside a field, or before one that is due */
@@ -37,14 +42,18 @@ enum {
     EVOLMINO_OFF_GRID = 3,      /* an arrow's start or step is off the grid */
     EVOLMINO_USED_TWICE = 4,    /* an arrow cell is used twice */
     EVOLMINO_FILLER = 5,        /* a filler bit is not zero, or a byte follows it; in a file a filler bit of its record alone */
+    EVOLMINO_BAD_BOARD = 6,     /* a board that no list of calls could leave */
     EVOLMINO_INDEX = 7,         /* a decision's index is height * width or more */
+    EVOLMINO_VALUE = 8,         /* a decision's value is above 1 */
     EVOLMINO_DECIDED = 9,       /* the cell is decided already */
+    EVOLMINO_NOTHING_DECIDED = 10, /* no decision stands that could be undone */
     EVOLMINO_OUTPUT_SHORT = 11, /* the output is shorter than the call asks for */
     EVOLMINO_DECISION = 12,     /* a decision's five bits are not zero, or a single byte is left over at the end */
     EVOLMINO_SHEET_SHORT = 13,  /* the output is too short for the whole clause sheet */
     EVOLMINO_TURNING = 14,      /* the number of a turning is above 7 */
     EVOLMINO_RECORD_OUTPUT_SHORT = 15, /* the output is shorter than the record that is to be written */
     EVOLMINO_EDITION = 16,      /* an edition that is not 1 or 2 */
+    EVOLMINO_PLAYER = 17,       /* a player above 3 */
     EVOLMINO_UNEQUAL_HEIGHTS = 18, /* the records that are to be joined are not of equal height */
     EVOLMINO_TOO_WIDE = 19,     /* the joined leaf would be wider than 32 */
     EVOLMINO_TAIL = 20,         /* what stands behind a file's record is too short or too long, or its filler is not zero */
@@ -52,12 +61,57 @@ enum {
     EVOLMINO_SIZES = 22         /* the sizes end inside a range, or one of them starts at 0, is upside down, sits off an arrow or does not rise */
 };
 
-/* What evolmino_certain and evolmino_certain_with return where they do not refuse. */
+/* What evolmino_certain, evolmino_certain_with and evolmino_board_certain return where they do not refuse. */
 enum {
     EVOLMINO_TOLD = 0,     /* each cell is told */
     EVOLMINO_NO_BOARD = 1, /* no finished board agrees with the decisions */
     EVOLMINO_SPENT = 2     /* the search has more steps than the budget */
 };
+
+/* What a record says, as a board keeps it. */
+struct evolmino_problem {
+    size_t height;         /* 1 to 32 */
+    size_t width;          /* 1 to 32 */
+    uint8_t cells[1024];   /* for each cell in row order 0 plain, 1 black, 2 given square, and 0 behind the grid */
+    uint16_t arrows[1024]; /* the cells of the arrows, one arrow after another, and 0 behind them */
+    uint16_t ends[1024];   /* for each arrow the place in arrows behind its last cell, and 0 behind them */
+    size_t count;          /* how many arrows there are */
+};
+
+/* A board that the caller keeps and lends to the calls for a game. The caller may read its fields, copy it, and store its bytes for this machine; it
+ * need not be freed. Any bytes may stand in it: each call but evolmino_board_open tests the whole board first. What no list of calls could leave is
+ * refused with 6 and comes back unchanged; any counts of hints could be left. The bytes between the fields mean nothing, and a call that is accepted
+ * may leave any there, such as stood on the stack: two equal boards may differ in them, and who stores a board clears them first. */
+struct evolmino_board {
+    struct evolmino_problem problem;
+    uint8_t edition;        /* 1 or 2 */
+    uint8_t cells[1024];    /* for each cell in row order 0 empty, 1 square, 2 undecided, and 2 behind the grid */
+    uint16_t order[1024];   /* the decided cells in the order decided, and 0 behind them */
+    size_t decided;         /* how many cells are decided */
+    uint16_t hints[4];      /* for each player how many finds were accepted since the board was opened; 65535 is that many or more */
+    uint16_t lowest[1024];  /* for each cell the lowest size beside it, and 0 where none is */
+    uint16_t highest[1024]; /* for each cell the highest size beside it, and 0 where none is */
+};
+
+/* The layout that the library was built for. A compiler that lays the struct out otherwise stops here, at an array of a negative size. */
+#define EVOLMINO_BOARD_SIZE 12336
+#define EVOLMINO_LIES_AT(name, field, place) \
+    typedef char evolmino_lies_at_##name[offsetof(struct evolmino_board, field) == (place) ? 1 : -1]
+typedef char evolmino_board_size[sizeof(struct evolmino_board) == EVOLMINO_BOARD_SIZE ? 1 : -1];
+EVOLMINO_LIES_AT(problem_height, problem.height, 0);
+EVOLMINO_LIES_AT(problem_width, problem.width, 8);
+EVOLMINO_LIES_AT(problem_cells, problem.cells, 16);
+EVOLMINO_LIES_AT(problem_arrows, problem.arrows, 1040);
+EVOLMINO_LIES_AT(problem_ends, problem.ends, 3088);
+EVOLMINO_LIES_AT(problem_count, problem.count, 5136);
+EVOLMINO_LIES_AT(edition, edition, 5144);
+EVOLMINO_LIES_AT(cells, cells, 5145);
+EVOLMINO_LIES_AT(order, order, 6170);
+EVOLMINO_LIES_AT(decided, decided, 8224);
+EVOLMINO_LIES_AT(hints, hints, 8232);
+EVOLMINO_LIES_AT(lowest, lowest, 8240);
+EVOLMINO_LIES_AT(highest, highest, 10288);
+#undef EVOLMINO_LIES_AT
 
 #ifdef __cplusplus
 extern "C" {
@@ -120,7 +174,7 @@ int32_t evolmino_shades(const uint8_t *record, size_t record_len,
  * a refusal, which changes no byte. Decisions and pointers are as for evolmino_find, and so is the order of the refusals; 11 is an output shorter
  * than 8 + height * width bytes. Where it does not refuse, the output's first eight bytes are the number of steps, most significant first; after
  * 2 that is the budget. After 0 one byte follows for each cell in row order: 0 for empty, 1 for square, 2 for open. Bytes behind those written
- * are unchanged. A larger budget alters no answer but 2, and with a budget of 0 it is 2. It keeps nothing either, and takes up to about 370
+ * are unchanged. A larger budget alters no answer but 2, and with a budget of 0 it is 2. It keeps nothing either, and takes up to about 265
  * kilobytes of stack.
  */
 int32_t evolmino_certain(const uint8_t *record, size_t record_len,
@@ -162,7 +216,7 @@ int32_t evolmino_finished_with(const uint8_t *record, size_t record_len,
  *
  * Returns what evolmino_certain returns, and writes the same. The refusals, in this order: the record's 1 to 5, 16, 22; 11 for an output shorter
  * than 8 + height * width bytes; then for each decision in turn 12, 7, 9, and 12 for a single byte that is left over. In edition 1 and without
- * sizes it is evolmino_certain. It keeps nothing either, and takes up to about 370 kilobytes of stack.
+ * sizes it is evolmino_certain. It keeps nothing either, and takes up to about 270 kilobytes of stack.
  */
 int32_t evolmino_certain_with(const uint8_t *record, size_t record_len,
                               uint32_t edition,
@@ -223,6 +277,71 @@ int32_t evolmino_setter_file(const uint8_t *file, size_t file_len, uint32_t edit
  */
 int32_t evolmino_player_file(const uint8_t *file, size_t file_len,
                              uint8_t *output, size_t output_len);
+
+/* Opens a record in an edition and with sizes: the board is then a fresh one, all undecided and no hint taken. The edition is 1 or 2, as for
+ * evolmino_find_with. The sizes are numbers of 16 bits as the machine has them, three for each: an arrow cell, and the lowest and the highest size
+ * that its block may have; the cells rise. sizes_len counts the numbers, and 0 is a leaf without sizes. The board keeps all of it, so that no later
+ * call takes a record.
+ *
+ * Returns 0, or the negated number of a refusal, which leaves the board's memory as it was: the record's 1 to 5, then 16 for an edition that is
+ * not 1 or 2, then 22 for sizes as evolmino_find_with refuses them. What stands in the memory before does not matter, but it is memory that may be
+ * read: set it to zero once, as by static or memset. The pointers are not null, also where a length is 0, and the board does not overlap the record
+ * or the sizes. Each call for a board may be made from any thread, and from several at once on different boards, those that take a const board also on
+ * the same one; none keeps anything but what is in the board. The others write the board's memory also where they refuse, with what stood in it. It takes up to about 30 kilobytes of stack.
+ */
+int32_t evolmino_board_open(const uint8_t *record, size_t record_len,
+                            uint32_t edition,
+                            const uint16_t *sizes, size_t sizes_len,
+                            struct evolmino_board *board);
+
+/* Decides a cell: value 1 for a square, 0 for empty. Black and given cells do not bind it.
+ *
+ * Returns 0, or the negated number of a refusal, which changes no byte: 6 for a board that no list of calls could leave, then 7 for an index that is
+ * height * width or more, then 8 for a value above 1, and last 9 for a cell that is decided already. It takes up to about 80 kilobytes of stack.
+ */
+int32_t evolmino_board_decide(struct evolmino_board *board, size_t index, uint8_t value);
+
+/* Takes the latest decision back, and leaves nothing of it.
+ *
+ * Returns 0, or the negated number of a refusal, which changes no byte: 6 for a board that no list of calls could leave, then 10 where no decision
+ * stands. It takes up to about 80 kilobytes of stack.
+ */
+int32_t evolmino_board_undo(struct evolmino_board *board);
+
+/* Finds why the board cannot be finished, and counts a hint for the player who asks, 0 to 3; at 65535 a count stops rising. A literal is a number of
+ * 16 bits as the machine has it, value * 32768 + index. The answer is evolmino_find_with's on the same leaf and decisions, whoever asks.
+ *
+ * Returns the number of literals, which stand at the buffer's front, 0 where no reason applies, or the negated number of a refusal, which changes
+ * neither the board nor the buffer: 6 for a board that no list of calls could leave, then 17 for a player above 3, and last 11 for a buffer of fewer
+ * than 3 * height * width + 1 literals. literals_len counts literals. What stands behind the last one is unchanged. The pointers are not null, also
+ * where a length is 0, and the buffer does not overlap the board. It takes up to about 135 kilobytes of stack.
+ */
+int32_t evolmino_board_find(struct evolmino_board *board, uint8_t player,
+                            uint16_t *literals, size_t literals_len);
+
+/* Tells whether the board is finished, by the rules of its edition and with its sizes, as evolmino_finished_with does.
+ *
+ * Returns 1 for yes, 0 for no, or -6 for a board that no list of calls could leave. The board is unchanged. It takes up to about 55 kilobytes of
+ * stack.
+ */
+int32_t evolmino_board_finished(const struct evolmino_board *board);
+
+/* Tells which cells are certain, as evolmino_certain_with does on the same leaf and decisions. The board is unchanged, and nothing counts as a hint.
+ *
+ * Returns and writes what evolmino_certain returns and writes, or the negated number of a refusal, which changes no byte: 6 for a board that no list of
+ * calls could leave, then 11 for an output shorter than 8 + height * width bytes. The pointers are not null, also where a length is 0, and the output
+ * does not overlap the board. It takes up to about 300 kilobytes of stack.
+ */
+int32_t evolmino_board_certain(const struct evolmino_board *board,
+                               uint64_t budget,
+                               uint8_t *output, size_t output_len);
+
+/* Tells how many hints a player took, 0 to 3: the finds of that player that were accepted since the board was opened, or 65535 where they are more.
+ *
+ * Returns the count, or the negated number of a refusal: 6 for a board that no list of calls could leave, then 17 for a player above 3. The board is
+ * unchanged. It takes up to about 40 kilobytes of stack.
+ */
+int32_t evolmino_board_hints(const struct evolmino_board *board, uint8_t player);
 
 #ifdef __cplusplus
 }

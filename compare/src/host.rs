@@ -262,7 +262,7 @@ fn package_certain(
 }
 
 #[cfg(feature = "host")]
-fn answered(answer: Result<evolmino::Certain, evolmino::Refusal>) -> Result<Answer, u32> {
+pub fn answered(answer: Result<evolmino::Certain, evolmino::Refusal>) -> Result<Answer, u32> {
     use crate::reading::certain::{Certain, Fact};
     let fact = |fact: evolmino::Fact| match fact {
         evolmino::Fact::Empty => Fact::Empty,
@@ -337,6 +337,12 @@ fn leaf<'a>(opening: Opening<'a>) -> evolmino::Leaf<'a> {
 }
 
 #[cfg(feature = "host")]
+pub fn package_sizes(ranges: &[[u16; 3]]) -> Vec<evolmino::Size> {
+    let size = |&[cell, lowest, highest]: &[u16; 3]| (usize::from(cell), lowest, highest);
+    ranges.iter().map(size).collect()
+}
+
+#[cfg(feature = "host")]
 fn package_leaf(
     record: &[u8],
     edition: u32,
@@ -344,8 +350,7 @@ fn package_leaf(
     decisions: &[Literal],
     budget: u64,
 ) -> OfLeaf {
-    let size = |&[cell, lowest, highest]: &[u16; 3]| (usize::from(cell), lowest, highest);
-    let sizes: Vec<evolmino::Size> = ranges.iter().map(size).collect();
+    let sizes = package_sizes(ranges);
     let leaf = evolmino::Leaf::new(record).edition(edition).sizes(&sizes);
     let decisions = packaged(decisions);
     OfLeaf {
@@ -395,7 +400,7 @@ fn found_by(
 
 /// A reason as the reading has it.
 #[cfg(feature = "host")]
-fn unpackaged(reason: Option<Vec<evolmino::Literal>>) -> Option<Vec<Literal>> {
+pub fn unpackaged(reason: Option<Vec<evolmino::Literal>>) -> Option<Vec<Literal>> {
     let literal = |(index, value)| (index, u8::from(value));
     reason.map(|literals| literals.into_iter().map(literal).collect())
 }

@@ -6,6 +6,8 @@ mod commands;
 mod generate;
 mod guarded;
 mod host;
+mod kept;
+mod lent;
 mod lists;
 mod options;
 mod original;
@@ -56,10 +58,10 @@ const USAGE: &str = "\
 compare records|finds|calls|groups|small|all [--seed N] [--count N]
 compare lists FOLDER [--seed N]
 compare program PATH [--seed N] [--count N]
-compare bench|steps [--seed N] [--count ROUNDS]
+compare bench|steps|touches [--seed N] [--count ROUNDS]
 compare host [--seed N] [--count N]
 compare constraint [--seed N] [--count N]
-compare fuzz|finished|clauses|shades|turn|certain|join|file|sizes|verdict [--seed N] [--count N]
+compare fuzz|finished|clauses|shades|turn|certain|join|file|sizes|verdict|board|soak [--seed N] [--count N]
 compare reason < INPUT
 compare original";
 
@@ -99,6 +101,9 @@ fn run(options: &Options) -> Outcome {
         "file" => commands::file::run(seed, count(10_000)),
         "sizes" => commands::sizes::run(seed, count(2_000)),
         "verdict" => commands::verdict::run(seed, count(100_000)),
+        "board" => commands::board::run(seed, count(100_000)),
+        "soak" => commands::soak::run(seed, count(1_000_000)),
+        "touches" => commands::touches::run(seed, count(200)),
         "finds" | "calls" | "groups" | "lists" | "bench" | "host" | "constraint" | "original"
             if !original::AT_HAND =>
         {

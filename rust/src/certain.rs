@@ -60,7 +60,7 @@ impl Certain {
 /// for empty, 1 for square, 2 for open. The bytes behind these, and where it refuses the whole output, are unchanged.
 ///
 /// It refuses in the order of [`find_bytes`](crate::find_bytes). It keeps nothing, takes nothing from the heap and up to about
-/// 370 kilobytes of stack, on a large grid.
+/// 270 kilobytes of stack, on a large grid.
 pub fn certain_bytes(
     record: &[u8],
     decisions: &[u8],
@@ -130,13 +130,24 @@ pub(crate) fn asked(
         true => budget,
         false => 0,
     };
+    told(
+        |output| decided(decisions, |bytes| call(bytes, budget, output)),
+        || cells_of(record).len(),
+    )
+}
+
+/// What a call that writes to an output says of the cells of a grid, so many of them where it accepts.
+pub(crate) fn told(
+    call: impl FnOnce(&mut [u8]) -> Result<usize, Refusal>,
+    cells: impl FnOnce() -> usize,
+) -> Result<Certain, Refusal> {
     let mut output = [0; OUTPUT_LIMIT];
-    let answer = decided(decisions, |bytes| call(bytes, budget, &mut output))?;
+    let answer = call(&mut output)?;
     let (count, facts) = output.split_at(STEPS);
     let steps = u64::from_be_bytes(count.try_into().expect("eight bytes"));
     Ok(match answer {
         0 => {
-            let told = &facts[..cells_of(record).len()];
+            let told = &facts[..cells()];
             Certain::Cells {
                 cells: told.iter().map(|&byte| fact(byte)).collect(),
                 steps,

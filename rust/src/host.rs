@@ -26,10 +26,11 @@ pub type Literal = (usize, bool);
 /// The bytes that suffice for a reason on the largest grid: 2 × (3 × 32 × 32 + 1).
 pub(crate) const OUTPUT_LIMIT: usize = 2 * (3 * 32 * 32 + 1);
 
-/// Why there is no answer, by its number in README. The exported calls never give [`Refusal::Board`],
-/// [`Refusal::Value`], [`Refusal::NothingDecided`] and [`Refusal::Player`]: their board is their own, a decision has one bit of
-/// value, and they find as player 0. [`Refusal::Edition`] is given of a setter's file and of a [`Leaf`](crate::Leaf), and
-/// [`Refusal::Sizes`] of a leaf alone: the other calls are for edition 1 and leaves without sizes, or for both editions.
+/// Why there is no answer, by its number in README. [`Refusal::Board`], [`Refusal::Value`], [`Refusal::NothingDecided`] and
+/// [`Refusal::Player`] are given of a [`Board`](crate::Board) alone: the calls that take a record open a board of their own, a decision in bytes has one
+/// bit of value, nothing is undone, and they find as player 0. [`Refusal::Edition`] is given of a setter's file, of a
+/// [`Leaf`](crate::Leaf) and where a board is opened, and [`Refusal::Sizes`] of the last two: the other calls are for edition 1 and leaves without sizes,
+/// or for both editions.
 ///
 /// The table grows, so a `match` needs an arm for the refusals that it doesn't name.
 #[derive(Clone, Copy, Debug, PartialEq, Eq, Hash)]

@@ -1,5 +1,7 @@
-//! A leaf in an edition and with sizes: a builder, and the exported calls that take both, made safe.
+//! A leaf in an edition and with sizes: a builder, and the exported calls that take both, made safe. The calls on a board that is opened from it are
+//! in `board`.
 
+use crate::board::Board;
 use crate::certain::{asked, given_first, Certain};
 use crate::constraint::Constraint;
 use crate::host::{counted, decided, literals, Literal, Refusal, OUTPUT_LIMIT};
@@ -294,6 +296,37 @@ impl<'a> Leaf<'a> {
         self.accepted()?;
         let cells = number_of_cells(&self.record);
         Ok(Constraint::of_leaf(self.clone().into_owned(), cells))
+    }
+
+    /// A fresh board of this leaf, for a game, or why the leaf can't be opened.
+    ///
+    /// ```
+    /// use evolmino::{Leaf, Problem, ProblemCell, Record};
+    ///
+    /// // A row of five cells with an arrow along its first four.
+    /// let problem = Problem {
+    ///     cells: vec![vec![ProblemCell::Empty; 5]],
+    ///     arrows: vec![(0..4).map(|x| (0, x)).collect()],
+    /// };
+    /// let record = Record::new(&problem).unwrap();
+    /// let leaf = Leaf::new(record.bytes()).edition(2).sizes(&[(0, 2, 3)]);
+    /// let mut board = leaf.board().unwrap();
+    /// // The block of cell 0 can't have two squares.
+    /// board.decide(0, true).unwrap();
+    /// board.decide(1, false).unwrap();
+    /// assert_eq!(board.find(3), Ok(Some(vec![(0, true), (1, false)])));
+    /// ```
+    pub fn board(&self) -> Result<Board, Refusal> {
+        let whole = self.sizes.chunks_exact(2);
+        let left_over = !whole.remainder().is_empty();
+        let mut words: Vec<u16> = whole
+            .map(|two| u16::from_be_bytes([two[0], two[1]]))
+            .collect();
+        // A byte that is left over is of a range that the list ends inside.
+        if left_over && words.len().is_multiple_of(3) {
+            words.push(0);
+        }
+        Board::open_words(&self.record, self.edition, &words)
     }
 }
 

@@ -6,7 +6,8 @@
 //! [`Problem`] in the form that they read; and [`Constraint`] has `notify`, `undo` and `find_inconsistency` with the signatures of cspuz_core's
 //! `SimpleCustomConstraint`, so that it can stand where `EvolminoConstraint` stood. All of them are for edition 1 of the rules (README, The
 //! puzzle) and leaves without sizes, but [`setter_file`] takes the [`Edition`]; records that are turned or joined are so for both editions. A
-//! [`Leaf`] is a record in either edition and with sizes: the same questions are its methods.
+//! [`Leaf`] is a record in either edition and with sizes: the same questions are its methods. A [`Board`] is a leaf that is opened for a game: it keeps
+//! decisions and counts of hints from call to call.
 //!
 //! What is proved are the library's exported calls. This package around them, which writes records, keeps decisions and reads the
 //! answer, is plain Rust: `compare constraint` holds it beside the original.
@@ -25,6 +26,7 @@
 //! assert_eq!(reason, Some(vec![(0, true), (1, true)]));
 //! ```
 
+mod board;
 mod certain;
 mod clauses;
 mod constraint;
@@ -36,6 +38,7 @@ mod record;
 mod shades;
 mod turn;
 
+pub use board::{Board, Cell};
 pub use certain::{certain, certain_bytes, certain_given_first, Certain, Fact};
 pub use clauses::{clauses, clauses_bytes, dimacs, SHEET_LIMIT};
 pub use constraint::Constraint;

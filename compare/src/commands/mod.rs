@@ -1,6 +1,9 @@
 //! The subcommands.
 
 pub mod bench;
+pub mod board;
+mod board_beside;
+mod board_calls;
 pub mod calls;
 pub mod certain;
 pub mod clauses;
@@ -25,7 +28,9 @@ mod sized_calls;
 mod sized_small;
 pub mod sizes;
 pub mod small;
+pub mod soak;
 pub mod steps;
+pub mod touches;
 pub mod turn;
 mod turnings;
 pub mod verdict;

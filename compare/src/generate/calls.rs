@@ -103,7 +103,7 @@ pub fn other_calls(random: &mut Random, size: Size, cells: &[Cell]) -> Vec<Call>
 }
 
 /// Mostly one of the four.
-fn any_player(random: &mut Random) -> u8 {
+pub fn any_player(random: &mut Random) -> u8 {
     match random.below(10) {
         0 => random.pick(&[4, 5, 127, 128, 254, 255]),
         _ => random.below(4) as u8,

@@ -6,6 +6,7 @@ mod drawn;
 pub mod files;
 pub mod hosts;
 mod layout;
+pub mod lent;
 pub mod long;
 pub mod met;
 pub mod mutations;

@@ -101,6 +101,16 @@ impl Board {
         }
     }
 
+    /// The standing decisions, in order.
+    pub fn standing(&self) -> &[Literal] {
+        &self.standing
+    }
+
+    /// The board is handed in with other counts of hints.
+    pub fn hand_in(&mut self, hints: Hints) {
+        self.hints = hints;
+    }
+
     pub fn hints(&self) -> Hints {
         self.hints
     }

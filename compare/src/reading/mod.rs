@@ -15,6 +15,7 @@ pub mod host;
 pub mod join;
 pub mod kinds;
 pub mod leaf;
+pub mod lent;
 pub mod program;
 pub mod reasons;
 pub mod record;
@@ -28,8 +29,8 @@ mod leaves;
 /// What is returned when no result can be, by the numbers of the documents and under the names of
 /// `../rust`.
 ///
-/// 6, a board that no list of calls could leave, is missing: a `Board` of this reading is made by
-/// `open` and changed by calls alone.
+/// A `Board` of this reading is made by `open` and changed by calls alone: 6, a board that no list of calls
+/// could leave, is said in `lent`, of memory that the caller lends.
 #[derive(Clone, Copy, Debug, PartialEq, Eq)]
 pub enum Refusal {
     RecordEnds = 1,
@@ -37,6 +38,7 @@ pub enum Refusal {
     OffGrid = 3,
     UsedTwice = 4,
     Filler = 5,
+    Board = 6,
     Index = 7,
     Value = 8,
     Decided = 9,

@@ -20,6 +20,7 @@ ghost use Rattle.board.specs.Inside.{Placing, freshOf, boardIn, Held};
 // A problem with its decisions. `edition` is 1, or 2 for free growth; `cells` has the state of each cell (0 empty, 1 square, 2 undecided), with 2 behind the grid;
 // `order` has the decided cells in the order decided, `decided` of them, with 0 behind; `hints` counts for each player, 0 to 3, that
 // player's accepted finds since open, up to 65,535; `lowest` and `highest` have the ends of the range beside each cell, with 0 at a cell that has none.
+#[repr(C)]
 pub struct Board {
     pub problem: Problem,
     pub edition: u8,

@@ -57,7 +57,7 @@ use Rattle.host.specs.Returns.{faults, refusals, hostRefusals, withRefus
 -- ---- an outcome step by step
 
 -- any value
-abbrev Any : {A : Type 0} → A → Type 0
+abbrev pub Any : {A : Type 0} → A → Type 0
 Any a = Unit {0}
 
 -- a test that computes without being opened
@@ -82,7 +82,7 @@ in-list {k} (List·Memᴰ·tail {x = j} {xs = js} m) = go (eqb k j) (in-list m)
     go false e = e
 
 module _ {ks : List ℕ} {A : Type 0} where
-  then-possible : {B : Type 0} {P : A → Type 0} {Q : B → Type 0} {o : Outcome A} {f : A → Outcome B} → Possible ks P o → ((a : A) → P a → Possible ks Q (f a)) → Possible ks Q (o >>= f)
+  pub then-possible : {B : Type 0} {P : A → Type 0} {Q : B → Type 0} {o : Outcome A} {f : A → Outcome B} → Possible ks P o → ((a : A) → P a → Possible ks Q (f a)) → Possible ks Q (o >>= f)
   unfolding _>>=_
   then-possible (refusal-of m) h = refusal-of m
   then-possible (value-of {a} p) h = h a p
@@ -97,7 +97,7 @@ module _ {ks : List ℕ} {A : Type 0} where
   possible-more h q (refusal-of m) = refusal-of (h _ m)
   possible-more h q (value-of p) = value-of (q _ p)
 
-unless-possible : {ks : List ℕ} (t : Bool) (k : ℕ) → (t ≡ false → List·Memᴰ k ks) → Possible ks Any (unless t k)
+pub unless-possible : {ks : List ℕ} (t : Bool) (k : ℕ) → (t ≡ false → List·Memᴰ k ks) → Possible ks Any (unless t k)
 unfolding unless
 unless-possible true k m = value-of tt
 unless-possible false k m = refusal-of (m refl)
@@ -152,7 +152,7 @@ arrows-possible s g used at zero = then-possible (unless-possible (filler s at) 
 arrows-possible s g used at (suc m) =
     then-possible (arrow-possible s g used at) λ a _. then-possible (arrows-possible s g (a ++ used) (at + 18 + 2 * length a) m) λ rest _. value-of tt
 
-read-possible : (s : List ℕ) → Possible faults Any (readRecord s)
+pub read-possible : (s : List ℕ) → Possible faults Any (readRecord s)
 unfolding readRecord
 read-possible s =
     then-possible (field-possible s 0 5) λ h _. then-possible (field-possible s 5 5) λ w _. then-possible (field-possible s 10 11) λ m _.
@@ -165,7 +165,7 @@ fault-refusal k m = Memᴰ·append-left (7 ∷ 9 ∷ 12 ∷ []) m
 
 -- ---- a leaf in an edition with sizes: 1 to 5, 16, 22
 
-ranges-possible : (on : ℕ → Bool) (from : ℕ) (ns : List ℕ) → Possible (22 ∷ []) Any (rangesFrom on from ns)
+pub ranges-possible : (on : ℕ → Bool) (from : ℕ) (ns : List ℕ) → Possible (22 ∷ []) Any (rangesFrom on from ns)
 unfolding rangesFrom
 ranges-possible on from [] = value-of tt
 ranges-possible on from (c ∷ []) = refusal-of (List·Memᴰ·head refl)
@@ -381,12 +381,12 @@ shades-possible s decisions k low =
     (λ p e ds. (p, e, omega (arith, bytes-length (shadesOn (p .grid) (cellsAfter (p .grid) ds)), shades-length (p .grid) (cellsAfter (p .grid) ds))))
 
 -- the call for the cells that are certain: 0, 1 or 2
-abbrev SaidOne : Said → Type 0
+abbrev pub SaidOne : Said → Type 0
 SaidOne x = (x .number ≡ pos 0) ⊎ (x .number ≡ pos 1) ⊎ (x .number ≡ pos 2)
 
-certain-number : (budget : ℕ) (l : Leaf) (ds : List Literal) → SaidOne (certainOn budget l ds)
+pub search-number : (n budget : ℕ) (r : Reached) → SaidOne (saidOf n (certainBy n budget r))
 unfolding saidOf
-certain-number budget l ds = number-is (size (l .puzzle .grid)) budget (search l (cellsAfter (l .puzzle .grid) ds))
+search-number = number-is
   where
     told : (boards : List (List ℕ)) → (certaintyNumber (certainty boards) ≡ pos 0) ⊎ (certaintyNumber (certainty boards) ≡ pos 1) ⊎ (certaintyNumber (certainty boards) ≡ pos 2)
     told [] = unfold certainty certaintyNumber in inr (inl refl)
@@ -400,6 +400,9 @@ certain-number budget l ds = number-is (size (l .puzzle .grid)) budget (search l
     number-is : (n budget : ℕ) (r : Reached)
         → (certaintyNumber (certainBy n budget r .answer) ≡ pos 0) ⊎ (certaintyNumber (certainBy n budget r .answer) ≡ pos 1) ⊎ (certaintyNumber (certainBy n budget r .answer) ≡ pos 2)
     number-is n budget r = by (leb (r .steps) budget) n budget r (certainBy n budget r) (unfold certainBy in refl)
+
+certain-number : (budget : ℕ) (l : Leaf) (ds : List Literal) → SaidOne (certainOn budget l ds)
+certain-number budget l ds = search-number (size (l .puzzle .grid)) budget (search l (cellsAfter (l .puzzle .grid) ds))
 
 pub certain-possible : (s decisions : List ℕ) (budget k : ℕ) → Bytes decisions → Possible hostRefusals SaidOne (hostCertain s decisions budget k)
 unfolding hostCertain

@@ -48,3 +48,8 @@ pub record FoundWith (s : List ℕ) (f : Found) : Type 0 where
   pub reads : readRecord s ≡ ok puzzle
   pub few : size (puzzle .grid) ≤ 1024
   pub found : FoundOn (puzzle .grid) f
+
+-- what a call on a lent board can return: the negated number of a refusal of the list, or a number up to m
+pub data Within (ks : List ℕ) (m : ℕ) : ℤ → Type 0 where
+  negated-number : {k : ℕ} → List·Memᴰ k ks → Within ks m (negℤ (pos k))
+  number-within : {n : ℕ} → n ≤ m → Within ks m (pos n)

@@ -1,4 +1,5 @@
 // The calls that are exported for Rust and C, each thin over the crate that has it.
+use board::Board;
 ghost use mathlib.Core.Path.{_≡_};
 ghost use lib.ListN.{length};
 ghost use Rattle.exported.specs.Written.{written, outputWith};
@@ -10,6 +11,12 @@ ghost use Rattle.host_find.specs.Host.{hostFinds, hostFindsWith, returned, outp
 ghost use Rattle.host_finished.specs.Judged.{hostFinished, hostFinishedWith, judged};
 ghost use Rattle.host_shades.specs.Shaded.{hostShades};
 ghost use Rattle.host_certain.specs.Told.{hostCertain, hostCertainWith, saidNumber, saidBytes};
+ghost use Rattle.board.specs.Kept.{openOf};
+ghost use Rattle.board.specs.Decide.{decideOf, undoOf};
+ghost use Rattle.board.specs.Hints.{afterFind};
+ghost use Rattle.reasons.specs.Find.{findOf, bufferAfter};
+ghost use Rattle.finished.specs.Verdicts.{finishedOf};
+ghost use Rattle.host_board.specs.Lent.{answerNumber, findingNumber, verdictNumber, afterOpen, boardCertain, hintsOf, countNumber};
 
 // Opens the record in edition 1, decides in order and finds. The literals stand in the output's first bytes, two each, most significant first.
 // Returns how many there are, 0 for none, or the negated number of a refusal, which leaves the output as it was.
@@ -149,4 +156,83 @@ pub extern "C" fn evolmino_player_file(file: &[u8], output: &mut [u8]) -> i32
         × (now (output .exit) ≡ outputWith (givenBytes (playerGiven (length (now (output .entry))) (now (file .entry)))) (now (output .entry))) ⌝ }
 {
     file::player_file(file, output)
+}
+
+// ---- on a board that the caller keeps and lends
+
+// Opens a record in an edition with sizes, cell, lowest and highest for each, cells rising, into the board's memory. Returns 0, or the negated number of
+// a refusal, which leaves the memory as it was: 1 to 5 for the record, 16 for another edition than 1 and 2, 22 for sizes that may not stand.
+#[no_mangle]
+pub extern "C" fn evolmino_board_open(
+    record: &[u8],
+    edition: u32,
+    sizes: &[u16],
+    board: &mut Board,
+) -> i32
+    ensures { λ r. ⌜ (r ≡ answerNumber (openOf (now («record» .entry)) edition (now (sizes .entry)) .answer))
+        × (now (board .exit) ≡ afterOpen (now (board .entry)) (openOf (now («record» .entry)) edition (now (sizes .entry)))) ⌝ }
+{
+    let k = host_board::opened(*board, record, edition, sizes);
+    *board = k.board;
+    k.number
+}
+
+// Adds a decision. Returns 0, or the negated number of a refusal, which leaves the board as it was: 6 a board that no list of calls could leave, 7 an index
+// off the grid, 8 a value above 1, 9 a cell that is decided already.
+#[no_mangle]
+pub extern "C" fn evolmino_board_decide(board: &mut Board, index: usize, value: u8) -> i32
+    ensures { λ r. ⌜ (r ≡ answerNumber (decideOf (now (board .entry)) index value .answer)) × (now (board .exit) ≡ decideOf (now (board .entry)) index value .board) ⌝ }
+{
+    let k = host_board::decided(*board, index, value);
+    *board = k.board;
+    k.number
+}
+
+// Removes the latest decision. Returns 0, or the negated number of a refusal, which leaves the board as it was: 6, 10 where there is no decision.
+#[no_mangle]
+pub extern "C" fn evolmino_board_undo(board: &mut Board) -> i32
+    ensures { λ r. ⌜ (r ≡ answerNumber (undoOf (now (board .entry)) .answer)) × (now (board .exit) ≡ undoOf (now (board .entry)) .board) ⌝ }
+{
+    let k = host_board::undone(*board);
+    *board = k.board;
+    k.number
+}
+
+// Finds a reason, for a player from 0 to 3 whose count of hints rises. The literals stand in the buffer's first places, value × 32,768 + index each. Returns
+// how many there are, 0 for none, or the negated number of a refusal, which leaves the board and the buffer as they were: 6, 17 a player above 3, 11 a
+// buffer of less than 3 × H × W + 1 numbers.
+#[no_mangle]
+pub extern "C" fn evolmino_board_find(board: &mut Board, player: u8, literals: &mut [u16]) -> i32
+    ensures { λ r. ⌜ (r ≡ findingNumber (findOf (now (board .entry)) player (now (literals .entry))))
+        × (now (board .exit) ≡ afterFind (now (board .entry)) player (length (now (literals .entry))))
+        × (now (literals .exit) ≡ bufferAfter (now (board .entry)) player (now (literals .entry))) ⌝ }
+{
+    let k = host_board::found(*board, player, literals);
+    *board = k.board;
+    k.number
+}
+
+// Tells whether the board is finished: 1 for yes, 0 for no, or the negated number of a refusal, 6.
+#[no_mangle]
+pub extern "C" fn evolmino_board_finished(board: &Board) -> i32
+    ensures { λ r. ⌜ r ≡ verdictNumber (finishedOf (now (board .entry))) ⌝ }
+{
+    host_board::finished_number(*board)
+}
+
+// Tells which cells are certain, as `evolmino_certain` does: 6 a board that no list of calls could leave, then 11 an output of less than 8 + H × W bytes.
+#[no_mangle]
+pub extern "C" fn evolmino_board_certain(board: &Board, budget: u64, output: &mut [u8]) -> i32
+    ensures { λ r. ⌜ (r ≡ saidNumber (boardCertain (now (board .entry)) budget (length (now (output .entry)))))
+        × (now (output .exit) ≡ outputWith (saidBytes (boardCertain (now (board .entry)) budget (length (now (output .entry))))) (now (output .entry))) ⌝ }
+{
+    host_board::certain_number(*board, budget, output)
+}
+
+// Tells how many hints a player has taken, or the negated number of a refusal: 6, 17 a player above 3.
+#[no_mangle]
+pub extern "C" fn evolmino_board_hints(board: &Board, player: u8) -> i32
+    ensures { λ r. ⌜ r ≡ countNumber (hintsOf (now (board .entry)) player) ⌝ }
+{
+    host_board::hints_number(*board, player)
 }

@@ -36,7 +36,7 @@ fn write_steps(steps: u64, output: &mut [u8])
 }
 
 // Writes an answer for n cells to the output, which is long enough: the steps, and behind them the cells where they are told, one byte a cell. Returns the answer's number.
-fn write_certain(facts: Facts, n: usize, output: &mut [u8]) -> i32
+pub fn write_certain(facts: Facts, n: usize, output: &mut [u8]) -> i32
     requires { ⌜ (n ≤ 1024) × (8 + n ≤ length (now output)) ⌝ }
     ensures { λ r. ⌜ (r ≡ saidNumber (ok (saidOf n facts))) × (now (output .exit) ≡ outputWith (saidBytes (ok (saidOf n facts))) (now (output .entry))) ⌝ }
 {
