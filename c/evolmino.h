@@ -58,7 +58,15 @@ enum {
     EVOLMINO_TOO_WIDE = 19,     /* the joined leaf would be wider than 32 */
     EVOLMINO_TAIL = 20,         /* what stands behind a file's record is too short or too long, or its filler is not zero */
     EVOLMINO_UNFINISHED = 21,   /* the solution of a setter's file is not finished in the edition */
-    EVOLMINO_SIZES = 22         /* the sizes end inside a range, or one of them starts at 0, is upside down, sits off an arrow or does not rise */
+    EVOLMINO_SIZES = 22,        /* the sizes end inside a range, or one of them starts at 0, is upside down, sits off an arrow or does not rise */
+    EVOLMINO_CERTIFICATE_LENGTH = 23, /* the certificate is not whole words of three bytes, or has more than 8388608 of them */
+    EVOLMINO_NO_SOLUTION_STEP = 24, /* it does not begin with the step of a claimed solution */
+    EVOLMINO_SOLUTION_UNFINISHED = 25, /* the claimed solution is not finished in the edition with the sizes */
+    EVOLMINO_STEP_CUT = 26,     /* a step is not whole */
+    EVOLMINO_NOT_A_LITERAL = 27, /* a clause has more literals than there are cells, or a word that is no literal of the leaf */
+    EVOLMINO_HINT = 28,         /* a hint is not the place of an earlier step, decides no cell, or is false before the last hint */
+    EVOLMINO_NOT_CLOSED = 29,   /* a step does not close */
+    EVOLMINO_CERTIFICATE_END = 30 /* the words end without the step of no literals, or something follows it */
 };
 
 /* What evolmino_certain, evolmino_certain_with and evolmino_board_certain return where they do not refuse. */
@@ -342,6 +350,25 @@ int32_t evolmino_board_certain(const struct evolmino_board *board,
  * unchanged. It takes up to about 40 kilobytes of stack.
  */
 int32_t evolmino_board_hints(const struct evolmino_board *board, uint8_t player);
+
+/* Checks a certificate that a leaf has one solution only. The record is opened in an edition with sizes, as evolmino_find_with does. Where 1 is
+ * returned, the solution that the certificate claims is finished, and every finished board of the leaf equals it, whoever made the certificate.
+ *
+ * A certificate is words of three bytes, most significant first. A step is 8388608 + n, n literals (value * 32768 + index), m, and m hints: the places
+ * of earlier steps, counted in words. The first step is the claimed solution's: for each cell in row order the literal with the value that the
+ * solution does not have, and no hint. The last one has no literal, and nothing follows it. A step closes where its clause, assumed false on top of
+ * black cells as empty and given ones as square, comes to a contradiction: each hint's clause has one undecided literal and no true one, and decides
+ * it, or is false at the last hint; where none is false, find must give a reason on the cells, or an arrow have fewer than two cells that are not
+ * empty.
+ *
+ * Returns 1, or the negated number of a refusal: 1 to 5 for the record, then 16, then 22, then 23 to 25, then for each step in turn 26 to 29, and
+ * last 30. Nothing is written. The pointers are not null, also where a length is 0. It keeps nothing, and takes up to
+ * about 105 kilobytes of stack.
+ */
+int32_t evolmino_unique(const uint8_t *record, size_t record_len,
+                        uint32_t edition,
+                        const uint8_t *sizes, size_t sizes_len,
+                        const uint8_t *certificate, size_t certificate_len);
 
 #ifdef __cplusplus
 }

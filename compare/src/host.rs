@@ -188,6 +188,37 @@ pub const PACKAGE_LEAF: Option<PackageLeaf> = Some(package_leaf);
 #[cfg(not(feature = "host"))]
 pub const PACKAGE_LEAF: Option<PackageLeaf> = None;
 
+/// What is opened, and a certificate; 1 where it is accepted, or the negated refusal number.
+pub type UniqueCall = fn(Opening, &[u8]) -> i32;
+
+/// The call that checks a certificate, if this program was built with it.
+#[cfg(feature = "host")]
+pub const UNIQUE_CALL: Option<UniqueCall> = Some(unique_call);
+#[cfg(not(feature = "host"))]
+pub const UNIQUE_CALL: Option<UniqueCall> = None;
+
+/// What the package's maker makes of a leaf: a certificate, or two finished boards, or none.
+#[derive(Debug, PartialEq, Eq)]
+#[cfg_attr(not(feature = "host"), allow(dead_code))]
+pub enum Made {
+    Certificate(Vec<u8>),
+    Two([Vec<u8>; 2]),
+    NoBoard,
+}
+
+/// What is opened; what is made of it, or what went wrong.
+pub type PackageMaker = fn(Opening) -> Result<Made, String>;
+
+/// The package's maker, if this program was built with it and the SAT solver is at hand.
+#[cfg(feature = "host")]
+pub fn package_maker() -> Option<PackageMaker> {
+    evolmino::Solver::cadical().at_hand().then_some(made)
+}
+#[cfg(not(feature = "host"))]
+pub fn package_maker() -> Option<PackageMaker> {
+    None
+}
+
 pub const MISSING: &str = "the host call is not linked: build with --features host, \
                            with libhost.a in the folder that EVOLMINO_HOST names";
 
@@ -403,4 +434,21 @@ fn found_by(
 pub fn unpackaged(reason: Option<Vec<evolmino::Literal>>) -> Option<Vec<Literal>> {
     let literal = |(index, value)| (index, u8::from(value));
     reason.map(|literals| literals.into_iter().map(literal).collect())
+}
+
+#[cfg(feature = "host")]
+fn unique_call(opening: Opening, certificate: &[u8]) -> i32 {
+    number(leaf(opening).unique(certificate).map(|()| 1))
+}
+
+#[cfg(feature = "host")]
+fn made(opening: Opening) -> Result<Made, String> {
+    use evolmino::MakerError;
+    let values = |board: Vec<bool>| board.into_iter().map(u8::from).collect();
+    match leaf(opening).certify(&evolmino::Solver::cadical()) {
+        Ok(certificate) => Ok(Made::Certificate(certificate.bytes().to_vec())),
+        Err(MakerError::NotUnique(boards)) => Ok(Made::Two(boards.map(values))),
+        Err(MakerError::NoSolution) => Ok(Made::NoBoard),
+        Err(error) => Err(error.to_string()),
+    }
 }

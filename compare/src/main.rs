@@ -57,11 +57,12 @@ use std::process::ExitCode;
 const USAGE: &str = "\
 compare records|finds|calls|groups|small|all [--seed N] [--count N]
 compare lists FOLDER [--seed N]
+compare certify PATH [--seed N]
 compare program PATH [--seed N] [--count N]
 compare bench|steps|touches [--seed N] [--count ROUNDS]
 compare host [--seed N] [--count N]
 compare constraint [--seed N] [--count N]
-compare fuzz|finished|clauses|shades|turn|certain|join|file|sizes|verdict|board|soak [--seed N] [--count N]
+compare fuzz|finished|clauses|shades|turn|certain|join|file|sizes|verdict|board|soak|unique [--seed N] [--count N]
 compare reason < INPUT
 compare original";
 
@@ -96,6 +97,7 @@ fn run(options: &Options) -> Outcome {
         "shades" => commands::shades::run(seed, count(20_000)),
         "turn" => commands::turn::run(seed, count(10_000)),
         "certain" => commands::certain::run(seed, count(1_000)),
+        "certify" => commands::certify::run(seed, path()?),
         "steps" => commands::steps::run(seed, count(20)),
         "join" => commands::join::run(seed, count(10_000)),
         "file" => commands::file::run(seed, count(10_000)),
@@ -104,6 +106,7 @@ fn run(options: &Options) -> Outcome {
         "board" => commands::board::run(seed, count(100_000)),
         "soak" => commands::soak::run(seed, count(1_000_000)),
         "touches" => commands::touches::run(seed, count(200)),
+        "unique" => commands::unique::run(seed, count(500)),
         "finds" | "calls" | "groups" | "lists" | "bench" | "host" | "constraint" | "original"
             if !original::AT_HAND =>
         {

@@ -6,7 +6,9 @@
 //!
 //! SOLVER is cadical or minisat, as Debian has them; without it the first that is found is taken.
 
-use evolmino::{clauses, dimacs, find, finished, Literal, Problem, ProblemCell, Record};
+mod leaf;
+
+use evolmino::{clauses, dimacs, find, finished, Literal, Record};
 use std::error::Error;
 use std::io::{self, Write};
 use std::process::{Command, Stdio};
@@ -17,13 +19,6 @@ const SOLVERS: [(&str, &[&str]); 2] = [
     ("minisat", &["-verb=0", "/dev/stdin", "/dev/stdout"]),
 ];
 
-/// A plain cell is `.`, a black one `#`, a given square `O`.
-const CELLS: [&str; 6] = ["..O...", "......", "....#.", "..O...", "......", ".....O"];
-
-/// Each arrow from its tail on, as row and column of its first cell and its steps.
-const ARROWS: [((usize, usize), &str); 3] =
-    [((0, 5), "LDDDD"), ((3, 5), "DDLLU"), ((2, 0), "RRDD")];
-
 fn main() -> Result<(), Box<dyn Error>> {
     let wanted = std::env::args().nth(1);
     let wanted = |name: &str| wanted.as_deref().is_none_or(|wanted| wanted == name);
@@ -33,7 +28,7 @@ fn main() -> Result<(), Box<dyn Error>> {
         return Ok(());
     };
 
-    let record = Record::new(&problem())?;
+    let record = Record::new(&leaf::sample())?;
     let mut known = clauses(record.bytes())?;
     println!("{} clauses, for {}", known.len(), solver.0);
     let Some(solution) = next_solution(solver, &record, &mut known)? else {
@@ -64,34 +59,6 @@ fn at_hand(name: &str) -> bool {
         .stdout(Stdio::null())
         .stderr(Stdio::null());
     quiet.status().is_ok()
-}
-
-fn problem() -> Problem {
-    let cell = |cell: char| match cell {
-        '#' => ProblemCell::Black,
-        'O' => ProblemCell::Square,
-        _ => ProblemCell::Empty,
-    };
-    let arrow = |&((y, x), steps): &((usize, usize), &str)| {
-        let mut cells = vec![(y, x)];
-        for step in steps.chars() {
-            let (y, x) = cells[cells.len() - 1];
-            cells.push(match step {
-                'U' => (y - 1, x),
-                'D' => (y + 1, x),
-                'L' => (y, x - 1),
-                _ => (y, x + 1),
-            });
-        }
-        cells
-    };
-    Problem {
-        cells: CELLS
-            .iter()
-            .map(|row| row.chars().map(cell).collect())
-            .collect(),
-        arrows: ARROWS.iter().map(arrow).collect(),
-    }
 }
 
 /// A finished board that satisfies the clauses, if there is one. The reasons that are met on the way become clauses.
@@ -156,8 +123,6 @@ fn proposed(
 }
 
 fn print_board(record: &Record, board: &[Literal]) {
-    for row in board.chunks(record.width()) {
-        let cell = |&(_, square): &Literal| if square { "O" } else { "." };
-        println!("{}", row.iter().map(cell).collect::<String>());
-    }
+    let cells: Vec<bool> = board.iter().map(|&(_, square)| square).collect();
+    print!("{}", leaf::board(&cells, record.width()));
 }

@@ -30,7 +30,8 @@ pub(crate) const OUTPUT_LIMIT: usize = 2 * (3 * 32 * 32 + 1);
 /// [`Refusal::Player`] are given of a [`Board`](crate::Board) alone: the calls that take a record open a board of their own, a decision in bytes has one
 /// bit of value, nothing is undone, and they find as player 0. [`Refusal::Edition`] is given of a setter's file, of a
 /// [`Leaf`](crate::Leaf) and where a board is opened, and [`Refusal::Sizes`] of the last two: the other calls are for edition 1 and leaves without sizes,
-/// or for both editions.
+/// or for both editions. Those from [`Refusal::CertificateLength`] on are of a
+/// [`Certificate`](crate::Certificate).
 ///
 /// The table grows, so a `match` needs an arm for the refusals that it doesn't name.
 #[derive(Clone, Copy, Debug, PartialEq, Eq, Hash)]
@@ -81,6 +82,22 @@ pub enum Refusal {
     /// 22: the list of sizes ends inside a range, or one of its ranges starts at 0, is upside down, sits off an arrow or doesn't rise
     /// above the cell before it.
     Sizes,
+    /// 23: the certificate is not whole words of three bytes, or has more than 2^23 of them.
+    CertificateLength,
+    /// 24: the certificate doesn't begin with the step of a claimed solution.
+    NoSolutionStep,
+    /// 25: the claimed solution is not finished in the edition and with the sizes.
+    SolutionUnfinished,
+    /// 26: a step of the certificate is not whole.
+    StepCut,
+    /// 27: a step's clause has more literals than the leaf has cells, or a word that is no literal of the leaf.
+    NotALiteral,
+    /// 28: a step's hint is not the place of an earlier step, decides no cell, or is false before the last hint.
+    Hint,
+    /// 29: a step doesn't close: no clash, no reason, and no arrow that is short of two cells that may be square.
+    NotClosed,
+    /// 30: the certificate ends without the step of no literals, or something follows it.
+    CertificateEnd,
     /// Another number: the linked library has refusals that this package doesn't know.
     Unknown(u32),
 }
@@ -111,6 +128,14 @@ impl Refusal {
             20 => Refusal::Tail,
             21 => Refusal::Unfinished,
             22 => Refusal::Sizes,
+            23 => Refusal::CertificateLength,
+            24 => Refusal::NoSolutionStep,
+            25 => Refusal::SolutionUnfinished,
+            26 => Refusal::StepCut,
+            27 => Refusal::NotALiteral,
+            28 => Refusal::Hint,
+            29 => Refusal::NotClosed,
+            30 => Refusal::CertificateEnd,
             _ => Refusal::Unknown(number),
         }
     }
@@ -140,6 +165,14 @@ impl Refusal {
             Refusal::Tail => 20,
             Refusal::Unfinished => 21,
             Refusal::Sizes => 22,
+            Refusal::CertificateLength => 23,
+            Refusal::NoSolutionStep => 24,
+            Refusal::SolutionUnfinished => 25,
+            Refusal::StepCut => 26,
+            Refusal::NotALiteral => 27,
+            Refusal::Hint => 28,
+            Refusal::NotClosed => 29,
+            Refusal::CertificateEnd => 30,
             Refusal::Unknown(number) => number,
         }
     }
@@ -176,6 +209,14 @@ impl fmt::Display for Refusal {
             Refusal::Sizes => {
                 "the sizes end inside a range, or one starts at 0, is upside down, sits off an arrow or doesn't rise above the cell before it"
             }
+            Refusal::CertificateLength => "the certificate is not whole words, or has too many",
+            Refusal::NoSolutionStep => "the certificate doesn't begin with the step of a claimed solution",
+            Refusal::SolutionUnfinished => "the claimed solution is not finished",
+            Refusal::StepCut => "a step of the certificate is not whole",
+            Refusal::NotALiteral => "a step's clause is too long, or a word of it is no literal of the leaf",
+            Refusal::Hint => "a step's hint is not the place of an earlier step, decides no cell, or is false before the last one",
+            Refusal::NotClosed => "a step doesn't close",
+            Refusal::CertificateEnd => "the certificate ends without the step of no literals, or something follows it",
             Refusal::Unknown(_) => "this package doesn't know why",
         };
         write!(f, "refused {}: {}", self.number(), what)

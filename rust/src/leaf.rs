@@ -134,6 +134,11 @@ impl<'a> Leaf<'a> {
         }
     }
 
+    /// What the exported calls take of it: the record, the edition and the sizes.
+    pub(crate) fn parts(&self) -> (&[u8], u32, &[u8]) {
+        (&self.record, self.edition, &self.sizes)
+    }
+
     /// Whether the leaf can be opened: the record's refusals, then [`Refusal::Edition`], then [`Refusal::Sizes`].
     pub fn accepted(&self) -> Result<(), Refusal> {
         // With no decisions nothing else is refused.

@@ -7,10 +7,11 @@
 //! `SimpleCustomConstraint`, so that it can stand where `EvolminoConstraint` stood. All of them are for edition 1 of the rules (README, The
 //! puzzle) and leaves without sizes, but [`setter_file`] takes the [`Edition`]; records that are turned or joined are so for both editions. A
 //! [`Leaf`] is a record in either edition and with sizes: the same questions are its methods. A [`Board`] is a leaf that is opened for a game: it keeps
-//! decisions and counts of hints from call to call.
+//! decisions and counts of hints from call to call. [`Leaf::unique`] checks a [`Certificate`] that the leaf has one solution only, and
+//! [`Leaf::certify`] makes one with a SAT solver.
 //!
-//! What is proved are the library's exported calls. This package around them, which writes records, keeps decisions and reads the
-//! answer, is plain Rust: `compare constraint` holds it beside the original.
+//! What is proved are the library's exported calls. This package around them, which writes records, keeps decisions, makes certificates and
+//! reads the answer, is plain Rust: `compare constraint` holds it beside the original.
 //!
 //! ```
 //! use evolmino::{Problem, ProblemCell, Record};
@@ -34,9 +35,11 @@ mod file;
 mod host;
 mod join;
 mod leaf;
+mod maker;
 mod record;
 mod shades;
 mod turn;
+mod unique;
 
 pub use board::{Board, Cell};
 pub use certain::{certain, certain_bytes, certain_given_first, Certain, Fact};
@@ -49,6 +52,8 @@ pub use file::{
 pub use host::{find, find_bytes, finished, finished_bytes, Literal, Refusal};
 pub use join::{join, join_bytes};
 pub use leaf::{Leaf, Size};
+pub use maker::{MakerError, Solver};
 pub use record::{Problem, ProblemCell, Record, RecordError};
 pub use shades::{blocks, shades_bytes, Block, Blocks};
 pub use turn::{turn, turn_bytes, Turning};
+pub use unique::{Certificate, Counts, Step};

@@ -153,6 +153,30 @@ pub(crate) fn number_of_cells(record: &[u8]) -> usize {
     }
 }
 
+/// The arrows of a record that the library accepts, each as its cells from the tail on. Of another one, those that can be read.
+pub(crate) fn arrows_of(record: &[u8]) -> Vec<Vec<usize>> {
+    let width = field(record, 5, 5).map_or(0, |width| width + 1);
+    let mut bit = 21 + 2 * number_of_cells(record);
+    let arrow = |_| {
+        let start = field(record, bit, 5)? * width + field(record, bit + 5, 5)?;
+        let steps = field(record, bit + 10, 10)?;
+        let mut cells = vec![start];
+        for number in 0..steps {
+            let cell = cells[number];
+            cells.push(match field(record, bit + 20 + 2 * number, 2)? {
+                0 => cell.checked_sub(width)?,
+                1 => cell + width,
+                2 => cell.checked_sub(1)?,
+                _ => cell + 1,
+            });
+        }
+        bit += 20 + 2 * steps;
+        Some(cells)
+    };
+    let arrows = field(record, 10, 11).unwrap_or(0);
+    (0..arrows).map_while(arrow).collect()
+}
+
 /// The field of so many bits that starts at this bit of a record, if it is there.
 fn field(record: &[u8], start: usize, bits: usize) -> Option<usize> {
     (start..start + bits).try_fold(0, |value, place| {

@@ -1,6 +1,7 @@
 //! `compare bench`: the original and, where it is linked, the host call, on the same boards; then
 //! their parts.
 
+use super::checkings;
 use super::filings;
 use super::joinings;
 use super::parts;
@@ -63,6 +64,7 @@ pub fn run(seed: u64, rounds: usize) -> Outcome {
     turnings::run(seed, &SIDES, rounds)?;
     joinings::run(seed, &SIDES, rounds)?;
     filings::run(seed, &SIDES, rounds)?;
+    checkings::run(rounds)?;
     parts::run(&boards_by_side)
 }
 

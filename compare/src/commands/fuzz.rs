@@ -11,6 +11,7 @@ use super::join::FuzzedJoins;
 use super::shades::FuzzedShades;
 use super::sizes::FuzzedSizes;
 use super::turn::FuzzedTurnings;
+use super::unique::FuzzedCertificates;
 use crate::answers::host_facts;
 use crate::generate::boards::{board_of_size, Decided};
 use crate::generate::hosts::{host_input, HostInput};
@@ -57,6 +58,7 @@ pub fn run(seed: u64, count: usize) -> Outcome {
     let mut joins = FuzzedJoins::new(seed)?;
     let mut files = FuzzedFiles::new(seed)?;
     let mut sizes = FuzzedSizes::new(seed)?;
+    let mut certificates = FuzzedCertificates::new(seed)?;
     let leaves = finished_leaves(&mut random, FINISHED);
     let mut done = 0;
     while done < count {
@@ -76,6 +78,7 @@ pub fn run(seed: u64, count: usize) -> Outcome {
             joins.check(&input.record)?;
             files.check(&board)?;
             sizes.check(&board, &input)?;
+            certificates.check()?;
             match check(&mut random, host_call, &input)? {
                 Ok(reason) => counts.found[Tally::column(reason.as_ref())] += 1,
                 Err(refusal) => counts.refused[usize::from(refusal.number())] += 1,
@@ -100,6 +103,7 @@ pub fn run(seed: u64, count: usize) -> Outcome {
     println!("{}", joins.line());
     files.print();
     println!("{}", sizes.line());
+    println!("{}", certificates.line());
     Ok(())
 }
 

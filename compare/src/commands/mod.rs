@@ -6,6 +6,8 @@ mod board_beside;
 mod board_calls;
 pub mod calls;
 pub mod certain;
+pub mod certify;
+mod checkings;
 pub mod clauses;
 #[cfg(feature = "host")]
 pub mod constraint;
@@ -33,4 +35,5 @@ pub mod steps;
 pub mod touches;
 pub mod turn;
 mod turnings;
+pub mod unique;
 pub mod verdict;

@@ -2,6 +2,7 @@
 
 pub mod boards;
 pub mod calls;
+pub mod certificates;
 mod drawn;
 pub mod files;
 pub mod hosts;
@@ -16,3 +17,4 @@ pub mod records;
 pub mod sizes;
 pub mod small;
 pub mod solved;
+pub mod unique;

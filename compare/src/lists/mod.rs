@@ -4,10 +4,12 @@
 //! significant byte first.
 
 mod calls;
+mod certificates;
 pub mod finds;
 pub mod groups;
 mod hosts;
 pub mod inputs;
+pub mod kept;
 mod numbers;
 mod records;
 mod strip;
@@ -30,6 +32,7 @@ pub fn run(seed: u64, folder: &str) -> Outcome {
         calls::call_lists(seed)?,
         hosts::hosts(seed)?,
         inputs::inputs(seed)?,
+        certificates::certificates(seed)?,
     ];
     for list in lists {
         list.write(folder)?;
@@ -69,8 +72,8 @@ impl List {
         list
     }
 
-    /// A list that is run once and not kept.
-    fn passing(what: &str) -> List {
+    /// A list without a line on how it was made.
+    pub fn passing(what: &str) -> List {
         List {
             name: "",
             limit: usize::MAX,
@@ -81,18 +84,18 @@ impl List {
     }
 
     /// A line of the head.
-    fn line(&mut self, text: &str) {
+    pub fn line(&mut self, text: &str) {
         self.head += &format!("# {text}\n");
     }
 
     /// Lines of the head.
-    fn lines(&mut self, texts: &[&str]) {
+    pub fn lines(&mut self, texts: &[&str]) {
         for text in texts {
             self.line(text);
         }
     }
 
-    fn u8(&mut self, number: u8) {
+    pub fn u8(&mut self, number: u8) {
         self.data.push(number);
     }
 
@@ -112,7 +115,7 @@ impl List {
     }
 
     /// A length and that many bytes.
-    fn long_bytes(&mut self, bytes: &[u8]) {
+    pub fn long_bytes(&mut self, bytes: &[u8]) {
         self.u16(bytes.len());
         self.bytes(bytes);
     }

@@ -1,11 +1,12 @@
-//! A literal reading of document 01, one module for each of its sections and in their order, and of
-//! the requests of document 02.
+//! A literal reading of document 01, one module for each of its sections and in their order, of the
+//! requests of document 02, and of the certificates of README.
 //!
 //! It is written from the documents, not from the original, and for the reader: where the document
 //! says "each" there is a loop, and nothing is clever.
 
 pub mod board;
 pub mod certain;
+pub mod certificate;
 pub mod clauses;
 pub mod file;
 pub mod finished;
@@ -55,6 +56,14 @@ pub enum Refusal {
     Tail = 20,
     Unfinished = 21,
     Sizes = 22,
+    CertificateLength = 23,
+    NoSolutionStep = 24,
+    SolutionUnfinished = 25,
+    StepCut = 26,
+    NotALiteral = 27,
+    Hint = 28,
+    NotClosed = 29,
+    CertificateEnd = 30,
 }
 
 impl Refusal {

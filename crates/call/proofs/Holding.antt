@@ -8,7 +8,8 @@ use mathlib.Core.Bool.{true}
 use mathlib.Core.List.{List, []}
 use lib.ListN.{length, take}
 use lib.Seq.{length-take-le}
-use Rattle.grid.specs.Grid.{size}
+use Rattle.grid.specs.Lists.{last}
+use Rattle.grid.specs.Grid.{Grid, size}
 use Rattle.grid.specs.Side.{sized}
 use Rattle.fields.proofs.OutcomeLaws.{bind-ok}
 use Rattle.fields.proofs.ReadLaws.{bind-value, bind-refused}
@@ -36,6 +37,10 @@ use Rattle.sizes.proofs.KeptLaws.{array-long, kept-sizes}
 use Rattle.sizes.proofs.FormLaws.{good-arrays}
 use Rattle.sized.specs.Inside.{SizesOn}
 use Rattle.sized.proofs.SizeLaws.{no-sizes-on, none-kept}
+use Rattle.kinds.specs.Inside.{puzzleWith}
+use Rattle.inconsistency.specs.Arrays.{ArrowArrays}
+use Rattle.reasons.specs.Reasons.{findReason}
+use Rattle.reasons.proofs.BoardArrays.{arrow-arrays, codes-aside}
 use Rattle.reasons.proofs.LentSizes.{taken-on, taken-kept}
 use Rattle.call.specs.Call.{leafFrom}
 use Rattle.call.specs.Inside.{editionOf, withSizes, Keeps, bare, kept, Holds}
@@ -140,6 +145,9 @@ module _ {l : Leaf} {e : ℕ} {lows highs : List ℕ} {h w : ℕ} {arrows ends :
   pub holds-few : h * w ≤ 1024
   holds-few = omega (arith, holds-size, valid-size (x .drawn .valid))
 
+  pub holds-small : (h ≤ 32) × (w ≤ 32)
+  holds-small = let v = x .drawn .valid .high in (omega (arith, ap (λ (g : Grid). g .height) (x .grid), v .0), omega (arith, ap (λ (g : Grid). g .width) (x .grid), v .1))
+
   -- the arrows in the arrays are the leaf's
   pub holds-lines : linesOf arrows ends number ≡ l .puzzle .arrows
   unfolding puzzleOf
@@ -165,6 +173,14 @@ module _ {l : Leaf} {e : ℕ} {lows highs : List ℕ} {h w : ℕ} {arrows ends :
       go : Keeps (h * w) (l .sizes) lows highs → SizesOn (h * w) (l .puzzle .arrows) lows highs
       go (bare n a b) = rw (a, b) (no-sizes-on (h * w) (l .puzzle .arrows))
       go (kept a b) = rw (a, b) (taken-on (l .puzzle .arrows) (lowestOf (l .sizes)) (highestOf (l .sizes)) sound (h * w) holds-few (h * w) (omega arith))
+
+  -- the arrays are as find takes them
+  pub holds-arrays : ArrowArrays (h * w) arrows ends number (last 0 (take number ends))
+  holds-arrays = rw (x .drawn .line, x .drawn .cuts, x .drawn .number, holds-size) (arrow-arrays (l .puzzle) (x .drawn .valid))
+
+  -- and the first reason by them is the leaf's
+  pub holds-reason : (states : List ℕ) → findReason (leafWith e (keptRanges lows highs (length lows)) (puzzleWith (sized h w) (linesOf arrows ends number))) states ≡ findReason l states
+  holds-reason states = rw (x .edition, holds-ranges, x .grid, holds-lines) (codes-aside l states)
 
   -- with the codes of the cells the arrays are the problem of its puzzle
   module _ {codes : List ℕ} (c : codes ≡ problemOf (l .puzzle) .cells) where

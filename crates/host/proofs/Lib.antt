@@ -5,3 +5,4 @@ pub mod Returns
 pub mod LentReturns
 pub mod ShadedLeaves
 pub mod ToldLeaves
+pub mod UniqueLeaves

@@ -3,6 +3,7 @@
 -- Assumes nothing.
 use Prim.Native.Nat.{ℕ, zero, suc, _+_, _*_, _/_, _%_, _≤_, _<_}
 use native.Mathlib.Omega.{arith}
+use native.Mathlib.Decide.{ℕ-discrete}
 use mathlib.Core.Logic.{_⊎_, inl, inr}
 use mathlib.Core.Path.{_≡_, refl, sym, _∙_}
 use mathlib.Core.Bool.{Bool, true, false, cond, _&&_, _||_, not, false≢true}
@@ -48,11 +49,14 @@ use Rattle.sizes.specs.Bytes.{numbersIn, sizesIn}
 use Rattle.call.specs.Call.{acceptOr, decideBytes, callOn, hostCall, leafFrom, hostCallWith}
 use Rattle.call.proofs.Opened.{from-opened, from-valid}
 use Rattle.call.proofs.Steps.{first-leaf}
+use Rattle.certificate.specs.Certificate.{wordsOf, wholeWords, claimed, headed}
+use Rattle.unique.specs.Unique.{stepsOf, solutionOr, hostUnique}
+use Rattle.unique.proofs.StepLaws.{Refusal, steps-refusal}
 use Rattle.host_find.specs.Host.{hostFinds, hostFindsWith, returned}
 use Rattle.host_finished.specs.Judged.{hostFinished, hostFinishedWith}
 use Rattle.host_shades.specs.Shaded.{hostShades}
 use Rattle.host_certain.specs.Told.{certaintyNumber, Said, saidOf, certainOn, hostCertain, hostCertainWith}
-use Rattle.host.specs.Returns.{faults, refusals, hostRefusals, withRefusals, Returns, negated-refusal, literal-count, Possible, refusal-of, value-of, FoundOn, no-reason, some-reason, FoundWith}
+use Rattle.host.specs.Returns.{faults, refusals, hostRefusals, withRefusals, uniqueRefusals, Returns, negated-refusal, literal-count, Possible, refusal-of, value-of, FoundOn, no-reason, some-reason, FoundWith}
 
 -- ---- an outcome step by step
 
@@ -411,6 +415,31 @@ certain-possible s decisions budget k low = call-possible (λ g. 8 + size g) (ce
 pub certain-with-possible : (s : List ℕ) (e : ℕ) (sizes decisions : List ℕ) (budget k : ℕ) → Bytes decisions → Possible withRefusals SaidOne (hostCertainWith s e sizes decisions budget k)
 unfolding hostCertainWith
 certain-with-possible s e sizes decisions budget k low = with-possible s e sizes decisions low (λ g. 8 + size g) (certainOn budget) k (λ l o ds _. certain-number budget l ds)
+
+-- the call that checks a certificate: that it is accepted, or a refusal of the record, 16 or 22, or one of the certificate
+pub unique-possible : (s : List ℕ) (e : ℕ) (sizes c : List ℕ) → Possible uniqueRefusals (λ (solution : List ℕ). Unit {0}) (hostUnique s e sizes c)
+unfolding hostUnique
+unique-possible s e sizes c =
+    then-possible (leaf-possible (λ k m. Memᴰ·append-left (23 ∷ 24 ∷ 25 ∷ 26 ∷ 27 ∷ 28 ∷ 29 ∷ 30 ∷ []) m) s e sizes) λ l _.
+    then-possible (unless-possible (wholeWords c) 23 (λ _. listed 23 uniqueRefusals refl)) λ _ _.
+    then-possible (unless-possible (headed (size (l .puzzle .grid)) (wordsOf c)) 24 (λ _. listed 24 uniqueRefusals refl)) λ _ _.
+    then-possible (unless-possible (finishedTest l (claimed (size (l .puzzle .grid)) (wordsOf c))) 25 (λ _. listed 25 uniqueRefusals refl)) λ _ _.
+    solved (stepsOf l (wordsOf c)) (claimed (size (l .puzzle .grid)) (wordsOf c)) (steps-refusal l (wordsOf c) (length (wordsOf c)) (size (l .puzzle .grid) + 2))
+  where
+    one : (k : ℕ) → 26 ≤ k → k ≤ 30 → List·Memᴰ k uniqueRefusals
+    one k h m = go (ℕ-discrete k 26) (ℕ-discrete k 27) (ℕ-discrete k 28) (ℕ-discrete k 29)
+      where
+        go : Dec (k ≡ 26) → Dec (k ≡ 27) → Dec (k ≡ 28) → Dec (k ≡ 29) → List·Memᴰ k uniqueRefusals
+        go (yes q) b c d = rw q (listed 26 uniqueRefusals refl)
+        go (no a) (yes q) c d = rw q (listed 27 uniqueRefusals refl)
+        go (no a) (no b) (yes q) d = rw q (listed 28 uniqueRefusals refl)
+        go (no a) (no b) (no c) (yes q) = rw q (listed 29 uniqueRefusals refl)
+        go (no a) (no b) (no c) (no d) = let q : k ≡ 30 = omega arith in rw q (listed 30 uniqueRefusals refl)
+
+    solved : (k : ℕ) (solution : List ℕ) → Refusal k → Possible uniqueRefusals (λ (solution : List ℕ). Unit {0}) (solutionOr k solution)
+    solved zero solution r = unfold solutionOr in value-of tt
+    solved (suc k) solution (inl z) = absurd (omega arith)
+    solved (suc k) solution (inr r) = unfold solutionOr in refusal-of (one (suc k) (r .0) (r .1))
 
 -- the record at the head of a file: 1 to 5
 head-possible : (s : List ℕ) → Possible faults Any (readHead s)

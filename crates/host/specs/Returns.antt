@@ -27,6 +27,10 @@ hostRefusals = 11 ∷ refusals
 abbrev pub withRefusals : List ℕ
 withRefusals = 16 ∷ 22 ∷ hostRefusals
 
+-- those of the call that checks a certificate, 23 to 30 for what is wrong with it
+abbrev pub uniqueRefusals : List ℕ
+uniqueRefusals = 16 ∷ 22 ∷ faults ++ (23 ∷ 24 ∷ 25 ∷ 26 ∷ 27 ∷ 28 ∷ 29 ∷ 30 ∷ [])
+
 -- the numbers that a call with the refusals ks can return for the record s
 pub data Returns (ks s : List ℕ) : ℤ → Type 0 where
   negated-refusal : {k : ℕ} → List·Memᴰ k ks → Returns ks s (negℤ (pos k))

@@ -10,6 +10,7 @@ ghost use Rattle.file.specs.Call.{playerGiven, setterGiven, givenLength, givenB
 ghost use Rattle.host_find.specs.Host.{hostFinds, hostFindsWith, returned, outputAfter};
 ghost use Rattle.host_finished.specs.Judged.{hostFinished, hostFinishedWith, judged};
 ghost use Rattle.host_shades.specs.Shaded.{hostShades};
+ghost use Rattle.unique.specs.Unique.{hostUnique, uniqueReturned};
 ghost use Rattle.host_certain.specs.Told.{hostCertain, hostCertainWith, saidNumber, saidBytes};
 ghost use Rattle.board.specs.Kept.{openOf};
 ghost use Rattle.board.specs.Decide.{decideOf, undoOf};
@@ -116,6 +117,21 @@ pub extern "C" fn evolmino_certain_with(
         × (now (output .exit) ≡ outputWith (saidBytes (hostCertainWith (now («record» .entry)) edition (now (sizes .entry)) (now (decisions .entry)) budget (length (now (output .entry))))) (now (output .entry))) ⌝ }
 {
     host_certain::certain_with(record, edition, sizes, decisions, budget, output)
+}
+
+// Opens the record in an edition with sizes, which are as in `evolmino_find_with`, and checks a certificate that the leaf has one solution only. Returns 1
+// where it is accepted: the claimed solution, which the certificate starts with, is finished then, and every finished board is it. Or the negated number of
+// a refusal.
+#[no_mangle]
+pub extern "C" fn evolmino_unique(
+    record: &[u8],
+    edition: u32,
+    sizes: &[u8],
+    certificate: &[u8],
+) -> i32
+    ensures { λ r. ⌜ r ≡ uniqueReturned (hostUnique (now («record» .entry)) edition (now (sizes .entry)) (now (certificate .entry))) ⌝ }
+{
+    unique::unique(record, edition, sizes, certificate)
 }
 
 // Turns the record by k: flipped left and right first if k is 4 or more, then k modulo 4 quarter turns clockwise. The turned record stands in the

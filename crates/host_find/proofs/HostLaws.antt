@@ -7,7 +7,7 @@ use mathlib.Core.List.{List, []}
 use lib.ListN.{length, take}
 use Rattle.grid.specs.Grid.{Grid}
 use Rattle.grid.specs.Side.{sized}
-use Rattle.grid.specs.Lists.{last, arrayOf}
+use Rattle.grid.specs.Lists.{arrayOf}
 use Rattle.grid.specs.Cells.{Literal}
 use Rattle.record.specs.Record.{Outcome, ok, refused, Puzzle, readRecord, _>>=_}
 use Rattle.record.specs.Leaf.{Leaf, leafWith, inEdition}
@@ -26,15 +26,13 @@ use Rattle.kinds.specs.Inside.{puzzleWith}
 use Rattle.literals.specs.Literals.{Found}
 use Rattle.reasons.specs.Reasons.{findReason, findOn}
 use Rattle.groups.specs.Arrays.{linesOf}
-use Rattle.inconsistency.specs.Arrays.{ArrowArrays}
 use Rattle.reasons.specs.Find.{answerOn}
-use Rattle.reasons.proofs.BoardArrays.{arrow-arrays, codes-aside}
 use Rattle.reasons.proofs.Demand3.{long-answer}
 use Rattle.call.specs.Call.{decideBytes, leafFrom}
 use Rattle.call.specs.Inside.{Decides, Holds}
 use Rattle.call.proofs.Opened.{from-valid}
 use Rattle.call.proofs.Steps.{decidedBy, bytes-standing, first-leaf, fresh-well, all-decided, states-taken, call-short, call-long, call-refused, call-done, call-plain}
-use Rattle.call.proofs.Holding.{holds-size, holds-lines, holds-ranges}
+use Rattle.call.proofs.Holding.{holds-size, holds-reason}
 use Rattle.host_find.specs.Host.{hostFinds, hostFindsWith}
 use Rattle.host_find.specs.Inside.{leafFinds}
 
@@ -51,17 +49,6 @@ module _ {l : Leaf} {e : ℕ} {lows highs : List ℕ} {h w : ℕ} {arrows ends :
   -- the first reason by the arrays and slices and the states of the cells
   abbrev pub reasonIn : List ℕ → Found
   reasonIn cells = findReason (leafWith e (keptRanges lows highs (length lows)) (puzzleWith (sized h w) (linesOf arrows ends number))) (take (h * w) cells)
-
-  -- it is the leaf's
-  reason-is : (states : List ℕ) → findReason (leafWith e (keptRanges lows highs (length lows)) (puzzleWith (sized h w) (linesOf arrows ends number))) states ≡ findReason l states
-  reason-is states = rw (x .edition, holds-ranges x, x .grid, holds-lines x) (codes-aside l states)
-
-  -- the arrays hold the arrows
-  pub holds-arrays : ArrowArrays (h * w) arrows ends number (last 0 (take number ends))
-  holds-arrays = rw (x .drawn .line, x .drawn .cuts, x .drawn .number, holds-size x) (arrow-arrays (l .puzzle) (x .drawn .valid))
-
-  pub holds-small : (h ≤ 32) × (w ≤ 32)
-  holds-small = let v = x .drawn .valid .high in (omega (arith, ap (λ (g : Grid). g .height) (x .grid), v .0), omega (arith, ap (λ (g : Grid). g .width) (x .grid), v .1))
 
   module _ (decisions : List ℕ) (n : ℕ) where
     -- an output that is too short
@@ -84,7 +71,7 @@ module _ {l : Leaf} {e : ℕ} {lows highs : List ℕ} {h w : ℕ} {arrows ends :
           said : (ds : List Literal) → Standing (l .puzzle .grid) ds → cells ≡ arrayOf 2 (cellsAfter (l .puzzle .grid) ds) → findOn l ds ≡ reasonIn cells
           said ds t q =
               let z : take (h * w) cells ≡ cellsAfter (l .puzzle .grid) ds = rw (holds-size x, q) (states-taken t) in
-              sym (reason-is (take (h * w) cells) ∙ ap (findReason l) z)
+              sym (holds-reason x (take (h * w) cells) ∙ ap (findReason l) z)
 
 -- the call finds as player 0: with its decisions accepted it says what find answers that player on the board that is left
 module _ (l : Leaf) (v : ValidLeaf l) {b : Board} (fresh : b ≡ boardOf l [] noHints) (decisions : List ℕ) (n : ℕ) (buffer : List ℕ) (k : enough (l .puzzle .grid) ≤ length buffer) (h : 2 * enough (l .puzzle .grid) ≤ n) where

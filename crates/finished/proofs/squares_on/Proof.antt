@@ -6,12 +6,14 @@ use mathlib.Core.Logic.{⊎-elim}
 use mathlib.Core.Path.{_≡_}
 use lib.ListN.{getD}
 use borrow.Author.Needs.{needs}
-use Rattle.finished.proofs.ArrowSquares.{ahead, squares-done, square-counted, other-passed}
+use borrow.Author.Tests.{eq-eqb, ne-eqb}
+use Rattle.grid.specs.Cells.{square}
+use Rattle.finished.proofs.ArrowSquares.{ahead, none-ahead, one-counted, other-passed}
 use Rattle.finished.proofs.squares_on.Statement.{statement}
 use Rattle.finished.proofs.squares_on.Tie as tie
 
 abbrev Inv-loop : tie.InvT-loop
-Inv-loop cells arrows from to count₀ k₀ count k = (count + ahead cells arrows to k ≡ ahead cells arrows to from) × (count ≤ k)
+Inv-loop cells arrows from to count₀ k₀ count k = (count + ahead (square cells) arrows to k ≡ ahead (square cells) arrows to from) × (count ≤ k)
 
 abbrev μ-loop : tie.MeasureT-loop
 μ-loop cells arrows from to count₀ k₀ count k = to - k
@@ -41,6 +43,7 @@ loop-less : tie.Need-loop-less Inv-loop μ-loop
 loop-less c = search needs
 
 loop-again : tie.Need-loop-again Inv-loop μ-loop
+unfolding square
 loop-again c =
     let s = c .before .before .before .before .before .before in
     let l = c .before .before .before .before .before .loop in
@@ -50,15 +53,15 @@ loop-again c =
     let at = c .before .before .wide .ensures .0 in
     ⊎-elim
     (λ w. let e : here ≡ 1 = rw (← at) (w .0 .taken) in
-    (omega (arith, w .1, square-counted cells arrows (s .args .to) (l .k) (omega arith) (omega (arith, s .pre .1 .long)) e), omega (arith, w .1)))
+    (omega (arith, w .1, one-counted (square cells) arrows (s .args .to) (l .k) (omega arith) (omega (arith, s .pre .1 .long)) (eq-eqb here 1 e)), omega (arith, w .1)))
     (λ w. let n : here ≡ 1 → ⊥ = rw (← at) (w .0 .left) in
-    (omega (arith, w .1, other-passed cells arrows (s .args .to) (l .k) (omega arith) (omega (arith, s .pre .1 .long)) n), omega (arith, w .1)))
+    (omega (arith, w .1, other-passed (square cells) arrows (s .args .to) (l .k) (omega arith) (omega (arith, s .pre .1 .long)) (ne-eqb here 1 n)), omega (arith, w .1)))
     (c .if1 .came)
 
 returns : tie.Need-returns Inv-loop μ-loop
 returns c =
     let a = c .before .before .args in
-    omega (arith, squares-done (a .cells .now) (a .arrows .now) (a .to) (c .before .loop .k) (c .loop-test .left))
+    omega (arith, none-ahead (square (a .cells .now)) (a .arrows .now) (a .to) (c .before .loop .k) (c .loop-test .left))
 
 pub squares-on-spec : {M : Type 1} → statement M
 squares-on-spec =

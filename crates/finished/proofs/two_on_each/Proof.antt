@@ -10,6 +10,7 @@ use lib.ListN.{length, getD, take, drop}
 use lib.Seq.{length-take-le, getD-take}
 use borrow.Author.Needs.{needs}
 use Rattle.grid.specs.Lists.{all}
+use Rattle.grid.specs.Cells.{square}
 use Rattle.record.specs.Problem.{arrowsFrom}
 use Rattle.form.proofs.Steps.{arrows-on, arrows-fail, arrows-end}
 use Rattle.groups.specs.Arrays.{linesOf}
@@ -57,6 +58,7 @@ loop-less : tie.Need-loop-less Inv-loop μ-loop
 loop-less c = search needs
 
 loop-again : tie.Need-loop-again Inv-loop μ-loop
+unfolding twoSquares
 loop-again c =
     let i = c .before .before .before .before in
     let s = i .before .before in
@@ -66,13 +68,13 @@ loop-again c =
     let arrows = s .args .arrows .now in
     let ends = s .args .ends .now in
     let end : getD (cuts s) (l .a) 0 ≡ c .before .before .wide .result = getD-take (s .args .number) ends (l .a) 0 within ∙ sym (c .before .before .wide .ensures .0) in
-    let counted : c .before .squares-on .result ≡ ahead cells arrows (getD ends (l .a) 0) (l .from) = rw (c .before .before .wide .ensures .0) at (c .before .squares-on .ensures) in
+    let counted : c .before .squares-on .result ≡ ahead (square cells) arrows (getD ends (l .a) 0) (l .from) = rw (c .before .before .wide .ensures .0) at (c .before .squares-on .ensures) in
     let lt : l .a < length (cuts s) = omega (arith, cuts-length s, within) in
     ⊎-elim
     (λ w. rw (w .1)
-    (arrows-fail (twoSquares cells) arrows (cuts s) (l .good) (l .from) (l .a) lt (l .inv) (lacks-two cells arrows ends (s .args .number) (l .from) (l .a) within counted (w .0 .taken))))
+    (arrows-fail (twoSquares cells) arrows (cuts s) (l .good) (l .from) (l .a) lt (l .inv) (lacks-two (square cells) arrows ends (s .args .number) (l .from) (l .a) within counted (w .0 .taken))))
     (λ w. rw (w .1, ← end)
-    (arrows-on (twoSquares cells) arrows (cuts s) (l .good) (l .from) (l .a) lt (l .inv) (has-two cells arrows ends (s .args .number) (l .from) (l .a) within counted (w .0 .left))))
+    (arrows-on (twoSquares cells) arrows (cuts s) (l .good) (l .from) (l .a) lt (l .inv) (has-two (square cells) arrows ends (s .args .number) (l .from) (l .a) within counted (w .0 .left))))
     (c .if1 .came)
 
 returns : tie.Need-returns Inv-loop μ-loop

@@ -8,8 +8,8 @@ use mir.Syntax.{w32}
 use mir.ValLaws.{toZ-ofZ}
 use Rattle.record.specs.Leaf.{Leaf}
 use Rattle.call.specs.Inside.{Decides, Holds}
-use Rattle.call.proofs.Holding.{holds-size, holds-few, holds-on, edition-not-0}
-use Rattle.host_find.proofs.HostLaws.{holds-arrays, holds-small, output-short, decisions-refused, decisions-done}
+use Rattle.call.proofs.Holding.{holds-size, holds-few, holds-small, holds-on, holds-arrays, edition-not-0}
+use Rattle.host_find.proofs.HostLaws.{output-short, decisions-refused, decisions-done}
 use Rattle.host_find.proofs.FoundLaws.{refused-told, told-as}
 use borrow.Author.Needs.{needs}
 use Rattle.host_find.proofs.find_behind.Statement.{statement}

@@ -1,0 +1,4 @@
+pub mod Under
+pub mod Steps
+pub mod OneLaws
+pub mod GoodLaws

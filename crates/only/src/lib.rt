@@ -1,0 +1,1 @@
+// A leaf with an accepted certificate has one solution only: laws only.
