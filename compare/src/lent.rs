@@ -73,66 +73,21 @@ pub struct BoardCalls {
     pub hints: fn(&Memory, u8) -> i32,
 }
 
+// The package keeps its memory to itself. So its text of the calls is taken here once more, for the memory above; the package links them.
+#[cfg(feature = "host")]
+#[path = "../../rust/src/board/calls.rs"]
+mod calls;
+
 /// These calls, if this program was built with them.
 #[cfg(feature = "host")]
-pub const BOARD_CALLS: Option<BoardCalls> = Some(linked::CALLS);
+pub const BOARD_CALLS: Option<BoardCalls> = Some(BoardCalls {
+    open: calls::open,
+    decide: calls::decide,
+    undo: calls::undo,
+    find: calls::find,
+    finished: calls::finished,
+    certain: calls::certain,
+    hints: calls::hints,
+});
 #[cfg(not(feature = "host"))]
 pub const BOARD_CALLS: Option<BoardCalls> = None;
-
-/// The package keeps its memory to itself, so that these are declared here again; it links them.
-#[cfg(feature = "host")]
-mod linked {
-    use super::{BoardCalls, Memory};
-
-    extern "C" {
-        fn evolmino_board_open(
-            record: *const u8,
-            record_len: usize,
-            edition: u32,
-            sizes: *const u16,
-            sizes_len: usize,
-            board: *mut Memory,
-        ) -> i32;
-        fn evolmino_board_decide(board: *mut Memory, index: usize, value: u8) -> i32;
-        fn evolmino_board_undo(board: *mut Memory) -> i32;
-        fn evolmino_board_find(
-            board: *mut Memory,
-            player: u8,
-            literals: *mut u16,
-            literals_len: usize,
-        ) -> i32;
-        fn evolmino_board_finished(board: *const Memory) -> i32;
-        fn evolmino_board_certain(
-            board: *const Memory,
-            budget: u64,
-            output: *mut u8,
-            output_len: usize,
-        ) -> i32;
-        fn evolmino_board_hints(board: *const Memory, player: u8) -> i32;
-    }
-
-    // SAFETY, of each: the pointers come from references and slices, and each slice goes with its length. The
-    // memory has the size and the alignment of the struct, in which any bytes may stand.
-    pub const CALLS: BoardCalls = BoardCalls {
-        open: |record, edition, sizes, board| unsafe {
-            evolmino_board_open(
-                record.as_ptr(),
-                record.len(),
-                edition,
-                sizes.as_ptr(),
-                sizes.len(),
-                board,
-            )
-        },
-        decide: |board, index, value| unsafe { evolmino_board_decide(board, index, value) },
-        undo: |board| unsafe { evolmino_board_undo(board) },
-        find: |board, player, literals| unsafe {
-            evolmino_board_find(board, player, literals.as_mut_ptr(), literals.len())
-        },
-        finished: |board| unsafe { evolmino_board_finished(board) },
-        certain: |board, budget, output| unsafe {
-            evolmino_board_certain(board, budget, output.as_mut_ptr(), output.len())
-        },
-        hints: |board, player| unsafe { evolmino_board_hints(board, player) },
-    };
-}

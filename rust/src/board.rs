@@ -1,43 +1,12 @@
-//! A board for a game: the memory that the exported calls on a lent board take, and these calls, made safe.
+//! A board for a game: the memory that the exported calls on a lent board take, and what these calls say.
+
+mod calls;
 
 use crate::certain::{told, Certain};
 use crate::host::{counted, Literal, Refusal};
 use crate::leaf::{Leaf, Size};
 use std::fmt;
 use std::mem::{offset_of, size_of};
-
-extern "C" {
-    fn evolmino_board_open(
-        record: *const u8,
-        record_len: usize,
-        edition: u32,
-        sizes: *const u16,
-        sizes_len: usize,
-        board: *mut Memory,
-    ) -> i32;
-
-    fn evolmino_board_decide(board: *mut Memory, index: usize, value: u8) -> i32;
-
-    fn evolmino_board_undo(board: *mut Memory) -> i32;
-
-    fn evolmino_board_find(
-        board: *mut Memory,
-        player: u8,
-        literals: *mut u16,
-        literals_len: usize,
-    ) -> i32;
-
-    fn evolmino_board_finished(board: *const Memory) -> i32;
-
-    fn evolmino_board_certain(
-        board: *const Memory,
-        budget: u64,
-        output: *mut u8,
-        output_len: usize,
-    ) -> i32;
-
-    fn evolmino_board_hints(board: *const Memory, player: u8) -> i32;
-}
 
 /// The cells of the largest grid.
 const CELLS: usize = 32 * 32;
@@ -215,18 +184,7 @@ impl Board {
     /// The exported call itself: sizes are numbers, cell, lowest and highest for each.
     pub(crate) fn open_words(record: &[u8], edition: u32, sizes: &[u16]) -> Result<Board, Refusal> {
         let mut board = Board::from_bytes(&[0; Board::SIZE]);
-        // Safe: each pointer comes from a slice or a reference and goes with its length; the call reads the first two, writes only the
-        // board, whose layout is that of the header, and keeps none of them.
-        let answer = unsafe {
-            evolmino_board_open(
-                record.as_ptr(),
-                record.len(),
-                edition,
-                sizes.as_ptr(),
-                sizes.len(),
-                &mut *board.memory,
-            )
-        };
+        let answer = calls::open(record, edition, sizes, &mut board.memory);
         counted(answer).map(|_| board)
     }
 
@@ -268,16 +226,12 @@ impl Board {
 
     /// The exported call itself, for a value of 0 or 1; any other is [`Refusal::Value`], behind [`Refusal::Index`] and before [`Refusal::Decided`].
     pub fn decide_byte(&mut self, index: usize, value: u8) -> Result<(), Refusal> {
-        // Safe: the pointer comes from a reference to memory in the header's layout; the call reads and writes that alone, and doesn't keep it.
-        let answer = unsafe { evolmino_board_decide(&mut *self.memory, index, value) };
-        counted(answer).map(|_| ())
+        counted(calls::decide(&mut self.memory, index, value)).map(|_| ())
     }
 
     /// Takes the latest decision back. Refused: [`Refusal::Board`], then [`Refusal::NothingDecided`].
     pub fn undo(&mut self) -> Result<(), Refusal> {
-        // Safe: as for `decide_byte`.
-        let answer = unsafe { evolmino_board_undo(&mut *self.memory) };
-        counted(answer).map(|_| ())
+        counted(calls::undo(&mut self.memory)).map(|_| ())
     }
 
     /// Why the board can't be finished, if the decisions that stand give a reason, and a hint more for this player, 0 to 3. The answer is that of
@@ -293,23 +247,12 @@ impl Board {
     /// the buffer is unchanged. A literal is value × 32,768 + index. A buffer of fewer than 3 × height × width + 1 literals is
     /// [`Refusal::OutputShort`], behind the refusals of [`Board::find`].
     pub fn find_words(&mut self, player: u8, literals: &mut [u16]) -> Result<usize, Refusal> {
-        // Safe: as for `decide_byte`; the buffer's pointer comes from a slice and goes with its length.
-        let answer = unsafe {
-            evolmino_board_find(
-                &mut *self.memory,
-                player,
-                literals.as_mut_ptr(),
-                literals.len(),
-            )
-        };
-        counted(answer)
+        counted(calls::find(&mut self.memory, player, literals))
     }
 
     /// Whether the board is finished, as [`Leaf::finished`] on the same leaf and decisions. Refused: [`Refusal::Board`].
     pub fn finished(&self) -> Result<bool, Refusal> {
-        // Safe: the pointer comes from a reference to memory in the header's layout; the call only reads it, and doesn't keep it.
-        let answer = unsafe { evolmino_board_finished(&*self.memory) };
-        Ok(counted(answer)? != 0)
+        Ok(counted(calls::finished(&self.memory))? != 0)
     }
 
     /// Which cells are certain, as [`Leaf::certain`] on the same leaf and decisions. Nothing counts as a hint. Refused: [`Refusal::Board`].
@@ -338,19 +281,13 @@ impl Board {
     /// The exported call itself; output and answer are those of [`certain_bytes`](crate::certain_bytes). Refused: [`Refusal::Board`], then
     /// [`Refusal::OutputShort`].
     pub fn certain_bytes(&self, budget: u64, output: &mut [u8]) -> Result<usize, Refusal> {
-        // Safe: as for `finished`; the output's pointer comes from a slice and goes with its length.
-        let answer = unsafe {
-            evolmino_board_certain(&*self.memory, budget, output.as_mut_ptr(), output.len())
-        };
-        counted(answer)
+        counted(calls::certain(&self.memory, budget, output))
     }
 
     /// How many hints this player took, 0 to 3: the finds that were accepted since the board was opened, or 65,535 where they are more. Refused:
     /// [`Refusal::Board`], then [`Refusal::Player`].
     pub fn hints(&self, player: u8) -> Result<u16, Refusal> {
-        // Safe: as for `finished`.
-        let answer = unsafe { evolmino_board_hints(&*self.memory, player) };
-        Ok(counted(answer)? as u16)
+        Ok(counted(calls::hints(&self.memory, player))? as u16)
     }
 
     /// Height and width of the grid. Refused: [`Refusal::Board`].
