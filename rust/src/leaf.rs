@@ -4,7 +4,7 @@
 use crate::board::Board;
 use crate::certain::{asked, given_first, Certain};
 use crate::constraint::Constraint;
-use crate::host::{counted, decided, literals, Literal, Refusal, OUTPUT_LIMIT};
+use crate::host::{decided, literals, Literal, Refusal, OUTPUT_LIMIT};
 use crate::record::number_of_cells;
 use crate::shades::{self, Blocks};
 use std::borrow::Cow;
@@ -45,6 +45,31 @@ extern "C" {
         output_len: usize,
     ) -> i32;
 }
+
+/// What an exported call says of a leaf, `call(bytes, number; output)`: it takes the leaf's record, edition and sizes, then bytes that it
+/// reads, a number where it asks for one, and behind `;` the bytes that it writes, where it writes some.
+macro_rules! of_leaf {
+    ($leaf:expr, $call:ident($bytes:ident $(, $number:ident)? $(; $output:ident)?)) => {{
+        let (record, edition, sizes) = $leaf.parts();
+        // Safe: each pointer comes from a slice and goes with its length; the call reads the first three, writes only the output, and
+        // keeps none of them.
+        let answer = unsafe {
+            $call(
+                record.as_ptr(),
+                record.len(),
+                edition,
+                sizes.as_ptr(),
+                sizes.len(),
+                $bytes.as_ptr(),
+                $bytes.len(),
+                $($number,)?
+                $($output.as_mut_ptr(), $output.len(),)?
+            )
+        };
+        $crate::host::counted(answer)
+    }};
+}
+pub(crate) use of_leaf;
 
 /// An arrow cell's index with the lowest and the highest size of its block, ends included: printed beside the cell, and asked for where it
 /// is square.
@@ -157,22 +182,7 @@ impl<'a> Leaf<'a> {
     ///
     /// It keeps nothing and takes nothing from the heap.
     pub fn find_bytes(&self, decisions: &[u8], output: &mut [u8]) -> Result<usize, Refusal> {
-        // Safe: each pointer comes from a slice and goes with its length; the call reads the first three, writes only the fourth, and
-        // keeps none of them.
-        let answer = unsafe {
-            evolmino_find_with(
-                self.record.as_ptr(),
-                self.record.len(),
-                self.edition,
-                self.sizes.as_ptr(),
-                self.sizes.len(),
-                decisions.as_ptr(),
-                decisions.len(),
-                output.as_mut_ptr(),
-                output.len(),
-            )
-        };
-        counted(answer)
+        of_leaf!(self, evolmino_find_with(decisions; output))
     }
 
     /// As [`finished`](crate::finished), on this leaf: the block rules are those of its edition, and each sized cell that is square is in a
@@ -185,19 +195,7 @@ impl<'a> Leaf<'a> {
     ///
     /// It keeps nothing and takes nothing from the heap.
     pub fn finished_bytes(&self, decisions: &[u8]) -> Result<bool, Refusal> {
-        // Safe: each pointer comes from a slice and goes with its length; the call reads all three and keeps none of them.
-        let answer = unsafe {
-            evolmino_finished_with(
-                self.record.as_ptr(),
-                self.record.len(),
-                self.edition,
-                self.sizes.as_ptr(),
-                self.sizes.len(),
-                decisions.as_ptr(),
-                decisions.len(),
-            )
-        };
-        Ok(counted(answer)? != 0)
+        of_leaf!(self, evolmino_finished_with(decisions)).map(|answer| answer != 0)
     }
 
     /// As [`certain`](crate::certain()), on this leaf: its find, and its finished boards.
@@ -244,23 +242,7 @@ impl<'a> Leaf<'a> {
         budget: u64,
         output: &mut [u8],
     ) -> Result<usize, Refusal> {
-        // Safe: each pointer comes from a slice and goes with its length; the call reads the first three, writes only the fourth, and
-        // keeps none of them.
-        let answer = unsafe {
-            evolmino_certain_with(
-                self.record.as_ptr(),
-                self.record.len(),
-                self.edition,
-                self.sizes.as_ptr(),
-                self.sizes.len(),
-                decisions.as_ptr(),
-                decisions.len(),
-                budget,
-                output.as_mut_ptr(),
-                output.len(),
-            )
-        };
-        counted(answer)
+        of_leaf!(self, evolmino_certain_with(decisions, budget; output))
     }
 
     /// As [`blocks`](crate::blocks), on this leaf. The blocks of a board are the same in every edition and with any sizes; but a leaf that

@@ -1,7 +1,7 @@
 //! Certificates that a leaf has one solution only: the exported call, made safe, and what a certificate holds.
 
-use crate::host::{counted, Literal, Refusal};
-use crate::leaf::Leaf;
+use crate::host::{Literal, Refusal};
+use crate::leaf::{of_leaf, Leaf};
 
 extern "C" {
     fn evolmino_unique(
@@ -61,20 +61,7 @@ impl Leaf<'_> {
     /// assert_eq!(leaf.unique(other.bytes()), Err(Refusal::SolutionUnfinished));
     /// ```
     pub fn unique(&self, certificate: &[u8]) -> Result<(), Refusal> {
-        let (record, edition, sizes) = self.parts();
-        // Safe: each pointer comes from a slice and goes with its length; the call reads all three and keeps none of them.
-        let answer = unsafe {
-            evolmino_unique(
-                record.as_ptr(),
-                record.len(),
-                edition,
-                sizes.as_ptr(),
-                sizes.len(),
-                certificate.as_ptr(),
-                certificate.len(),
-            )
-        };
-        counted(answer).map(|_| ())
+        of_leaf!(self, evolmino_unique(certificate)).map(|_| ())
     }
 }
 

@@ -36,8 +36,8 @@ extern "C" {
     fn evolmino_board_hints(board: *const Memory, player: u8) -> i32;
 }
 
-// Each returns what the exported call returns, and each is safe: a board's pointer comes from a reference, every other one from a slice, and goes
-// with its length; the call writes only through those that are `mut`, and keeps none of them.
+// Each returns what the exported call returns. Safe, each of them: a board's pointer comes from a reference, every other one from a slice
+// and goes with its length; the call writes only through those that are `mut`, and keeps none of them.
 
 /// Record, edition, numbers of the sizes.
 pub(super) fn open(record: &[u8], edition: u32, sizes: &[u16], board: &mut Memory) -> i32 {
