@@ -1,18 +1,9 @@
 //! A board that is kept: its calls beside the leaf's on the same decisions, what it refuses, and boards of any bytes.
 
-use evolmino::{Board, Cell, Leaf, Literal, Problem, ProblemCell, Record, Refusal};
+mod records;
 
-/// One row of three cells with an arrow along it.
-const S: [u8; 7] = [0x00, 0x80, 0x08, 0x00, 0x00, 0x05, 0xE0];
-
-/// Rows of plain cells with an arrow along the first cells of the first row.
-fn rows(height: usize, width: usize, arrow: usize) -> Record {
-    Record::new(&Problem {
-        cells: vec![vec![ProblemCell::Empty; width]; height],
-        arrows: vec![(0..arrow).map(|x| (0, x)).collect()],
-    })
-    .unwrap()
-}
+use evolmino::{Board, Cell, Leaf, Literal, Refusal};
+use records::{refused_records, rows, S};
 
 fn strip() -> Board {
     Board::open(&S, 1, &[]).unwrap()
@@ -163,20 +154,12 @@ fn buffers_and_what_stands_behind() {
 
 #[test]
 fn refusals_of_open() {
-    let ending = |last: u8| [&S[..6], &[last]].concat();
-    let records = [
-        (S[..6].to_vec(), Refusal::RecordEnds),
-        (vec![0x00, 0x40, 0x01, 0x80], Refusal::CellCode),
-        (ending(0x80), Refusal::OffGrid),
-        (ending(0xC0), Refusal::UsedTwice),
-        (ending(0xE1), Refusal::Filler),
-    ];
     let good = [(0, 1, 1)];
     let bad = [(0, 1, 1), (3, 1, 1)];
-    for (record, refusal) in &records {
+    for (record, refusal) in refused_records() {
         for edition in [1, 2, 3] {
-            let opened = Board::open(record, edition, &bad);
-            assert_eq!(opened, Err(*refusal));
+            let opened = Board::open(&record, edition, &bad);
+            assert_eq!(opened, Err(refusal));
         }
     }
     for edition in [0, 3, 255, 257, 258, 65_537, (1 << 31) + 1, u32::MAX] {

@@ -1,16 +1,13 @@
 //! Cells that are certain: answers, steps and budgets, black and given cells decided first, and the refusals of the call.
 
+mod records;
+
 use evolmino::{
     certain, certain_bytes, certain_given_first, Certain, Fact, Literal, Problem, ProblemCell,
     Record, Refusal,
 };
+use records::{refused_records, S, T};
 use std::thread;
-
-/// Strip S: one row of three cells, an arrow along it.
-const S: [u8; 7] = [0x00, 0x80, 0x08, 0x00, 0x00, 0x05, 0xE0];
-
-/// Pair T: one row of two cells, no arrow.
-const T: [u8; 4] = [0x00, 0x40, 0x00, 0x00];
 
 const ANY: u64 = u64::MAX;
 
@@ -173,12 +170,9 @@ fn refusals_of_both_ways() {
     })
     .unwrap();
     for way in [certain, certain_given_first] {
-        assert_eq!(way(&S[..6], &[], ANY), Err(Refusal::RecordEnds));
-        assert_eq!(way(&[], &[], ANY), Err(Refusal::RecordEnds));
-        assert_eq!(
-            way(&[0x00, 0x40, 0x01, 0x80], &[], ANY),
-            Err(Refusal::CellCode)
-        );
+        for (record, refusal) in refused_records() {
+            assert_eq!(way(&record, &[], ANY), Err(refusal));
+        }
         assert_eq!(way(&S, &[(0, true), (3, true)], ANY), Err(Refusal::Index));
         assert_eq!(way(&S, &[(0, true), (0, true)], ANY), Err(Refusal::Decided));
         // An index of more than ten bits is refused after the decisions before it, and nothing is searched for it.

@@ -1,15 +1,12 @@
 //! The clause sheet of document 02 §3: leaves, the order of the clauses, outputs that are too short, and DIMACS.
 
+mod records;
+
 use evolmino::{
     clauses, clauses_bytes, dimacs, finished, Literal, Problem, ProblemCell, Record, Refusal,
     SHEET_LIMIT,
 };
-
-/// Strip S: one row of three cells, an arrow along it.
-const S: [u8; 7] = [0x00, 0x80, 0x08, 0x00, 0x00, 0x05, 0xE0];
-
-/// Pair T: one row of two cells, no arrow.
-const T: [u8; 4] = [0x00, 0x40, 0x00, 0x00];
+use records::{refused_records, S, T};
 
 /// The clause sheet of S.
 const SHEET_OF_S: [u8; 30] = [
@@ -155,14 +152,7 @@ fn short_outputs_are_unchanged() {
 /// The record's refusals come before 13.
 #[test]
 fn refusals_in_order() {
-    let ending = |last: u8| [&S[..6], &[last]].concat();
-    for (refused, why) in [
-        (S[..6].to_vec(), Refusal::RecordEnds),
-        (vec![0x00, 0x40, 0x01, 0x80], Refusal::CellCode),
-        (ending(0x80), Refusal::OffGrid),
-        (ending(0xC0), Refusal::UsedTwice),
-        (ending(0xE1), Refusal::Filler),
-    ] {
+    for (refused, why) in refused_records() {
         let mut output = [0xAA; 40];
         assert_eq!(clauses_bytes(&refused, &mut []), Err(why));
         assert_eq!(clauses_bytes(&refused, &mut output), Err(why));

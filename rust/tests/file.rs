@@ -1,14 +1,13 @@
 //! Setter's file and player's file, document 02 §11.
 
+mod records;
+
 use evolmino::{
     finished, player_file, player_file_bytes, setter_file, setter_file_bytes, write_file, Edition,
     FileError, Problem, ProblemCell, Record, Refusal,
 };
+use records::{refused_records, rows, S, T};
 
-/// Strip S: one row of three cells, an arrow along it.
-const S: [u8; 7] = [0x00, 0x80, 0x08, 0x00, 0x00, 0x05, 0xE0];
-/// Pair T: one row of two cells, no arrow.
-const T: [u8; 4] = [0x00, 0x40, 0x00, 0x00];
 /// What stands behind S for grade 5 (101) and the cells 1, 0, 1, which are not finished.
 const TAIL_OF_S: u8 = 0b1011_0100;
 /// What stands behind T for grade 3 (011) and two empty cells, which are finished.
@@ -18,11 +17,7 @@ const EDITIONS: [Edition; 2] = [Edition::ExactlyOne, Edition::OneOrMore];
 
 /// A row of cells with an arrow along its first four.
 fn row(width: usize) -> Vec<u8> {
-    let problem = Problem {
-        cells: vec![vec![ProblemCell::Empty; width]],
-        arrows: vec![(0..4).map(|column| (0, column)).collect()],
-    };
-    Record::new(&problem).unwrap().bytes().to_vec()
+    rows(1, width, 4).bytes().to_vec()
 }
 
 fn cells(squares: &[usize], number: usize) -> Vec<bool> {
@@ -129,22 +124,10 @@ fn filler_of_the_record() {
     }
 }
 
-/// A record with each of the refusals 1 to 5.
-fn refused() -> [(Vec<u8>, Refusal); 5] {
-    let ending = |last: u8| [&S[..6], &[last]].concat();
-    [
-        (vec![], Refusal::RecordEnds),
-        (vec![0x00, 0x40, 0x01, 0x80], Refusal::CellCode),
-        (ending(0x80), Refusal::OffGrid),
-        (ending(0xC0), Refusal::UsedTwice),
-        (ending(0xE1), Refusal::Filler),
-    ]
-}
-
 #[test]
 fn refusals_in_order() {
     let mut output = [0xAA; 6];
-    for (record, refusal) in refused() {
+    for (record, refusal) in refused_records() {
         // neither output nor tail nor edition is right
         assert_eq!(player_file_bytes(&record, &mut []), Err(refusal));
         assert_eq!(setter_file_bytes(&record, 3, &mut []), Err(refusal));
@@ -209,7 +192,7 @@ fn the_longest_file() {
 
 #[test]
 fn what_is_no_file() {
-    for (record, refusal) in refused() {
+    for (record, refusal) in refused_records() {
         let error = write_file(&record, 9, &[]).unwrap_err();
         assert_eq!(error, FileError::Record(refusal));
         assert!(error.to_string().contains(&refusal.to_string()));

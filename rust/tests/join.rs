@@ -1,11 +1,10 @@
 //! Two puzzles on one leaf, document 02 §10.
 
-use evolmino::{finished, join, join_bytes, Problem, ProblemCell, Record, Refusal};
+mod records;
 
-/// Strip S: one row of three cells, an arrow along it.
-const S: [u8; 7] = [0x00, 0x80, 0x08, 0x00, 0x00, 0x05, 0xE0];
-/// Pair T: one row of two cells, no arrow.
-const T: [u8; 4] = [0x00, 0x40, 0x00, 0x00];
+use evolmino::{finished, join, join_bytes, Problem, ProblemCell, Record, Refusal};
+use records::{refused_records, rows, S, T};
+
 /// S beside S: one row of seven cells, the fourth black, an arrow from cell 0 and then one from cell 4.
 const BOTH: [u8; 11] = [
     0x01, 0x80, 0x10, 0x08, 0x00, 0x00, 0x05, 0xE0, 0x20, 0x05, 0xE0,
@@ -115,17 +114,15 @@ fn an_arrow_on_each_cell() {
 #[test]
 fn finished_by_halves() {
     // A row of five cells with an arrow along its first four: a block of one square, and then one of two.
-    let half = record(&Problem {
-        cells: vec![vec![ProblemCell::Empty; 5]],
-        arrows: vec![(0..4).map(|column| (0, column)).collect()],
-    });
-    let both = join(&half, &half).unwrap();
+    let half = rows(1, 5, 4);
+    let half = half.bytes();
+    let both = join(half, half).unwrap();
     let full = |cells: usize, squares: &[usize]| -> Vec<_> {
         let decision = |cell| (cell, squares.contains(&cell));
         (0..cells).map(decision).collect()
     };
     for (squares, yes) in [(&[0, 3, 4][..], true), (&[1, 3, 4], true), (&[], false)] {
-        assert_eq!(finished(&half, &full(5, squares)), Ok(yes));
+        assert_eq!(finished(half, &full(5, squares)), Ok(yes));
     }
     for (squares, yes) in [
         (&[0, 3, 4, 6, 9, 10][..], true),
@@ -138,29 +135,17 @@ fn finished_by_halves() {
     }
 }
 
-/// A record with each of the refusals 1 to 5.
-fn refused() -> [(Vec<u8>, Refusal); 5] {
-    let ending = |last: u8| [&S[..6], &[last]].concat();
-    [
-        (vec![], Refusal::RecordEnds),
-        (vec![0x00, 0x40, 0x01, 0x80], Refusal::CellCode),
-        (ending(0x80), Refusal::OffGrid),
-        (ending(0xC0), Refusal::UsedTwice),
-        (ending(0xE1), Refusal::Filler),
-    ]
-}
-
 #[test]
 fn refusals_in_order() {
     let mut output = [0xAA; 13];
-    for (left, refusal) in refused() {
-        for (right, _) in refused() {
+    for (left, refusal) in refused_records() {
+        for (right, _) in refused_records() {
             assert_eq!(join_bytes(&left, &right, &mut output), Err(refusal));
         }
         assert_eq!(join(&left, &S), Err(refusal));
         assert_eq!(join(&left, &blank(2, 32)), Err(refusal));
     }
-    for (right, refusal) in refused() {
+    for (right, refusal) in refused_records() {
         assert_eq!(join(&S, &right), Err(refusal));
         assert_eq!(join_bytes(&blank(2, 32), &right, &mut []), Err(refusal));
     }
@@ -182,7 +167,7 @@ fn refusals_in_order() {
 /// The number of a record's refusal doesn't tell whose it is; the left record by itself does.
 #[test]
 fn whose_refusal() {
-    for (wrong, refusal) in refused() {
+    for (wrong, refusal) in refused_records() {
         assert_eq!(join(&wrong, &S), Err(refusal));
         assert_eq!(finished(&wrong, &[]), Err(refusal));
         assert_eq!(join(&S, &wrong), Err(refusal));

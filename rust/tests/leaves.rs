@@ -1,15 +1,12 @@
 //! The leaves of documents 01 and 02, and the refusals that a caller can meet.
 
+mod records;
+
 use evolmino::{
     find, find_bytes, finished, finished_bytes, Constraint, Problem, ProblemCell, Record,
     RecordError, Refusal,
 };
-
-/// Strip S: one row of three cells, an arrow along it.
-const S: [u8; 7] = [0x00, 0x80, 0x08, 0x00, 0x00, 0x05, 0xE0];
-
-/// Pair T: one row of two cells, no arrow.
-const T: [u8; 4] = [0x00, 0x40, 0x00, 0x00];
+use records::{refused_records, rows, S, T};
 
 fn strip() -> Problem {
     Problem {
@@ -39,11 +36,7 @@ fn leaves() {
 
 #[test]
 fn two_by_five() {
-    let problem = Problem {
-        cells: vec![vec![ProblemCell::Empty; 5]; 2],
-        arrows: vec![(0..5).map(|x| (0, x)).collect()],
-    };
-    let record = Record::new(&problem).unwrap();
+    let record = rows(2, 5, 5);
     let mut decisions = vec![
         (0, true),
         (4, true),
@@ -113,13 +106,9 @@ fn finished_leaves() {
 
 #[test]
 fn record_refusals() {
-    let ending = |last: u8| [&S[..6], &[last]].concat();
-    assert_eq!(find(&ending(0xE1), &[]), Err(Refusal::Filler));
-    assert_eq!(find(&S[..6], &[]), Err(Refusal::RecordEnds));
-    assert_eq!(find(&[], &[]), Err(Refusal::RecordEnds));
-    assert_eq!(find(&ending(0xC0), &[]), Err(Refusal::UsedTwice));
-    assert_eq!(find(&ending(0x80), &[]), Err(Refusal::OffGrid));
-    assert_eq!(find(&[0x00, 0x40, 0x01, 0x80], &[]), Err(Refusal::CellCode));
+    for (record, refusal) in refused_records() {
+        assert_eq!(find(&record, &[]), Err(refusal));
+    }
 }
 
 #[test]

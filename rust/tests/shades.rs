@@ -1,9 +1,9 @@
 //! Blocks, their first cells and their sizes, and the refusals of the call that tells them.
 
-use evolmino::{blocks, shades_bytes, Block, Literal, Problem, ProblemCell, Record, Refusal};
+mod records;
 
-/// Strip S: one row of three cells, an arrow along it.
-const S: [u8; 7] = [0x00, 0x80, 0x08, 0x00, 0x00, 0x05, 0xE0];
+use evolmino::{blocks, shades_bytes, Block, Literal, Problem, ProblemCell, Record, Refusal};
+use records::S;
 
 fn open(height: usize, width: usize) -> Record {
     Record::new(&Problem {

@@ -1,24 +1,15 @@
 //! A leaf in an edition and with sizes: what it answers, that without them it answers as the calls that take neither, and the refusals of
 //! its calls in their order.
 
+mod records;
+
 use evolmino::{
     blocks, certain, certain_given_first, find, finished, Block, Certain, Constraint, Fact, Leaf,
     Literal, Problem, ProblemCell, Record, Refusal, Size,
 };
-
-/// Strip S: one row of three cells, an arrow along it.
-const S: [u8; 7] = [0x00, 0x80, 0x08, 0x00, 0x00, 0x05, 0xE0];
+use records::{refused_records, rows, S};
 
 const ANY: u64 = u64::MAX;
-
-/// Rows of plain cells with an arrow along the first cells of the upper one.
-fn rows(height: usize, width: usize, arrow: usize) -> Record {
-    Record::new(&Problem {
-        cells: vec![vec![ProblemCell::Empty; width]; height],
-        arrows: vec![(0..arrow).map(|x| (0, x)).collect()],
-    })
-    .unwrap()
-}
 
 /// The decisions that fill a board with these values, cell by cell.
 fn filling(values: &[u8]) -> Vec<Literal> {
@@ -279,14 +270,7 @@ fn refused(leaf: &Leaf) -> Refusal {
 
 #[test]
 fn refusals_of_a_leaf() {
-    let ending = |last: u8| [&S[..6], &[last]].concat();
-    let records = [
-        (S[..6].to_vec(), Refusal::RecordEnds),
-        (vec![0x00, 0x40, 0x01, 0x80], Refusal::CellCode),
-        (ending(0x80), Refusal::OffGrid),
-        (ending(0xC0), Refusal::UsedTwice),
-        (ending(0xE1), Refusal::Filler),
-    ];
+    let records = refused_records();
     for edition in [0, 1, 3, 258, u32::MAX] {
         for sizes in REFUSED {
             // The record comes first, then the edition, then the sizes.

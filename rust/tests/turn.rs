@@ -1,9 +1,9 @@
 //! Leaves turned for the page, document 02 §5.
 
-use evolmino::{finished, turn, turn_bytes, Problem, ProblemCell, Record, Refusal, Turning};
+mod records;
 
-/// Strip S: one row of three cells, an arrow along it.
-const S: [u8; 7] = [0x00, 0x80, 0x08, 0x00, 0x00, 0x05, 0xE0];
+use evolmino::{finished, turn, turn_bytes, Problem, ProblemCell, Record, Refusal, Turning};
+use records::{refused_records, rows, S};
 
 /// Two rows of three cells, and where each of them lies after turnings 0 to 7: "flips left and right first if k is 4 or more, then
 /// makes k modulo 4 quarter turns clockwise".
@@ -173,13 +173,10 @@ fn a_cell_to_turn_is_on_the_grid() {
 fn finished_whichever_way_up() {
     // A row of five cells with an arrow along its first four: blocks of 1 and 2.
     let (height, width) = (1, 5);
-    let upright = record(&Problem {
-        cells: vec![vec![ProblemCell::Empty; width]; height],
-        arrows: vec![(0..4).map(|column| (0, column)).collect()],
-    });
+    let upright = rows(height, width, 4);
     for (squares, yes) in [([0, 3, 4], true), ([1, 3, 4], true), ([0, 2, 3], false)] {
         for turning in turnings() {
-            let turned = turn(&upright, turning).unwrap();
+            let turned = turn(upright.bytes(), turning).unwrap();
             let (_, wide) = turning.size(height, width);
             let decision = |column| {
                 let (row, at) = turning.cell(height, width, (0, column));
@@ -206,14 +203,7 @@ fn refusals_in_order() {
         );
         assert_eq!(output, [0xAA; 9]);
     }
-    let ending = |last: u8| [&S[..6], &[last]].concat();
-    for (bytes, refusal) in [
-        (vec![], Refusal::RecordEnds),
-        (vec![0x00, 0x40, 0x01, 0x80], Refusal::CellCode),
-        (ending(0x80), Refusal::OffGrid),
-        (ending(0xC0), Refusal::UsedTwice),
-        (ending(0xE1), Refusal::Filler),
-    ] {
+    for (bytes, refusal) in refused_records() {
         assert_eq!(turn_bytes(&bytes, 8, &mut output[..0]), Err(refusal));
         assert_eq!(turn_bytes(&bytes, 1, &mut output), Err(refusal));
         assert_eq!(turn(&bytes, Turning::new(5).unwrap()), Err(refusal));

@@ -1,9 +1,12 @@
 //! Certificates that a leaf has one solution only: those of `unique.list` are accepted, and what is changed in them is refused; the refusals
 //! and their order; and the maker, where its SAT solver is at hand.
 
+mod records;
+
 use evolmino::{
     Certificate, Leaf, Literal, MakerError, Problem, ProblemCell, Record, Refusal, Solver,
 };
+use records::S;
 
 /// Leaves of 5 by 5 to 12 by 12, each with a certificate. Its head says how it was made and what its format is.
 const LIST: &[u8] = include_bytes!("unique.list");
@@ -355,8 +358,7 @@ fn says_why_nothing_is_made() {
         error => panic!("{error}"),
     }
     // Strip S has no room for two blocks; a square is given where no arrow leads; an arrow of one cell.
-    let strip = [0x00, 0x80, 0x08, 0x00, 0x00, 0x05, 0xE0];
-    assert_eq!(certify(&strip), MakerError::NoSolution);
+    assert_eq!(certify(&S), MakerError::NoSolution);
     let record = |cell: ProblemCell, arrows: Vec<Vec<(usize, usize)>>| {
         let cells = vec![vec![cell]];
         Record::new(&Problem { cells, arrows }).unwrap()
@@ -366,7 +368,7 @@ fn says_why_nothing_is_made() {
     let short = record(ProblemCell::Empty, vec![vec![(0, 0)]]);
     assert_eq!(certify(short.bytes()), MakerError::NoSolution);
     assert_eq!(certify(&[]), MakerError::Leaf(Refusal::RecordEnds));
-    let third = Leaf::new(&strip).edition(3).certify(&solver);
+    let third = Leaf::new(&S).edition(3).certify(&solver);
     assert_eq!(third, Err(MakerError::Leaf(Refusal::Edition)));
 }
 
