@@ -2,22 +2,13 @@
 //! and their order; and the maker, where its SAT solver is at hand.
 
 mod records;
+mod unique_list;
 
 use evolmino::{
     Certificate, Leaf, Literal, MakerError, Problem, ProblemCell, Record, Refusal, Solver,
 };
 use records::S;
-
-/// Leaves of 5 by 5 to 12 by 12, each with a certificate. Its head says how it was made and what its format is.
-const LIST: &[u8] = include_bytes!("unique.list");
-
-/// A leaf of the list, and its certificate.
-struct Entry {
-    record: Vec<u8>,
-    edition: u32,
-    sizes: Vec<u8>,
-    certificate: Certificate,
-}
+use unique_list::{entries, Entry};
 
 impl Entry {
     fn leaf(&self) -> Leaf<'_> {
@@ -29,35 +20,11 @@ impl Entry {
     fn side(&self) -> usize {
         usize::from(self.record[0] >> 3) + 1
     }
-}
 
-fn entries() -> Vec<Entry> {
-    let head = LIST.windows(2).position(|two| two == b"\n\n").unwrap();
-    let mut rest = &LIST[head + 2..];
-    let mut entries = Vec::new();
-    while !rest.is_empty() {
-        let record = taken_long(&mut rest);
-        let edition = taken(&mut rest, 1)[0].into();
-        entries.push(Entry {
-            record,
-            edition,
-            sizes: taken_long(&mut rest),
-            certificate: Certificate::from_bytes(taken_long(&mut rest)),
-        });
+    /// The certificate as the package reads it.
+    fn read(&self) -> Certificate {
+        Certificate::from_bytes(self.certificate.clone())
     }
-    entries
-}
-
-fn taken<'a>(rest: &mut &'a [u8], length: usize) -> &'a [u8] {
-    let (front, behind) = rest.split_at(length);
-    *rest = behind;
-    front
-}
-
-fn taken_long(rest: &mut &[u8]) -> Vec<u8> {
-    let length = taken(rest, 2);
-    let length = u16::from_be_bytes([length[0], length[1]]);
-    taken(rest, length.into()).to_vec()
 }
 
 #[test]
@@ -78,13 +45,13 @@ fn the_list_is_accepted() {
         }
     }
     for entry in &entries {
-        assert_eq!(entry.leaf().unique(entry.certificate.bytes()), Ok(()));
-        let solution = entry.certificate.solution().unwrap();
+        assert_eq!(entry.leaf().unique(&entry.certificate), Ok(()));
+        let solution = entry.read().solution().unwrap();
         let board: Vec<Literal> = solution.iter().copied().enumerate().collect();
         assert_eq!(board.len(), entry.side() * entry.side());
         assert_eq!(entry.leaf().finished(&board), Ok(true));
-        let words = entry.certificate.bytes().len() / 3;
-        let counts = entry.certificate.counts();
+        let words = entry.certificate.len() / 3;
+        let counts = entry.read().counts();
         assert_eq!(2 * counts.steps + counts.literals + counts.hints, words);
     }
 }
@@ -93,7 +60,7 @@ fn the_list_is_accepted() {
 fn each_flipped_cell_is_refused() {
     for entry in entries() {
         for cell in 0..entry.side() * entry.side() {
-            let mut bytes = entry.certificate.bytes().to_vec();
+            let mut bytes = entry.certificate.clone();
             // The middle byte of the cell's word has the value.
             bytes[3 * (1 + cell) + 1] ^= 0x80;
             let refused = entry.leaf().unique(&bytes);
@@ -105,7 +72,7 @@ fn each_flipped_cell_is_refused() {
 #[test]
 fn each_cut_is_refused() {
     for entry in entries().into_iter().filter(|entry| entry.side() < 7) {
-        let bytes = entry.certificate.bytes();
+        let bytes = &entry.certificate[..];
         for length in 0..bytes.len() {
             let refused = entry.leaf().unique(&bytes[..length]).unwrap_err();
             let cells = entry.side() * entry.side();
@@ -133,7 +100,7 @@ fn without_its_black_and_given_cells() {
         let leaf = Leaf::new(&plain)
             .edition(entry.edition)
             .sizes_bytes(&entry.sizes);
-        let refused = leaf.unique(entry.certificate.bytes()).unwrap_err();
+        let refused = leaf.unique(&entry.certificate).unwrap_err();
         assert!(
             [Refusal::Hint, Refusal::NotClosed].contains(&refused),
             "{refused}"
@@ -332,7 +299,7 @@ fn makes_what_is_accepted() {
     let Some(solver) = at_hand() else { return };
     for entry in entries().into_iter().filter(|entry| entry.side() < 10) {
         let made = entry.leaf().certify(&solver).unwrap();
-        assert_eq!(made.solution(), entry.certificate.solution());
+        assert_eq!(made.solution(), entry.read().solution());
         assert_eq!(entry.leaf().unique(made.bytes()), Ok(()));
     }
     // No arrow, so no square; and no cell that is left open.

@@ -1,37 +1,21 @@
 //! Leaves of one solution, whose certificates a SAT solver made: `compare certify` wrote them, and they
 //! are kept for the tests of `../rust`. So a list with them is written without a solver.
 
-use crate::commands::unique::Input;
+#[path = "../../../rust/tests/unique_list/mod.rs"]
+mod unique_list;
 
-const KEPT: &[u8] = include_bytes!("../../../rust/tests/unique.list");
+use crate::commands::unique::Input;
+use unique_list::{entries, Entry};
 
 /// The smaller leaves first.
 pub fn inputs() -> Vec<Input> {
-    let head = KEPT.windows(2).position(|two| two == b"\n\n");
-    let mut rest = head.map_or(KEPT, |end| &KEPT[end + 2..]);
-    let mut inputs = Vec::new();
-    while !rest.is_empty() {
-        inputs.push(Input {
-            record: long_bytes(&mut rest),
-            edition: bytes(&mut rest, 1)[0].into(),
-            sizes: long_bytes(&mut rest),
-            certificate: long_bytes(&mut rest),
-        });
-    }
-    inputs
-}
-
-fn bytes<'a>(rest: &mut &'a [u8], length: usize) -> &'a [u8] {
-    let (front, behind) = rest.split_at(length);
-    *rest = behind;
-    front
-}
-
-/// A length and that many bytes.
-fn long_bytes(rest: &mut &[u8]) -> Vec<u8> {
-    let length = bytes(rest, 2);
-    let length = u16::from_be_bytes([length[0], length[1]]);
-    bytes(rest, length.into()).to_vec()
+    let input = |entry: Entry| Input {
+        record: entry.record,
+        edition: entry.edition,
+        sizes: entry.sizes,
+        certificate: entry.certificate,
+    };
+    entries().into_iter().map(input).collect()
 }
 
 #[cfg(test)]
