@@ -8,20 +8,14 @@
 mod leaf;
 
 use evolmino::{MakerError, Solver};
-use leaf::{board, Named};
+use leaf::{board, ended, Named};
 use std::error::Error;
 use std::fs;
 use std::process::ExitCode;
 use std::time::Instant;
 
 fn main() -> ExitCode {
-    match certify() {
-        Ok(()) => ExitCode::SUCCESS,
-        Err(error) => {
-            eprintln!("{error}");
-            ExitCode::FAILURE
-        }
-    }
+    ended(certify())
 }
 
 fn certify() -> Result<(), Box<dyn Error>> {

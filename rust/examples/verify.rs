@@ -7,20 +7,14 @@
 mod leaf;
 
 use evolmino::Certificate;
-use leaf::{board, Named};
+use leaf::{board, ended, Named};
 use std::error::Error;
 use std::fs;
 use std::process::ExitCode;
 use std::time::Instant;
 
 fn main() -> ExitCode {
-    match verify() {
-        Ok(()) => ExitCode::SUCCESS,
-        Err(error) => {
-            eprintln!("{error}");
-            ExitCode::FAILURE
-        }
-    }
+    ended(verify())
 }
 
 fn verify() -> Result<(), Box<dyn Error>> {

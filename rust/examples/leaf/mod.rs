@@ -1,4 +1,4 @@
-//! The sample leaf, leaves that the command line names, and boards as text.
+//! The sample leaf, leaves that the command line names, boards as text, and how an example ends.
 
 // Each example takes what it needs of it.
 #![allow(dead_code)]
@@ -6,6 +6,7 @@
 use evolmino::{Leaf, Problem, ProblemCell, Record, Size};
 use std::error::Error;
 use std::path::PathBuf;
+use std::process::ExitCode;
 use std::{env, fs};
 
 /// A plain cell is `.`, a black one `#`, a given square `O`.
@@ -104,4 +105,15 @@ pub fn board(cells: &[bool], width: usize) -> String {
         row.iter().map(cell).chain(['\n']).collect()
     };
     cells.chunks(width).map(row).collect()
+}
+
+/// What went wrong is said as it would be read: boards have their rows, which `main` would show in one line.
+pub fn ended(outcome: Result<(), Box<dyn Error>>) -> ExitCode {
+    match outcome {
+        Ok(()) => ExitCode::SUCCESS,
+        Err(error) => {
+            eprintln!("{error}");
+            ExitCode::FAILURE
+        }
+    }
 }
