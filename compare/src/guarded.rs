@@ -6,10 +6,10 @@ use crate::progress::Outcome;
 use crate::random::Random;
 use crate::reading::Refusal;
 
-/// What a call must do: the number that it returns, and the bytes that it writes to the output's front.
-pub struct Due<'a> {
+/// What a call must do: the number that it returns, and what it writes to the output's front, mostly bytes.
+pub struct Due<'a, T = u8> {
     pub number: i32,
-    pub bytes: &'a [u8],
+    pub front: &'a [T],
 }
 
 impl<'a> Due<'a> {
@@ -19,7 +19,7 @@ impl<'a> Due<'a> {
             Err(refusal) => Due::refused(*refusal),
             Ok(bytes) => Due {
                 number: bytes.len() as i32,
-                bytes,
+                front: bytes,
             },
         }
     }
@@ -28,7 +28,7 @@ impl<'a> Due<'a> {
     pub fn refused(refusal: Refusal) -> Due<'static> {
         Due {
             number: -i32::from(refusal.number()),
-            bytes: &[],
+            front: &[],
         }
     }
 }
@@ -76,23 +76,36 @@ pub fn compare<const N: usize>(
         guard,
         salt,
     } = room;
-    let before: Vec<u8> = (0..length + 2 * guard)
-        .map(|place| (37 * place + salt) as u8)
-        .collect();
-    let mut after = before.clone();
-    after[guard..guard + due.bytes.len()].copy_from_slice(due.bytes);
-
     let boxes: [Box<[u8]>; N] = lent.map(|bytes| bytes.into());
-    let mut output: Box<[u8]> = before.into();
-    let inside = guard..guard + length;
-    let returned = call(boxes.each_ref().map(|bytes| &**bytes), &mut output[inside]);
+    let filled = |place: usize| (37 * place + salt) as u8;
+    lend(length, guard, filled, due, |output| {
+        call(boxes.each_ref().map(|bytes| &**bytes), output)
+    })?;
+    if boxes.iter().zip(lent).any(|(left, lent)| **left != *lent) {
+        return Err("changes what it is to read".to_string());
+    }
+    Ok(())
+}
+
+/// Makes a call on an output of so many places, with so many more before and behind it in the same box,
+/// all of them filled by their number; and gives what it returns, if it does just what is due.
+pub fn lend<T: Copy + PartialEq>(
+    length: usize,
+    guard: usize,
+    filled: impl Fn(usize) -> T,
+    due: Due<T>,
+    call: impl FnOnce(&mut [T]) -> i32,
+) -> Result<i32, String> {
+    let before: Vec<T> = (0..length + 2 * guard).map(filled).collect();
+    let mut after = before.clone();
+    after[guard..guard + due.front.len()].copy_from_slice(due.front);
+    let mut output: Box<[T]> = before.into();
+    let returned = call(&mut output[guard..guard + length]);
     if returned != due.number {
         Err(format!("returns {returned} and not {}", due.number))
     } else if *output != *after {
-        Err("leaves other bytes in or about the output".to_string())
-    } else if boxes.iter().zip(lent).any(|(left, lent)| **left != *lent) {
-        Err("changes what it is to read".to_string())
+        Err("leaves something else in or about the output".to_string())
     } else {
-        Ok(())
+        Ok(returned)
     }
 }

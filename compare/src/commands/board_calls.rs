@@ -1,6 +1,7 @@
 //! The calls of `compare board`, each made on lent memory so that every byte that it reads or writes beside
 //! what is lent to it can be seen, and what they said.
 
+use crate::guarded::{lend, Due};
 use crate::host::MISSING;
 use crate::lent::{BoardCalls, Lent, BOARD_CALLS};
 use crate::progress::Outcome;
@@ -309,31 +310,30 @@ impl Checker {
         let bytes = *lent.bytes();
         let calls = self.calls;
         let guard = random.pick(&[0, 0, 1, 64]);
+        let number = said.number();
         let returned = match call {
-            LentCall::Decide { index, value } => (calls.decide)(lent.memory(), index, value),
-            LentCall::Undo => (calls.undo)(lent.memory()),
-            LentCall::Find { player, buffer } => lend(
-                buffer,
-                guard,
-                |k| (k * 40_503) as u16,
-                &said.literals(),
-                |buffer| (calls.find)(lent.memory(), player, buffer),
-            )?,
-            LentCall::Finished => (calls.finished)(lent.memory()),
-            LentCall::Certain { budget, output } => lend(
-                output,
-                guard,
-                |k| (k * 37) as u8,
-                &said.bytes(),
-                |output| (calls.certain)(lent.memory(), budget, output),
-            )?,
-            LentCall::Hints { player } => (calls.hints)(lent.memory(), player),
+            LentCall::Decide { index, value } => Ok((calls.decide)(lent.memory(), index, value)),
+            LentCall::Undo => Ok((calls.undo)(lent.memory())),
+            LentCall::Find { player, buffer } => {
+                let front = &said.literals();
+                let filled = |k| (k * 40_503) as u16;
+                lend(buffer, guard, filled, Due { number, front }, |buffer| {
+                    (calls.find)(lent.memory(), player, buffer)
+                })
+            }
+            LentCall::Finished => Ok((calls.finished)(lent.memory())),
+            LentCall::Certain { budget, output } => {
+                let front = &said.bytes();
+                let filled = |k| (k * 37) as u8;
+                lend(output, guard, filled, Due { number, front }, |output| {
+                    (calls.certain)(lent.memory(), budget, output)
+                })
+            }
+            LentCall::Hints { player } => Ok((calls.hints)(lent.memory(), player)),
         };
-        if returned != said.number() {
-            return Err(format!(
-                "{call:?} returns {returned} and not {}",
-                said.number()
-            ));
+        let returned = returned.map_err(|what| format!("{call:?} {what}"))?;
+        if returned != number {
+            return Err(format!("{call:?} returns {returned} and not {number}"));
         }
         let only_looks = !matches!(said, Said::Done | Said::Found(_));
         let left = match only_looks {
@@ -383,28 +383,4 @@ fn differing(left: &[u8; SIZE], due: &[u8; SIZE]) -> String {
         places.len(),
         &places[..places.len().min(10)]
     )
-}
-
-/// Lends a buffer in a box of its length, or with guards about it, and says what the call returns, if
-/// nothing but the buffer's front is changed, to what is due.
-fn lend<T: Copy + PartialEq>(
-    length: usize,
-    guard: usize,
-    filled: impl Fn(usize) -> T,
-    due: &[T],
-    call: impl FnOnce(&mut [T]) -> i32,
-) -> Result<i32, String> {
-    let before: Vec<T> = (0..length + 2 * guard).map(filled).collect();
-    let mut after = before.clone();
-    let mut buffer: Box<[T]> = before.into();
-    let returned = call(&mut buffer[guard..guard + length]);
-    if due.len() <= length {
-        after[guard..guard + due.len()].copy_from_slice(due);
-    }
-    match *buffer == *after {
-        true => Ok(returned),
-        false => Err(format!(
-            "returns {returned} and leaves other numbers in or about the buffer"
-        )),
-    }
 }

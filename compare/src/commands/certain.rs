@@ -350,7 +350,7 @@ fn check(
         Err(refusal) => Due::refused(*refusal),
         Ok(answer) => Due {
             number: answer.number(),
-            bytes: &bytes,
+            front: &bytes,
         },
     };
     let name = format!("the call for what is certain, budget {budget},");

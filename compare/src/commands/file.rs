@@ -545,7 +545,7 @@ fn check(
         Err(refusal) => Due::refused(*refusal),
         Ok(read) => Due {
             number: read.record as i32,
-            bytes: &read.bytes,
+            front: &read.bytes,
         },
     };
     compare([file], room, due, |[file], output| call(file, output))

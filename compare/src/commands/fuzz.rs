@@ -131,7 +131,7 @@ fn check(
         Err(refusal) => Due::refused(**refusal),
         Ok(bytes) => Due {
             number: bytes.len() as i32 / 2,
-            bytes,
+            front: bytes,
         },
     };
     guarded::check(random, "the host call", input, due, host_call)?;

@@ -228,7 +228,10 @@ fn check(
 ) -> Outcome {
     let due = match number {
         Err(refusal) => Due::refused(*refusal),
-        Ok(number) => Due { number, bytes },
+        Ok(number) => Due {
+            number,
+            front: bytes,
+        },
     };
     let Input {
         host,

@@ -98,7 +98,7 @@ impl Checker {
             salt: random.below(256),
         };
         let lent: [&[u8]; 3] = [&input.record, &input.sizes, &input.certificate];
-        let due = Due { number, bytes: &[] };
+        let due = Due { number, front: &[] };
         let done = guarded::compare(lent, room, due, |[record, sizes, certificate], _| {
             let opening = Opening {
                 record,
