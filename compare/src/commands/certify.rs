@@ -4,6 +4,7 @@
 use crate::generate::puzzles::square;
 use crate::generate::sizes::{kept_sizes, size_bytes};
 use crate::generate::solved::solved_leaf;
+use crate::generate::unique::{differing_cell, given};
 use crate::host::{package_maker, Made, PackageMaker};
 use crate::lists::List;
 use crate::progress::Outcome;
@@ -85,9 +86,7 @@ impl Single {
         };
         let solution: Vec<u8> = solved.decisions.iter().map(|literal| literal.1).collect();
         while let Made::Two([one, another]) = leaf.made(maker)? {
-            let differs = |&cell: &usize| one[cell] != another[cell];
-            let cells: Vec<usize> = (0..solution.len()).filter(differs).collect();
-            let cell = random.pick(&cells);
+            let cell = differing_cell(random, &one, &another);
             leaf.code(cell, given(solution[cell]));
         }
         let coded = |&cell: &usize| leaf.puzzle.codes[cell] != Code::Plain;
@@ -138,13 +137,5 @@ impl Single {
             coded.count(),
             self.certificate.len()
         )
-    }
-}
-
-/// As the solution has it.
-fn given(value: u8) -> Code {
-    match value {
-        1 => Code::Given,
-        _ => Code::Black,
     }
 }

@@ -88,6 +88,21 @@ pub fn finished_boards(leaf: &Leaf) -> Vec<Vec<u8>> {
     boards
 }
 
+/// A cell in which two boards differ.
+pub fn differing_cell(random: &mut Random, one: &[u8], another: &[u8]) -> usize {
+    let differs = |&cell: &usize| one[cell] != another[cell];
+    let cells: Vec<usize> = (0..one.len()).filter(differs).collect();
+    random.pick(&cells)
+}
+
+/// The code that keeps a cell at its value.
+pub fn given(value: u8) -> Code {
+    match value {
+        1 => Code::Given,
+        _ => Code::Black,
+    }
+}
+
 impl Exhausted {
     /// Gives or blackens cells by one of the boards until it is the only one.
     fn give(&mut self, random: &mut Random) {
@@ -96,13 +111,8 @@ impl Exhausted {
         }
         let wanted = self.boards[random.below(self.boards.len())].clone();
         while let Some(other) = self.boards.iter().find(|&board| *board != wanted) {
-            let differs = |&cell: &usize| other[cell] != wanted[cell];
-            let cells: Vec<usize> = (0..wanted.len()).filter(differs).collect();
-            let cell = random.pick(&cells);
-            self.leaf.puzzle.codes[cell] = match wanted[cell] {
-                1 => Code::Given,
-                _ => Code::Black,
-            };
+            let cell = differing_cell(random, other, &wanted);
+            self.leaf.puzzle.codes[cell] = given(wanted[cell]);
             self.boards.retain(|board| board[cell] == wanted[cell]);
         }
     }
