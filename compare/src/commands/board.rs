@@ -11,7 +11,7 @@ use crate::generate::lent::{any_call, each_byte, lent_calls, Damage};
 use crate::generate::mutations::change;
 use crate::generate::puzzles::{each_cell, square};
 use crate::generate::records::damaged;
-use crate::generate::sizes::{any_sizes, kept_sizes, long_lists};
+use crate::generate::sizes::{any_sizes, as_written, kept_sizes, long_lists};
 use crate::generate::small::{finished_leaves, freely_grown_leaves};
 use crate::kept::PACKAGE_BOARD;
 use crate::lent::Lent;
@@ -194,15 +194,6 @@ fn any_leaf(random: &mut Random, goal: &Decided, is_finished: bool) -> Leaf {
     }
 }
 
-/// The numbers of a leaf's sizes.
-pub fn size_numbers(leaf: &Leaf) -> Vec<u16> {
-    let three = leaf
-        .sizes
-        .iter()
-        .map(|range| [range.cell, range.lowest, range.highest]);
-    three.flatten().map(|number| number as u16).collect()
-}
-
 /// The board's memory after the list, if no call says or leaves anything else than the reading.
 fn compare(checker: &mut Checker, list: &List, counts: &mut Counts) -> Result<Lent, String> {
     let mut made = |calls: &[LentCall]| make_calls(checker, list, calls, counts);
@@ -233,11 +224,7 @@ fn make_calls(
     // what stands in the memory before it is opened does not matter
     let noise = random.byte();
     let mut lent = Lent::new(list.guarded, &[noise; SIZE]);
-    let record = encode(&list.leaf.puzzle);
-    let edition = u32::from(list.leaf.edition.number());
-    let sizes = size_numbers(&list.leaf);
-    let opened = checker.open(&mut lent, &record, edition, &sizes)?;
-    let mut board = opened.map_err(|refusal| format!("the leaf is refused: {refusal:?}"))?;
+    let mut board = checker.open_leaf(&mut lent, &list.leaf)?;
     if let Some(hints) = list.hints {
         board.hand_in(hints);
         Fields::of(&board).write(lent.bytes());
@@ -264,15 +251,13 @@ fn damaged_open(
     leaf: &Leaf,
 ) -> Outcome {
     let mut record = encode(&leaf.puzzle);
-    let mut sizes = size_numbers(leaf);
+    let good = as_written(&leaf.sizes);
+    let mut sizes = good.as_flattened().to_vec();
     let mut edition = any_edition(random);
     match random.below(6) {
         0 => record = damaged(random, &leaf.puzzle).record,
         1 => change(random, &mut record),
-        2 => {
-            let good: Vec<[u16; 3]> = sizes.chunks(3).map(|it| [it[0], it[1], it[2]]).collect();
-            sizes = numbers(&any_damage(random, &leaf.puzzle, &good)).0;
-        }
+        2 => sizes = numbers(&any_damage(random, &leaf.puzzle, &good)).0,
         3 if !sizes.is_empty() => sizes[random.below(leaf.sizes.len())] = random.next() as u16,
         4 => edition = random.pick(&[0, 3, 257, 258, u32::MAX]),
         _ => {}
@@ -300,10 +285,7 @@ fn again(
 ) -> Outcome {
     let goal = leaves[random.below(leaves.len())].clone();
     let leaf = any_leaf(random, &goal, true);
-    let record = encode(&leaf.puzzle);
-    let edition = u32::from(leaf.edition.number());
-    let opened = checker.open(lent, &record, edition, &size_numbers(&leaf))?;
-    let mut board = opened.map_err(|refusal| format!("the leaf is refused: {refusal:?}"))?;
+    let mut board = checker.open_leaf(lent, &leaf)?;
     for call in lent_calls(random, &goal, 5) {
         let said = checker.check(random, lent, &mut board, call);
         said.map_err(|what| format!("{}, opened again\n{what}", leaf_facts(&leaf, &[])))?;

@@ -1,9 +1,9 @@
 //! What makes the calls of `compare board` beside the library and the reading: the original, in edition 1 and
 //! without sizes, and the package's board.
 
-use super::board::size_numbers;
 use crate::answers::{by_original, Answer};
 use crate::generate::calls::Call;
+use crate::generate::sizes::as_written;
 use crate::host::MISSING;
 use crate::kept::{KeptBoard, PACKAGE_BOARD};
 use crate::original::{Original, AT_HAND};
@@ -38,10 +38,7 @@ impl Beside {
             (true, None) => {
                 let record = encode(&leaf.puzzle);
                 let edition = u32::from(leaf.edition.number());
-                let numbers = size_numbers(leaf);
-                let sizes: Vec<[u16; 3]> =
-                    numbers.chunks(3).map(|it| [it[0], it[1], it[2]]).collect();
-                let opened = (package.open)(&record, edition, &sizes);
+                let opened = (package.open)(&record, edition, &as_written(&leaf.sizes));
                 Some(opened.map_err(|number| format!("the package refuses a leaf: {number}"))?)
             }
             (true, Some(bytes)) => Some((package.of_bytes)(bytes)),

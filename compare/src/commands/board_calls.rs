@@ -1,13 +1,16 @@
 //! The calls of `compare board`, each made on lent memory so that every byte that it reads or writes beside
 //! what is lent to it can be seen, and what they said.
 
+use crate::generate::sizes::as_written;
 use crate::guarded::{lend, Due};
 use crate::host::MISSING;
 use crate::lent::{BoardCalls, Lent, BOARD_CALLS};
 use crate::progress::Outcome;
 use crate::random::Random;
 use crate::reading::board::Board;
+use crate::reading::leaf::Leaf;
 use crate::reading::lent::{Fields, LentCall, Said, BETWEEN, SIZE};
+use crate::reading::record::encode;
 use crate::reading::Refusal;
 use crate::tally::Tally;
 
@@ -267,6 +270,15 @@ impl Checker {
             }
         }
         Ok(expected)
+    }
+
+    /// The same of a leaf, which may not be refused.
+    pub fn open_leaf(&mut self, lent: &mut Lent, leaf: &Leaf) -> Result<Board, String> {
+        let record = encode(&leaf.puzzle);
+        let edition = leaf.edition.number().into();
+        let sizes = as_written(&leaf.sizes);
+        let opened = self.open(lent, &record, edition, sizes.as_flattened())?;
+        opened.map_err(|refusal| format!("the leaf is refused: {refusal:?}"))
     }
 
     /// Makes a call on memory that holds what a board of the reading leaves, and compares the number, the

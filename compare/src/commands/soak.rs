@@ -1,7 +1,6 @@
 //! `compare soak`: a million calls on one lent board, beside the reading, the original and the package; and a
 //! million on another, in edition 2 and with sizes. The whole memory is compared after each.
 
-use super::board::size_numbers;
 use super::board_beside::Beside;
 use super::board_calls::Checker;
 use crate::generate::boards::{board_of_puzzle, Decided};
@@ -16,7 +15,6 @@ use crate::reading::board::Board;
 use crate::reading::leaf::Leaf;
 use crate::reading::lent::{LentCall, Said, SIZE};
 use crate::reading::reasons::most_literals;
-use crate::reading::record::encode;
 use crate::reading::sizes::ranges;
 use crate::reading::Edition;
 
@@ -51,14 +49,7 @@ fn soak(random: &mut Random, leaf: &Leaf, solved: &Decided, count: usize) -> Out
     let mut checker = Checker::new()?;
     let mut progress = Progress::new("soak", count);
     let mut lent = Lent::new(false, &[0; SIZE]);
-    let edition = u32::from(leaf.edition.number());
-    let opened = checker.open(
-        &mut lent,
-        &encode(&leaf.puzzle),
-        edition,
-        &size_numbers(leaf),
-    )?;
-    let mut board = opened.map_err(|refusal| format!("the leaf is refused: {refusal:?}"))?;
+    let mut board = checker.open_leaf(&mut lent, leaf)?;
     let mut beside = Beside::new(leaf, true, None)?;
     let mut asked = [0u64; 4];
     let mut compared = [0; 2];
@@ -83,8 +74,9 @@ fn soak(random: &mut Random, leaf: &Leaf, solved: &Decided, count: usize) -> Out
         }
     }
     println!(
-        "soak: {done} calls on one board in edition {edition}, {} answers compared with the original, {} with the \
+        "soak: {done} calls on one board in edition {}, {} answers compared with the original, {} with the \
          package; finds accepted {asked:?}, hints {:?}",
+        leaf.edition.number(),
         compared[0],
         compared[1],
         board.hints()
