@@ -448,10 +448,8 @@ pub fn each_byte(random: &mut Random, bytes: &[u8; SIZE]) -> impl Iterator<Item 
 mod tests {
     use super::*;
     use crate::generate::boards::any_board;
-    use crate::generate::sizes::{any_sizes, as_read};
+    use crate::generate::sizes::any_sized_leaf;
     use crate::reading::board::Board;
-    use crate::reading::leaf::Leaf;
-    use crate::reading::Edition;
 
     /// Each damage refuses and leaves boards as it says.
     #[test]
@@ -460,11 +458,7 @@ mod tests {
         let mut met = [[0; 2]; Damage::ALL.len()];
         for _ in 0..400 {
             let goal = any_board(&mut random);
-            let leaf = Leaf {
-                puzzle: goal.puzzle.clone(),
-                edition: random.pick(&Edition::BOTH),
-                sizes: as_read(&any_sizes(&mut random, &goal)),
-            };
+            let leaf = any_sized_leaf(&mut random, &goal);
             let mut bytes = [0; SIZE];
             Fields::of(&Board::of_leaf(&leaf, &goal.decisions)).write(&mut bytes);
             for (damage, met) in Damage::ALL.into_iter().zip(&mut met) {

@@ -3,6 +3,8 @@
 use super::boards::Decided;
 use crate::random::Random;
 use crate::reading::board::Board;
+#[cfg(test)]
+use crate::reading::leaf::Leaf;
 use crate::reading::record::Puzzle;
 use crate::reading::shades::shades;
 use crate::reading::sizes::Range;
@@ -51,6 +53,16 @@ pub fn any_sizes(random: &mut Random, board: &Decided) -> Ranges {
         }
     }
     ranges
+}
+
+/// The leaf of a board with such a list, in either edition.
+#[cfg(test)]
+pub fn any_sized_leaf(random: &mut Random, board: &Decided) -> Leaf {
+    Leaf {
+        puzzle: board.puzzle.clone(),
+        edition: random.pick(&Edition::BOTH),
+        sizes: as_read(&any_sizes(random, board)),
+    }
 }
 
 /// A good list for a small puzzle, whose ranges tell small blocks apart.

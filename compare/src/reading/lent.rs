@@ -382,7 +382,7 @@ mod tests {
     use super::*;
     use crate::generate::boards::any_board;
     use crate::generate::calls::any_hints;
-    use crate::generate::sizes::{any_sizes, as_read};
+    use crate::generate::sizes::{any_sized_leaf, as_read};
     use crate::random::Random;
     use crate::reading::leaf::Leaf;
     use crate::reading::record::plain;
@@ -424,11 +424,7 @@ mod tests {
         let mut random = Random::new(2);
         for _ in 0..300 {
             let goal = any_board(&mut random);
-            let leaf = Leaf {
-                puzzle: goal.puzzle.clone(),
-                edition: random.pick(&Edition::BOTH),
-                sizes: as_read(&any_sizes(&mut random, &goal)),
-            };
+            let leaf = any_sized_leaf(&mut random, &goal);
             let mut board = Board::of_leaf(&leaf, &goal.decisions);
             board.hand_in(any_hints(&mut random));
             let fields = Fields::of(&board);
