@@ -73,7 +73,8 @@ pub struct BoardCalls {
     pub hints: fn(&Memory, u8) -> i32,
 }
 
-// The package keeps its memory to itself. So its text of the calls is taken here once more, for the memory above; the package links them.
+// The package keeps its memory to itself. So its file of these calls is compiled here too, for the memory
+// above; the package links them.
 #[cfg(feature = "host")]
 #[path = "../../rust/src/board/calls.rs"]
 mod calls;
