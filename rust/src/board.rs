@@ -3,16 +3,13 @@
 mod calls;
 
 use crate::certain::{told, Certain};
-use crate::host::{counted, Literal, Refusal};
+use crate::host::{counted, literal, Literal, Refusal, LITERALS};
 use crate::leaf::{Leaf, Size};
 use std::fmt;
 use std::mem::{offset_of, size_of};
 
 /// The cells of the largest grid.
 const CELLS: usize = 32 * 32;
-
-/// The literals that suffice for a reason on the largest grid.
-const LITERALS: usize = 3 * CELLS + 1;
 
 /// `struct evolmino_problem` of `c/evolmino.h`. A field may hold any number, and the library alone judges what it means.
 #[repr(C)]
@@ -333,11 +330,6 @@ fn cell(state: u8) -> Cell {
         1 => Cell::Square,
         _ => Cell::Undecided,
     }
-}
-
-/// The literal in a number of 16 bits.
-fn literal(word: u16) -> Literal {
-    (usize::from(word % 32_768), word >= 32_768)
 }
 
 /// Size, edition, how many cells are decided and the counts of hints; of a board that is refused, only that it is.

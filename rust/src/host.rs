@@ -23,8 +23,11 @@ extern "C" {
 /// A cell's index, row × width + column, with its value: `true` for a square, `false` for empty.
 pub type Literal = (usize, bool);
 
-/// The bytes that suffice for a reason on the largest grid: 2 × (3 × 32 × 32 + 1).
-pub(crate) const OUTPUT_LIMIT: usize = 2 * (3 * 32 * 32 + 1);
+/// The literals that suffice for a reason on the largest grid.
+pub(crate) const LITERALS: usize = 3 * 32 * 32 + 1;
+
+/// The bytes that suffice for them.
+pub(crate) const OUTPUT_LIMIT: usize = 2 * LITERALS;
 
 /// Why there is no answer, by its number in README. [`Refusal::Board`], [`Refusal::Value`], [`Refusal::NothingDecided`] and
 /// [`Refusal::Player`] are given of a [`Board`](crate::Board) alone: the calls that take a record open a board of their own, a decision in bytes has one
@@ -392,8 +395,12 @@ pub(crate) fn encode((index, value): Literal) -> Option<[u8; 2]> {
 
 /// The literal in two bytes.
 pub(crate) fn decode(pair: &[u8]) -> Literal {
-    let word = u16::from_be_bytes([pair[0], pair[1]]);
-    ((word & 0x7FFF) as usize, word >> 15 == 1)
+    literal(u16::from_be_bytes([pair[0], pair[1]]))
+}
+
+/// The literal in a number of 16 bits, value × 32,768 + index.
+pub(crate) fn literal(word: u16) -> Literal {
+    (usize::from(word % 32_768), word >= 32_768)
 }
 
 #[cfg(test)]
