@@ -11,7 +11,7 @@ pub const S: [u8; 7] = [0x00, 0x80, 0x08, 0x00, 0x00, 0x05, 0xE0];
 /// Pair T: one row of two cells, no arrow.
 pub const T: [u8; 4] = [0x00, 0x40, 0x00, 0x00];
 
-/// What is no record, by each of the refusals 1 to 5. By 1 it is nothing at all, and S without its last byte.
+/// What is no record, for each of the refusals 1 to 5; two for 1, nothing at all and S without its last byte.
 pub fn refused_records() -> [(Vec<u8>, Refusal); 6] {
     let ending = |last: u8| [&S[..6], &[last]].concat();
     [
