@@ -3,8 +3,8 @@
 mod records;
 
 use evolmino::{
-    certain, certain_bytes, certain_given_first, Certain, Fact, Literal, Problem, ProblemCell,
-    Record, Refusal,
+    certain, certain_bytes, certain_given_first, Board, Certain, Fact, Literal, Problem,
+    ProblemCell, Record, Refusal,
 };
 use records::{refused_records, S, T};
 use std::thread;
@@ -183,6 +183,15 @@ fn refusals_of_both_ways() {
     }
 }
 
+/// The answer in a stack of 256 kilobytes.
+fn in_a_small_stack<F>(search: F) -> Result<Certain, Refusal>
+where
+    F: FnOnce() -> Result<Certain, Refusal> + Send + 'static,
+{
+    let small = thread::Builder::new().stack_size(256 * 1024);
+    small.spawn(search).unwrap().join().unwrap()
+}
+
 #[test]
 fn the_largest_grid_in_a_small_stack() {
     let record = Record::new(&Problem {
@@ -190,8 +199,12 @@ fn the_largest_grid_in_a_small_stack() {
         arrows: vec![],
     })
     .unwrap();
+    let due = told(&".".repeat(1024), 2049);
+    let board = Board::open(record.bytes(), 1, &[]).unwrap();
+    assert_eq!(
+        in_a_small_stack(move || board.certain(ANY)),
+        Ok(due.clone())
+    );
     let search = move || certain(record.bytes(), &[], ANY);
-    let small = thread::Builder::new().stack_size(256 * 1024);
-    let answer = small.spawn(search).unwrap().join().unwrap();
-    assert_eq!(answer, Ok(told(&".".repeat(1024), 2049)));
+    assert_eq!(in_a_small_stack(search), Ok(due));
 }

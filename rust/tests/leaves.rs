@@ -3,7 +3,7 @@
 mod records;
 
 use evolmino::{
-    find, find_bytes, finished, finished_bytes, Constraint, Problem, ProblemCell, Record,
+    find, find_bytes, finished, finished_bytes, Board, Constraint, Problem, ProblemCell, Record,
     RecordError, Refusal,
 };
 use records::{refused_records, rows, S, T};
@@ -207,9 +207,11 @@ fn constraint() {
 }
 
 #[test]
-fn a_constraint_goes_from_thread_to_thread() {
+fn a_constraint_and_a_board_go_from_thread_to_thread() {
     fn goes<T: Send + Sync>(_: &T) {}
     goes(&Constraint::new(&strip()).unwrap());
+    let record = Record::new(&strip()).unwrap();
+    goes(&Board::open(record.bytes(), 1, &[]).unwrap());
 }
 
 #[test]

@@ -83,7 +83,8 @@ impl Leaf<'_> {
     ///
     /// The solver gets the clauses of [`clauses`](crate::clauses()), and for each full board that it proposes clauses of [`Leaf::find`]'s
     /// reasons more. The board that has no reason is the solution; with a clause against it the solver goes on until there is no board
-    /// left. What its proof needs of these clauses becomes the certificate's steps.
+    /// left. What its proof needs of these clauses becomes the certificate's steps. It ends on every leaf, but has no limit of time: most
+    /// leaves of the size of a calendar's take less than a second, and one with few given cells and a second solution may take minutes.
     ///
     /// ```no_run
     /// use evolmino::{Leaf, Solver};
