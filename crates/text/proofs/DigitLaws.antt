@@ -1,6 +1,7 @@
 -- The digits that are printed for a number read back as the number, without a leading zero.
 -- Assumes nothing.
-use Prim.Native.Nat.{ℕ, suc, _+_, _-_, _*_, _/_, _%_, _≤_, _<_}
+use Prim.Native.Nat.{ℕ, zero, suc, _+_, _-_, _*_, _/_, _%_, _^_, _≤_, _<_}
+use native.Mathlib.Nat.{pow-suc}
 use native.Mathlib.Omega.{arith}
 use mathlib.Core.Logic.{_⊎_, inl, inr}
 use mathlib.Core.Path.{_≡_, refl, sym, ap, _∙_}
@@ -56,11 +57,19 @@ step k m below n h = go (ltb n 10) refl
         let l : 10 ≤ n = ltb-false n 10 e in
         more n (digitsWithin k (n / 10)) l (below (n / 10) (omega arith) (omega arith))
 
+-- the digits of a number that has no more of them than there are places
+within-decimal : (k n : ℕ) → n < 10 ^ suc k → Decimal n (digitsWithin (suc k) n)
+within-decimal zero n h = step 0 1 (λ a p q. absurd (omega arith)) n (omega (arith, pow-suc 10 0))
+within-decimal (suc k) n h = step (suc k) (10 ^ suc k) (λ a _ p. within-decimal k a p) n (omega (arith, pow-suc 10 (suc k)))
+
 -- the digits of a number below 10,000; those of the counts, indexes, values and refusals that are printed are
 pub digits-decimal : (n : ℕ) → n < 10000 → Decimal n (digits n)
 unfolding digits
-digits-decimal n h =
-    step 3 1000 (λ a _ p. step 2 100 (λ b _ q. step 1 10 (λ c _ r. step 0 1 (λ d s t. absurd (omega arith)) c r) b q) a p) n h
+digits-decimal n h = within-decimal 3 n h
+
+-- 20 places are enough for every number that the machine holds; the replaying programs print their counts so
+pub machine-decimal : (n : ℕ) → n < 18446744073709551616 → Decimal n (digitsWithin 20 n)
+machine-decimal n h = within-decimal 19 n (omega arith)
 
 -- so two numbers with the same digits are the same
 pub digits-same : (m n : ℕ) → m < 10000 → n < 10000 → digits m ≡ digits n → m ≡ n

@@ -1,4 +1,5 @@
-// The text that the program `reason` prints for what the host call says: numbers, words and lines.
+// The text that the program `reason` prints for what the host call says: numbers, words and lines. The replaying programs write their
+// numbers and words by the same functions.
 ghost use mathlib.Core.Path.{_≡_};
 ghost use mathlib.Core.List.{_∷_, _++_, []};
 ghost use Prim.Native.Nat.{_+_, _*_, _%_, _≤_, _<_};
@@ -18,7 +19,7 @@ fn put(out: &mut [u8], at: usize, byte: u8) -> usize
 }
 
 // Writes the bytes of a text, and returns the place behind them.
-fn write_text(out: &mut [u8], at: usize, text: &[u8]) -> usize
+pub fn write_text(out: &mut [u8], at: usize, text: &[u8]) -> usize
     requires { ⌜ at + length (now text) ≤ length (now out) ⌝ }
     ensures { λ r. ⌜ Written (now (out .entry)) at (now (text .entry)) (now (out .exit)) r ⌝ }
 {
@@ -38,7 +39,7 @@ fn last_digit(n: usize) -> u8
 }
 
 // Writes the decimal digits of n, of which there are at most `places`, and returns the place behind them.
-fn write_digits(out: &mut [u8], at: usize, n: usize, places: usize) -> usize
+pub fn write_digits(out: &mut [u8], at: usize, n: usize, places: usize) -> usize
     requires { ⌜ at + places ≤ length (now out) ⌝ }
     ensures { λ r. ⌜ Written (now (out .entry)) at (digitsWithin places n) (now (out .exit)) r ⌝ }
 {
