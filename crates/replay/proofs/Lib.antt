@@ -1,3 +1,4 @@
 pub mod ComparisonLaws
 mod ListLaws
+mod PrintedLaws
 mod TallyLaws

@@ -1,3 +1,4 @@
 pub mod Comparisons
 pub mod Lists
+pub mod Printed
 pub mod Tallies

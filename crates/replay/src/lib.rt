@@ -1,16 +1,18 @@
-// What the programs that replay lists of answers share: the room for a list, its reading, the comparison of what was computed with it, and
-// the count of its entries.
+// What the programs that replay lists of answers share: the room for a list, its reading, the comparison of what was computed with it, the
+// count of its entries, and the text that says the count.
 //
 // A list has a head of lines that begin with `#`, an empty line, and then entries to its end. A u16 has its high byte first.
 use libc::STDOUT_FILENO;
 use record::Answer;
-ghost use Prim.Native.Nat.{_≤_, _<_};
+ghost use Prim.Native.Nat.{_+_, _≤_, _<_};
 ghost use mathlib.Core.Path.{_≡_};
 ghost use mathlib.Core.Bool.{cond};
 ghost use lib.ListN.{length, getD, replicate};
 ghost use Rattle.record.specs.Problem.{numberOf};
+ghost use Rattle.text.specs.Text.{Written};
 ghost use Rattle.replay.specs.Tallies.{sumOf, brokenRun, runOf, thenOf, alsoOf, emptyTally, tallyOf, withOf};
 ghost use Rattle.replay.specs.Lists.{areaOf, numberAt, dataStart, byteIn, numberIn, differs};
+ghost use Rattle.replay.specs.Printed.{countText, partsText, damageText, tallyText};
 
 // What an entry counted, and where it ends in the list, far behind it where the list ends inside the entry.
 pub struct Run {
@@ -203,6 +205,45 @@ fn sum(a: usize, b: usize) -> usize
     a + b
 }
 
+// Writes a number and a word, and returns the place behind them.
+fn write_count(out: &mut [u8], at: usize, n: usize, word: &[u8]) -> usize
+    requires { ⌜ at + 20 + length (now word) ≤ length (now out) ⌝ }
+    ensures { λ r. ⌜ Written (now (out .entry)) at (countText n (now (word .entry))) (now (out .exit)) r ⌝ }
+{
+    let end = text::write_digits(out, at, n, 20);
+    text::write_text(out, end, word)
+}
+
+// The same where there is a word, and nothing where there is none.
+fn write_parts(out: &mut [u8], at: usize, n: usize, word: &[u8]) -> usize
+    requires { ⌜ at + 20 + length (now word) ≤ length (now out) ⌝ }
+    ensures { λ r. ⌜ Written (now (out .entry)) at (partsText n (now (word .entry))) (now (out .exit)) r ⌝ }
+{
+    if word.len() == 0 {
+        return at;
+    }
+    write_count(out, at, n, word)
+}
+
+// Writes that a list is damaged, and nothing where it is whole, and returns the place behind it.
+fn write_damage(out: &mut [u8], at: usize, whole: bool) -> usize
+    requires { ⌜ at + 13 ≤ length (now out) ⌝ }
+    ensures { λ r. ⌜ Written (now (out .entry)) at (damageText whole) (now (out .exit)) r ⌝ }
+{
+    if whole {
+        return at;
+    }
+    text::write_text(out, at, b"list damaged\n")
+}
+
+// Has a text written to standard output, and returns how many bytes it has.
+fn hand_over(text: &[u8]) -> usize
+    ensures { λ r. ⌜ r ≡ length (now (text .entry)) ⌝ }
+{
+    io::write_all(STDOUT_FILENO, text);
+    text.len()
+}
+
 impl Run {
     // An entry that the list ends inside of, or that can't be gone through: it differs, and where it ends isn't known.
     pub fn broken() -> Run
@@ -312,18 +353,24 @@ impl Tally {
         }
     }
 
-    // Prints what was counted, with a word for the entries and, where there is one, for their parts.
-    pub fn print(self, entries: &[u8], parts: &[u8]) {
-        io::print_decimal(STDOUT_FILENO, self.entries as u64);
-        io::write_all(STDOUT_FILENO, entries);
-        if parts.len() != 0 {
-            io::print_decimal(STDOUT_FILENO, self.parts as u64);
-            io::write_all(STDOUT_FILENO, parts);
-        }
-        io::print_decimal(STDOUT_FILENO, self.differ as u64);
-        io::write_all(STDOUT_FILENO, b" differ\n");
-        if !self.whole {
-            io::write_all(STDOUT_FILENO, b"list damaged\n");
-        }
+    // Writes what was counted, with a word for the entries and, where there is one, for their parts, and returns the place behind it.
+    fn write(self, out: &mut [u8], entries: &[u8], parts: &[u8]) -> usize
+        requires { ⌜ length (now entries) + length (now parts) + 81 ≤ length (now out) ⌝ }
+        ensures { λ r. ⌜ Written (now (out .entry)) 0 (tallyText self (now (entries .entry)) (now (parts .entry))) (now (out .exit)) r ⌝ }
+    {
+        let part = write_count(out, 0, self.entries, entries);
+        let differ = write_parts(out, part, self.parts, parts);
+        let damage = write_count(out, differ, self.differ, b" differ\n");
+        write_damage(out, damage, self.whole)
+    }
+
+    // Prints this text, and returns how many bytes it has. Its words have at most 47, so that all of it has room.
+    pub fn print(self, entries: &[u8], parts: &[u8]) -> usize
+        requires { ⌜ length (now entries) + length (now parts) ≤ 47 ⌝ }
+        ensures { λ r. ⌜ r ≡ length (tallyText self (now (entries .entry)) (now (parts .entry))) ⌝ }
+    {
+        let mut out = [0u8; 128];
+        let end = self.write(&mut out, entries, parts);
+        hand_over(&out[..end])
     }
 }
