@@ -8,10 +8,12 @@ use certain::Facts;
 use finds::Made;
 use finds::Way;
 use finished::Verdict;
-use libc::STDOUT_FILENO;
 use record::Problem;
+use replay::Tally;
 use shades::Shaded;
 ghost use Prim.Native.Nat.{_≤_};
+ghost use mathlib.Core.Bool.{true};
+ghost use mathlib.Core.Path.{_≡_};
 
 // How many damages there are.
 const DAMAGES: usize = 41;
@@ -205,7 +207,9 @@ fn damaged(b: Board, k: usize) -> Board {
 }
 
 // How many of the damaged boards are accepted.
-fn count_accepted(b: Board) -> usize {
+fn count_accepted(b: Board) -> usize
+    ensures { λ r. ⌜ r ≤ 41 ⌝ }
+{
     let mut count = 0;
     let mut k = 0;
     while k < DAMAGES {
@@ -217,14 +221,19 @@ fn count_accepted(b: Board) -> usize {
     count
 }
 
-// Prints how many damaged boards there are and how many of them are accepted.
-pub fn print() {
+// Goes through the damaged boards: how many there are, and how many of them are accepted.
+pub fn go_through() -> Tally
+    ensures { λ r. ⌜ (r .entries ≡ 41) × (r .parts ≡ 0) × (r .differ ≤ 41) × (r .whole ≡ true) ⌝ }
+{
     let o = Board::open(b"\x00\x80\x08\x00\x00\x05\xE0", 1, &[]);
     let fresh = o.board;
     let d = fresh.decide(0, 1);
     let b = d.board;
-    io::print_decimal(STDOUT_FILENO, DAMAGES as u64);
-    io::write_all(STDOUT_FILENO, b" damaged boards, ");
-    io::print_decimal(STDOUT_FILENO, count_accepted(b) as u64);
-    io::write_all(STDOUT_FILENO, b" accepted\n");
+    Tally {
+        entries: DAMAGES,
+        parts: 0,
+        differ: count_accepted(b),
+        at: 0,
+        whole: true,
+    }
 }

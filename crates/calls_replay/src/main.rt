@@ -282,5 +282,5 @@ fn main() {
     let mut space = replay::room();
     let n = io::read_full(0, &mut space);
     go_through(&space[..n]).print(b" lists, ", b" calls, ");
-    damaged::print();
+    damaged::go_through().print(b" damaged boards, ", b"");
 }

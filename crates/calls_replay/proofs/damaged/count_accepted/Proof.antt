@@ -1,4 +1,4 @@
--- `calls_replay::damaged::count_accepted` is safe and ends.
+-- `calls_replay::damaged::count_accepted` meets its contract, and ends: it counts each damaged board at most once.
 -- Assumes nothing.
 use borrow.Author.Needs.{needs}
 use Prim.Native.Nat.{_-_, _≤_}
@@ -8,7 +8,7 @@ use Rattle.calls_replay.proofs.damaged.count_accepted.Statement.{statem
 use Rattle.calls_replay.proofs.damaged.count_accepted.Tie as tie
 
 abbrev Inv-loop : tie.InvT-loop
-Inv-loop b count₀ k₀ count k = count ≤ k
+Inv-loop b count₀ k₀ count k = (count ≤ k) × (k ≤ 41)
 
 abbrev μ-loop : tie.MeasureT-loop
 μ-loop b count₀ k₀ count k = 41 - k
@@ -32,7 +32,7 @@ loop-less : tie.Need-loop-less Inv-loop μ-loop
 loop-less c = search needs
 
 loop-again : tie.Need-loop-again Inv-loop μ-loop
-loop-again c = ⊎-elim (λ w. omega arith) (λ w. omega arith) (c .if1 .came)
+loop-again c = (⊎-elim (λ w. omega arith) (λ w. omega arith) (c .if1 .came), search needs)
 
 returns : tie.Need-returns Inv-loop μ-loop
 returns c = search needs
