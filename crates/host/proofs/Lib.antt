@@ -1,4 +1,5 @@
 pub mod Values
+pub mod Numbered
 pub mod Leaves
 pub mod PairByPair
 pub mod Returns

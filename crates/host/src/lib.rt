@@ -199,9 +199,8 @@ pub extern "C" fn evolmino_board_open(
 pub extern "C" fn evolmino_board_decide(board: &mut Board, index: usize, value: u8) -> i32
     ensures { λ r. ⌜ (r ≡ answerNumber (decideOf (now (board .entry)) index value .answer)) × (now (board .exit) ≡ decideOf (now (board .entry)) index value .board) ⌝ }
 {
-    let k = host_board::decided(*board, index, value);
-    *board = k.board;
-    k.number
+    let answer = lent::decide_in(board, index, value);
+    host_board::answer_number(answer)
 }
 
 // Removes the latest decision. Returns 0, or the negated number of a refusal, which leaves the board as it was: 6, 10 where there is no decision.
@@ -209,9 +208,8 @@ pub extern "C" fn evolmino_board_decide(board: &mut Board, index: usize, value: 
 pub extern "C" fn evolmino_board_undo(board: &mut Board) -> i32
     ensures { λ r. ⌜ (r ≡ answerNumber (undoOf (now (board .entry)) .answer)) × (now (board .exit) ≡ undoOf (now (board .entry)) .board) ⌝ }
 {
-    let k = host_board::undone(*board);
-    *board = k.board;
-    k.number
+    let answer = lent::undo_in(board);
+    host_board::answer_number(answer)
 }
 
 // Finds a reason, for a player from 0 to 3 whose count of hints rises. The literals stand in the buffer's first places, value × 32,768 + index each. Returns
@@ -223,9 +221,8 @@ pub extern "C" fn evolmino_board_find(board: &mut Board, player: u8, literals: &
         × (now (board .exit) ≡ afterFind (now (board .entry)) player (length (now (literals .entry))))
         × (now (literals .exit) ≡ bufferAfter (now (board .entry)) player (now (literals .entry))) ⌝ }
 {
-    let k = host_board::found(*board, player, literals);
-    *board = k.board;
-    k.number
+    let finding = lent::find_in(board, player, literals);
+    host_board::finding_number(finding)
 }
 
 // Tells whether the board is finished: 1 for yes, 0 for no, or the negated number of a refusal, 6.

@@ -94,6 +94,13 @@ literals-few b q buffer {k} e = go (split (wellFormed b))
     go (inl w) = (w, found w (findRefusal b q (length buffer)) (reasonOn b) refl e)
     go (inr f) = let z : _≡_ {A = ℕ} 0 1 = cc (rw (ill f) at e) in absurd (omega arith)
 
+-- so their number is one that is returned
+pub literals-fit : (b : Board) (q : ℕ) (buffer : List ℕ) {k : ℕ} → findOf b q buffer ≡ findings.Reason k → k < 2147483648
+unfolding area gridOf size
+literals-fit b q buffer e =
+    let l = literals-few b q buffer e in
+    omega (arith, l .1, cells-few b (l .0))
+
 -- ---- certain
 
 module _ (b : Board) (budget k : ℕ) where

@@ -12,9 +12,6 @@ ghost use lib.ListN.{length};
 ghost use Rattle.literals.specs.declared.Finding.the-variants.{Reason};
 ghost use Rattle.exported.specs.Written.{outputWith};
 ghost use Rattle.board.specs.Kept.{openOf};
-ghost use Rattle.board.specs.Decide.{decideOf, undoOf};
-ghost use Rattle.board.specs.Hints.{afterFind};
-ghost use Rattle.reasons.specs.Find.{findOf, bufferAfter};
 ghost use Rattle.finished.specs.Verdicts.{finishedOf};
 ghost use Rattle.host_certain.specs.Told.{saidNumber, saidBytes};
 ghost use Rattle.host_board.specs.Lent.{answerNumber, findingNumber, verdictNumber, afterOpen, boardCertain, hintsOf, countNumber};
@@ -26,7 +23,7 @@ pub struct Kept {
 }
 
 // An answer as a number: 0 for done, or the negated number of a refusal.
-fn answer_number(answer: Answer) -> i32
+pub fn answer_number(answer: Answer) -> i32
     ensures { λ r. ⌜ r ≡ answerNumber answer ⌝ }
 {
     match answer {
@@ -36,7 +33,7 @@ fn answer_number(answer: Answer) -> i32
 }
 
 // What find answers as a number: how many literals there are, 0 for none, or the negated number of a refusal.
-fn finding_number(finding: Finding) -> i32
+pub fn finding_number(finding: Finding) -> i32
     requires { ⌜ ((k : ℕ) → finding ≡ Reason k → k < 2147483648) ⌝ }
     ensures { λ r. ⌜ r ≡ findingNumber finding ⌝ }
 {
@@ -68,46 +65,6 @@ pub fn opened(board: Board, record: &[u8], edition: u32, sizes: &[u16]) -> Kept
             number: negated(k),
             board,
         },
-    }
-}
-
-// `decide`: 0, or the negated number of a refusal, 6 to 9, which leaves the board.
-pub fn decided(board: Board, index: usize, value: u8) -> Kept
-    ensures { λ r. ⌜ (r .number ≡ answerNumber (decideOf board index value .answer)) × (r .board ≡ decideOf board index value .board) ⌝ }
-{
-    let d = board.decide(index, value);
-    let answer = d.answer;
-    let left = d.board;
-    Kept {
-        number: answer_number(answer),
-        board: left,
-    }
-}
-
-// `undo`: 0, or the negated number of a refusal, 6 or 10, which leaves the board.
-pub fn undone(board: Board) -> Kept
-    ensures { λ r. ⌜ (r .number ≡ answerNumber (undoOf board .answer)) × (r .board ≡ undoOf board .board) ⌝ }
-{
-    let d = board.undo();
-    let answer = d.answer;
-    let left = d.board;
-    Kept {
-        number: answer_number(answer),
-        board: left,
-    }
-}
-
-// `find`: how many literals there are, 0 for none, or the negated number of a refusal, 6, 17 or 11, which leaves the board and the buffer.
-pub fn found(board: Board, player: u8, literals: &mut [u16]) -> Kept
-    ensures { λ r. ⌜ (r .number ≡ findingNumber (findOf board player (now (literals .entry)))) × (r .board ≡ afterFind board player (length (now (literals .entry))))
-        × (now (literals .exit) ≡ bufferAfter board player (now (literals .entry))) ⌝ }
-{
-    let a = reasons::find(board, player, literals);
-    let finding = a.finding;
-    let left = a.board;
-    Kept {
-        number: finding_number(finding),
-        board: left,
     }
 }
 
