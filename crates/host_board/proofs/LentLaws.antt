@@ -5,9 +5,10 @@ use Prim.Native.Nat.{ℕ, zero, suc, _+_, _*_, _≤_, _<_}
 use native.Mathlib.Omega.{arith}
 use mathlib.Core.Logic.{_⊎_, inl, inr}
 use mathlib.Core.Path.{_≡_, refl, sym, ap, _∙_}
-use mathlib.Core.Bool.{true, false, cond}
+use mathlib.Core.Bool.{Bool, true, false, cond}
 use mathlib.Core.List.{List}
 use mathlib.Core.Option.{none, some}
+use lib.Dec.{leb}
 use lib.IntN.{pos, negℤ}
 use lib.ListN.{length}
 use borrow.Author.Tests.{le-leb, lt-leb}
@@ -35,7 +36,11 @@ use Rattle.reasons.proofs.BoardArrays.{board-sizes, board-arrays}
 use Rattle.reasons.proofs.ReasonLaws.{reason-length}
 use Rattle.call.specs.Inside.{editionOf}
 use Rattle.certain.specs.Facts.{certainOf}
-use Rattle.host_certain.specs.Told.{saidOf}
+use Rattle.certain.specs.declared.Facts.{Facts}
+use Rattle.certain.specs.declared.Certainty.{Certainty}
+use Rattle.certain.specs.declared.Certainty.the-variants as certainties
+use Rattle.exported.specs.Written.{outputWith}
+use Rattle.host_certain.specs.Told.{certaintyNumber, certainBytes, saidOf, saidNumber, saidBytes}
 use Rattle.host_board.specs.Lent.{answerNumber, findingNumber, openedOver, afterOpen, boardCertain, hintsOf}
 
 -- ---- open
@@ -167,3 +172,21 @@ found-unchanged b q buffer k e = go (findRefusal b q (length buffer)) (reasonOn 
     go zero none x = let z : _≡_ {A = ℕ} 0 1 = cc x in absurd (omega arith)
     go zero (some r) x = let z : _≡_ {A = ℕ} 0 1 = cc x in absurd (omega arith)
     go (suc j) f x = (refl, refl)
+
+-- certain that returns a negative number leaves the output
+pub certain-unchanged : (b : Board) (budget : ℕ) (output : List ℕ) (k : ℕ) → saidNumber (boardCertain b budget (length output)) ≡ negℤ (pos (suc k))
+    → outputWith (saidBytes (boardCertain b budget (length output))) output ≡ output
+unfolding boardCertain unless _>>=_ saidNumber saidBytes outputWith saidOf certaintyNumber certainBytes
+certain-unchanged b budget output k = go (area b) (certainOf b budget) (wellFormed b) (leb (8 + area b) (length output))
+  where
+    said : (n : ℕ) (f : Facts) (a : Certainty) → certaintyNumber a ≡ negℤ (pos (suc k)) → outputWith (ok (certainBytes n a f)) output ≡ output
+    said n f certainties.Told x = let z : _≡_ {A = ℕ} 0 1 = cc x in absurd (omega arith)
+    said n f certainties.Impossible x = let z : _≡_ {A = ℕ} 0 1 = cc x in absurd (omega arith)
+    said n f certainties.Spent x = let z : _≡_ {A = ℕ} 0 1 = cc x in absurd (omega arith)
+    said n f (certainties.Refused j) x = refl
+
+    go : (n : ℕ) (f : Facts) (w t : Bool) → saidNumber (unless w 6 >>= λ _. unless t 11 >>= λ _. ok (saidOf n f)) ≡ negℤ (pos (suc k))
+        → outputWith (saidBytes (unless w 6 >>= λ _. unless t 11 >>= λ _. ok (saidOf n f))) output ≡ output
+    go n f false t x = refl
+    go n f true false x = refl
+    go n f true true x = said n f (f .answer) x

@@ -1,5 +1,5 @@
-// The calls on a board that the caller keeps, by value: each gives the number that the exported call returns, and where the board changes the board
-// as the call leaves it. The exported calls, over a lent board, are in `host`.
+// The numbers that the exported calls on a board return: of an answer and of a finding, which `lent` gives, and by value those of open, finished, certain
+// and hints; open gives with its number the board as it leaves it. The exported calls, over a lent board, are in `host`.
 use board::Board;
 use exported::counted;
 use exported::negated;
@@ -16,7 +16,7 @@ ghost use Rattle.finished.specs.Verdicts.{finishedOf};
 ghost use Rattle.host_certain.specs.Told.{saidNumber, saidBytes};
 ghost use Rattle.host_board.specs.Lent.{answerNumber, findingNumber, verdictNumber, afterOpen, boardCertain, hintsOf, countNumber};
 
-// The number that a call returns, with the board as the call leaves it.
+// The number that open returns, with the board as it leaves it.
 pub struct Kept {
     pub number: i32,
     pub board: Board,

@@ -1,4 +1,4 @@
-// Decide, undo and find on one board lent by the caller.
+// Decide, undo and find on one board lent by the caller. The exported calls of `host` pass the board that they are lent on to these.
 use board::Board;
 use literals::Finding;
 use record::Answer;
