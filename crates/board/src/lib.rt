@@ -178,7 +178,7 @@ fn not_opened(k: u8) -> Opened
 }
 
 // Whether there is such an edition: 1 or 2.
-pub fn is_edition(edition: u8) -> bool
+fn is_edition(edition: u8) -> bool
     ensures { λ r. ⌜ r ≡ isEdition edition ⌝ }
 {
     if edition == 1 {

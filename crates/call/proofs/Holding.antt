@@ -23,7 +23,7 @@ use Rattle.record.specs.declared.Answer.the-variants.{Done, Refused}
 use Rattle.record.proofs.ArrowLaws.{answered-done, answered-fault}
 use Rattle.form.specs.Form.{problemFormed}
 use Rattle.form.proofs.ProblemForm.{is-formed, valid-formed}
-use Rattle.record.proofs.LeafLaws.{ValidLeaf, edition-is, no-sizes}
+use Rattle.record.proofs.LeafLaws.{edition-is, no-sizes}
 use Rattle.record.proofs.LineLaws.{valid-arrows}
 use Rattle.record.proofs.ProblemLaws.{problem-puzzle}
 use Rattle.record.proofs.RecordLaws.{valid-size}
@@ -133,10 +133,6 @@ module _ {s : List ℕ} {q : Problem} (r : Reads s q) (edition : ℕ) {e : ℕ} 
 -- ---- what is held
 
 module _ {l : Leaf} {e : ℕ} {lows highs : List ℕ} {h w : ℕ} {arrows ends : List ℕ} {number : ℕ} (x : Holds l e lows highs h w arrows ends number) where
-  -- the leaf is an accepted one
-  pub holds-valid : ValidLeaf l
-  holds-valid = record { puzzle = x .drawn .valid; edition = x .one; sizes = x .good }
-
   pub holds-size : h * w ≡ size (l .puzzle .grid)
   unfolding size
   holds-size = ap size (x .grid)

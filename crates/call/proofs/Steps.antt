@@ -13,18 +13,17 @@ use Rattle.grid.specs.Cells.{Literal}
 use Rattle.grid.specs.Lists.{arrayOf}
 use Rattle.grid.proofs.ArrayLaws.{array-take}
 use Rattle.record.specs.Record.{Outcome, ok, refused, Puzzle, readRecord, _>>=_, unless}
-use Rattle.record.specs.Problem.{problemOf, puzzleOf, readOf}
+use Rattle.record.specs.Problem.{problemOf, readOf}
 use Rattle.record.specs.Valid.{Valid}
 use Rattle.record.specs.Leaf.{Leaf, inEdition, isEdition}
 use Rattle.record.specs.declared.Problem.{Problem}
 use Rattle.record.specs.declared.Reading.{Reading}
 use Rattle.record.specs.declared.Answer.{Answer}
 use Rattle.record.specs.declared.Answer.the-variants.{Done, Refused}
-use Rattle.record.proofs.ProblemLaws.{read-done, problem-puzzle}
+use Rattle.record.proofs.ProblemLaws.{read-done}
 use Rattle.record.proofs.RecordLaws.{record-valid, valid-size}
 use Rattle.record.proofs.LeafLaws.{ValidLeaf, no-sizes}
 use Rattle.sizes.specs.Kept.{lowestOf, highestOf}
-use Rattle.form.proofs.ProblemForm.{Formed, valid-formed}
 use Rattle.board.specs.Board.{decide, after, refusal, cellsAfter}
 use Rattle.board.specs.Form.{wellFormed}
 use Rattle.board.specs.Kept.{noHints, boardOf}
@@ -145,25 +144,8 @@ reads-done s r e d =
     let p = read-done s r e d in
     record { puzzle = p .0; reads = p .1; is = p .2 }
 
-module _ {s : List ℕ} {q : Problem} (r : Reads s q) where
-  pub reads-valid : Valid (r .puzzle)
-  reads-valid = record-valid s (r .reads)
-
-  pub reads-size : q .height * q .width ≡ size (r .puzzle .grid)
-  unfolding problemOf size
-  reads-size = rw (r .is) refl
-
-  -- the cells are few, so nothing overflows
-  pub reads-few : q .height * q .width ≤ 1024
-  reads-few = rw reads-size (valid-size reads-valid)
-
-  -- the arrays are those of an accepted record
-  pub reads-formed : Formed q
-  reads-formed = rw (r .is) (valid-formed (r .puzzle) reads-valid)
-
-  -- the puzzle is the record's
-  pub reads-puzzle : puzzleOf q ≡ r .puzzle
-  reads-puzzle = ap puzzleOf (r .is) ∙ problem-puzzle (r .puzzle) reads-valid
+pub reads-valid : {s : List ℕ} {q : Problem} (r : Reads s q) → Valid (r .puzzle)
+reads-valid {s} r = record-valid s (r .reads)
 
 -- ---- a call on a leaf, step by step
 
