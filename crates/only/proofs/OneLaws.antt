@@ -19,9 +19,10 @@ use Rattle.record.proofs.RecordLaws.{valid-size}
 use Rattle.finished.specs.Finished.{Finished}
 use Rattle.certificate.specs.Certificate.{wordsOf, wholeWords, tag, cellOf, valueOf, width, clauseAt, claimed}
 use Rattle.certificate.proofs.Words.{words-length}
-use Rattle.unique.specs.Unique.{Holds, OnlySolution}
+use Rattle.unique.specs.Unique.{OnlySolution}
 use Rattle.unique.proofs.HeadLaws.{Head, head-is, claimed-long, claimed-at}
 use Rattle.only.specs.Good.{Closes, Good}
+use Rattle.only.proofs.Under.{TrueOn}
 use Rattle.only.proofs.Steps.{Verified, part-mem, low, closes-never}
 
 -- ---- a leaf
@@ -32,7 +33,7 @@ module _ (l : Leaf) (valid : ValidLeaf l) (ws : List ℕ) where
 
   module _ (q : Head n ws) (full : List ℕ) (fin : Finished l full) where
     -- a finished board that differs at a cell: the first clause holds there
-    differs : (i : ℕ) → i < n → (getD full i 0 ≡ getD (claimed n ws) i 0 → ⊥) → Holds full (clauseAt ws 0)
+    differs : (i : ℕ) → i < n → (getD full i 0 ≡ getD (claimed n ws) i 0 → ⊥) → TrueOn full (clauseAt ws 0)
     differs i h ne = record { word = getD ws (i + 1) 0; member = member; true-there = there }
       where
         wide : width ws 0 ≡ n
@@ -54,10 +55,10 @@ module _ (l : Leaf) (valid : ValidLeaf l) (ws : List ℕ) where
             go a b v h e k n = omega arith
 
     -- and it is the only step before the second
-    started : Holds full (clauseAt ws 0) → Verified l valid full fin ws (n + 2)
+    started : TrueOn full (clauseAt ws 0) → Verified l valid full fin ws (n + 2)
     started first h lt t = go (ℕ-discrete h 0) (ℕ-discrete h (n + 1))
       where
-        go : Dec (h ≡ 0) → Dec (h ≡ n + 1) → Holds full (clauseAt ws h)
+        go : Dec (h ≡ 0) → Dec (h ≡ n + 1) → TrueOn full (clauseAt ws h)
         go (yes e) d = rw e first
         go (no a) (yes e) = absurd (omega (arith, ap (λ i. getD ws i 0) e, q .none-hinted))
         go (no a) (no b) =

@@ -5,7 +5,7 @@ use native.Mathlib.Omega.{arith}
 use native.Mathlib.Decide.{ℕ-discrete, decLt}
 use mathlib.Core.Logic.{_⊎_, inl, inr}
 use mathlib.Core.Path.{_≡_, refl, sym, _∙_, ap}
-use mathlib.Core.Bool.{Bool, true, false, cond, _&&_, _||_, not, false≢true, So}
+use mathlib.Core.Bool.{Bool, true, false, cond, _&&_, _||_, false≢true, So}
 use mathlib.Core.List.{List, [], _∷_, map, List·Memᴰ}
 use mathlib.Core.Option.{none, some}
 use lib.Dec.{eqb, ltb, leb}
@@ -28,11 +28,11 @@ use Rattle.reasons.proofs.Sound.{sound}
 use Rattle.reasons.proofs.Stands.{find-stands}
 use Rattle.finished.specs.Finished.{Finished, twoSquares}
 use Rattle.finished.proofs.FinishedLaws.{two-test}
-use Rattle.certificate.specs.Certificate.{tag, width, clauseAt, middle, hintsAt, next, whole, earlier, State, assumeFrom, followFrom}
-use Rattle.unique.specs.Unique.{baseCell, baseOf, twoOpen, lonely, given, refuted, closeOf, Holds}
+use Rattle.certificate.specs.Certificate.{tag, width, clauseAt, middle, hintsAt, next, earlier, State, assumeFrom, followFrom}
+use Rattle.unique.specs.Unique.{baseCell, baseOf, twoOpen, lonely, given, refuted, closeOf}
 use Rattle.unique.proofs.StepLaws.{Step, step-is}
 use Rattle.only.specs.Good.{Closes, last-step, one-step}
-use Rattle.only.proofs.Under.{Under, Followed, holds-nil, holds-dec, assume-under, assumed-literal, follow-under, followed-earlier}
+use Rattle.only.proofs.Under.{TrueOn, Under, Followed, holds-nil, holds-dec, assume-under, assumed-literal, follow-under, followed-earlier}
 
 -- a member of a part, by its place in the whole
 pub part-mem : (ws : List ℕ) (a k j : ℕ) → j < k → a + k ≤ length ws → List·Memᴰ (getD ws (a + j) 0) (take k (drop a ws))
@@ -175,7 +175,7 @@ module _ (l : Leaf) (valid : ValidLeaf l) (full : List ℕ) (fin : Finished l fu
 
   -- every step before a place has a clause that holds
   abbrev pub Verified : List ℕ → ℕ → Type 0
-  Verified ws at = (h : ℕ) → h < at → tag ≤ getD ws h 0 → Holds full (clauseAt ws h)
+  Verified ws at = (h : ℕ) → h < at → tag ≤ getD ws h 0 → TrueOn full (clauseAt ws h)
 
   module _ (ws : List ℕ) (most : length ws ≤ tag) where
     closed-low : (s : State) → closeOf l s ≡ 0 → s .0 ≤ 1
@@ -188,7 +188,7 @@ module _ (l : Leaf) (valid : ValidLeaf l) (full : List ℕ) (fin : Finished l fu
         go (no a) (no b) x = absurd (b (rw (ne-eqb _ _ a, ne-eqb _ _ b) at x))
 
     module _ (at : ℕ) (before : Verified ws at) (step : Step l ws at) where
-      earlier-holds : (h : ℕ) → earlier ws at h ≡ true → Holds full (clauseAt ws h)
+      earlier-holds : (h : ℕ) → earlier ws at h ≡ true → TrueOn full (clauseAt ws h)
       unfolding earlier
       earlier-holds h t =
           let a = and-true (ltb h at) (leb tag (getD ws h 0) && leb (middle ws h) at) t in
@@ -196,10 +196,10 @@ module _ (l : Leaf) (valid : ValidLeaf l) (full : List ℕ) (fin : Finished l fu
           before h (ltb-true h at (a .0)) (leb-true tag (getD ws h 0) (b .0))
 
       -- its clause holds where those before it hold
-      step-holds : Holds full (clauseAt ws at)
+      step-holds : TrueOn full (clauseAt ws at)
       step-holds = go (holds-dec full low (clauseAt ws at))
         where
-          go : Dec (Holds full (clauseAt ws at)) → Holds full (clauseAt ws at)
+          go : Dec (TrueOn full (clauseAt ws at)) → TrueOn full (clauseAt ws at)
           go (yes h) = h
           go (no f) =
               absurd
@@ -211,7 +211,7 @@ module _ (l : Leaf) (valid : ValidLeaf l) (full : List ℕ) (fin : Finished l fu
       step-next : Verified ws (next ws at)
       step-next h lt t = go (decLt h at) (ℕ-discrete h at) (decLt h (middle ws at)) (ℕ-discrete h (middle ws at))
         where
-          go : Dec (h < at) → Dec (h ≡ at) → Dec (h < middle ws at) → Dec (h ≡ middle ws at) → Holds full (clauseAt ws h)
+          go : Dec (h < at) → Dec (h ≡ at) → Dec (h < middle ws at) → Dec (h ≡ middle ws at) → TrueOn full (clauseAt ws h)
           go (yes a) d2 d3 d4 = before h a t
           go (no a) (yes b) d3 d4 = rw b step-holds
           go (no a) (no b) (yes c) d4 =
@@ -230,6 +230,6 @@ module _ (l : Leaf) (valid : ValidLeaf l) (full : List ℕ) (fin : Finished l fu
     pub closes-never : {at : ℕ} → Closes l ws at → Verified ws at → ⊥
     closes-never {at} (last-step h s z e) v = nothing z (step-holds at v (step-is l ws at s))
       where
-        nothing : width ws at ≡ 0 → Holds full (clauseAt ws at) → ⊥
+        nothing : width ws at ≡ 0 → TrueOn full (clauseAt ws at) → ⊥
         nothing z h = holds-nil full low (rw z at h)
     closes-never {at} (one-step h s z more) v = closes-never more (step-next at v (step-is l ws at s))

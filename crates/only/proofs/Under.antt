@@ -14,21 +14,26 @@ use lib.Seq.{getD-set-same, getD-set-other}
 use borrow.Author.Tests.{eq-eqb, ne-eqb, ltb-true}
 use Rattle.grid.proofs.ListLaws.{split, and-true}
 use Rattle.certificate.specs.Certificate.{tag, cellOf, valueOf, literal, clauseAt, middle, earlier, lookStep, lookFrom, hintOf, State, assumeFrom, followFrom}
-use Rattle.unique.specs.Unique.{Holds}
+
+-- a clause says of a full board that one of its literals is true on it
+pub record TrueOn (full clause : List ℕ) : Type 0 where
+  pub word : ℕ
+  pub member : List·Memᴰ word clause
+  pub true-there : getD full (cellOf word) 0 ≡ valueOf word
 
 module _ (full : List ℕ) (low : (i : ℕ) → getD full i 0 ≤ 1) where
   -- the literal is true on the full board
   abbrev True : ℕ → Type 0
   True w = getD full (cellOf w) 0 ≡ valueOf w
 
-  holds-cons : {w : ℕ} {ws : List ℕ} → Holds full (w ∷ ws) → True w ⊎ Holds full ws
+  holds-cons : {w : ℕ} {ws : List ℕ} → TrueOn full (w ∷ ws) → True w ⊎ TrueOn full ws
   holds-cons {w} {ws} h = go (List·Memᴰ·cases-cons (h .member))
     where
-      go : (h .word ≡ w) ⊎ List·Memᴰ (h .word) ws → True w ⊎ Holds full ws
+      go : (h .word ≡ w) ⊎ List·Memᴰ (h .word) ws → True w ⊎ TrueOn full ws
       go (inl e) = inl (rw e at (h .true-there))
       go (inr m) = inr (record { word = h .word; member = m; true-there = h .true-there })
 
-  pub holds-nil : Holds full [] → ⊥
+  pub holds-nil : TrueOn full [] → ⊥
   holds-nil h = List·Memᴰ·not-nil (h .member)
 
   -- what a look at a clause that holds comes to: not all its literals are false, and one that is left is true
@@ -53,16 +58,16 @@ module _ (full : List ℕ) (low : (i : ℕ) → getD full i 0 ≤ 1) where
 
   module _ (cells : List ℕ) (under : Under cells) where
     -- one literal read
-    step-says : (q w : ℕ) (ws : List ℕ) → Holds full (w ∷ ws) ⊎ Says q → Holds full ws ⊎ Says (lookStep (getD cells (cellOf w) 0) q w)
+    step-says : (q w : ℕ) (ws : List ℕ) → TrueOn full (w ∷ ws) ⊎ Says q → TrueOn full ws ⊎ Says (lookStep (getD cells (cellOf w) 0) q w)
     unfolding lookStep
     step-says q w ws h = go (ℕ-discrete (getD cells (cellOf w) 0) (valueOf w)) (ℕ-discrete (getD cells (cellOf w) 0) 2) (ℕ-discrete q 0) (ℕ-discrete q (w + 2)) (opened h)
       where
-        opened : Holds full (w ∷ ws) ⊎ Says q → (True w ⊎ Holds full ws) ⊎ Says q
+        opened : TrueOn full (w ∷ ws) ⊎ Says q → (True w ⊎ TrueOn full ws) ⊎ Says q
         opened (inl x) = inl (holds-cons x)
         opened (inr s) = inr s
 
-        go : Dec (getD cells (cellOf w) 0 ≡ valueOf w) → Dec (getD cells (cellOf w) 0 ≡ 2) → Dec (q ≡ 0) → Dec (q ≡ w + 2) → (True w ⊎ Holds full ws) ⊎ Says q
-            → Holds full ws ⊎ Says (cond (eqb (getD cells (cellOf w) 0) (valueOf w)) 1 (cond (eqb (getD cells (cellOf w) 0) 2) (cond (eqb q 0) (w + 2) (cond (eqb q (w + 2)) q 1)) q))
+        go : Dec (getD cells (cellOf w) 0 ≡ valueOf w) → Dec (getD cells (cellOf w) 0 ≡ 2) → Dec (q ≡ 0) → Dec (q ≡ w + 2) → (True w ⊎ TrueOn full ws) ⊎ Says q
+            → TrueOn full ws ⊎ Says (cond (eqb (getD cells (cellOf w) 0) (valueOf w)) 1 (cond (eqb (getD cells (cellOf w) 0) 2) (cond (eqb q 0) (w + 2) (cond (eqb q (w + 2)) q 1)) q))
         go (yes e) d2 d3 d4 o = rw (eq-eqb _ _ e) (inr says-one)
         go (no a) (no b) d3 d4 (inl (inl t)) = absurd (a (sym (under .agree (cellOf w) b) ∙ t))
         go (no a) d2 d3 d4 (inl (inr t)) = inl t
@@ -74,7 +79,7 @@ module _ (full : List ℕ) (low : (i : ℕ) → getD full i 0 ≤ 1) where
         go (no a) (yes b) (no z) (no u) (inl (inl t)) = rw (ne-eqb _ _ a, eq-eqb _ _ b, ne-eqb _ _ z, ne-eqb _ _ u) (inr says-one)
         go (no a) (yes b) (no z) (no u) (inr s) = rw (ne-eqb _ _ a, eq-eqb _ _ b, ne-eqb _ _ z, ne-eqb _ _ u) (inr says-one)
 
-    look-says : (q : ℕ) (l : List ℕ) → Holds full l ⊎ Says q → Says (lookFrom cells q l)
+    look-says : (q : ℕ) (l : List ℕ) → TrueOn full l ⊎ Says q → Says (lookFrom cells q l)
     unfolding lookFrom
     look-says q [] (inl h) = absurd (holds-nil h)
     look-says q [] (inr s) = s
@@ -107,7 +112,7 @@ module _ (full : List ℕ) (low : (i : ℕ) → getD full i 0 ≤ 1) where
   cell-lt w = mod-lt w {m = 1024} (omega arith)
 
   -- a clause that does not hold, assumed false
-  pub assume-under : (n : ℕ) (cells l : List ℕ) → Under cells → (Holds full l → ⊥) → Under (assumeFrom n cells l .1)
+  pub assume-under : (n : ℕ) (cells l : List ℕ) → Under cells → (TrueOn full l → ⊥) → Under (assumeFrom n cells l .1)
   unfolding assumeFrom
   assume-under n cells [] u f = u
   assume-under n cells (w ∷ ws) u f =
@@ -125,7 +130,7 @@ module _ (full : List ℕ) (low : (i : ℕ) → getD full i 0 ≤ 1) where
     pub no-clash : s .0 ≡ 1 → ⊥
     pub under : Under (s .1)
 
-  module _ (ws : List ℕ) (p : ℕ) (verified : (h : ℕ) → earlier ws p h ≡ true → Holds full (clauseAt ws h)) where
+  module _ (ws : List ℕ) (p : ℕ) (verified : (h : ℕ) → earlier ws p h ≡ true → TrueOn full (clauseAt ws h)) where
     hint-says : (cells : List ℕ) → Under cells → (h : ℕ) → Says (hintOf ws p cells h)
     unfolding hintOf
     hint-says cells u h = go (split (earlier ws p h))
@@ -152,16 +157,16 @@ module _ (full : List ℕ) (low : (i : ℕ) → getD full i 0 ≤ 1) where
             (under-set cells u (cellOf (look - 2)) (valueOf (look - 2)) (cell-lt (look - 2)) (hint-says cells u h .unit (look - 2) (omega arith))))
 
   -- whether a clause holds is decided
-  pub holds-dec : (l : List ℕ) → Dec (Holds full l)
+  pub holds-dec : (l : List ℕ) → Dec (TrueOn full l)
   holds-dec [] = no (λ h. holds-nil h)
   holds-dec (w ∷ ws) = go (ℕ-discrete (getD full (cellOf w) 0) (valueOf w)) (holds-dec ws)
     where
-      go : Dec (True w) → Dec (Holds full ws) → Dec (Holds full (w ∷ ws))
+      go : Dec (True w) → Dec (TrueOn full ws) → Dec (TrueOn full (w ∷ ws))
       go (yes t) d = yes (record { word = w; member = List·Memᴰ·head refl; true-there = t })
       go (no t) (yes h) = yes (record { word = h .word; member = List·Memᴰ·tail (h .member); true-there = h .true-there })
       go (no t) (no h) = no (λ x. both (holds-cons x))
         where
-          both : True w ⊎ Holds full ws → ⊥
+          both : True w ⊎ TrueOn full ws → ⊥
           both (inl a) = t a
           both (inr a) = h a
 

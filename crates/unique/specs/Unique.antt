@@ -3,7 +3,7 @@
 use Prim.Native.Nat.{ℕ, zero, suc, _+_}
 use mathlib.Core.Path.{_≡_}
 use mathlib.Core.Bool.{Bool, true, false, cond, _||_, not}
-use mathlib.Core.List.{List, map, List·Memᴰ}
+use mathlib.Core.List.{List, map}
 use mathlib.Core.Option.{none, some}
 use lib.Dec.{eqb, leb, ltb}
 use lib.IntN.{ℤ, pos, negℤ}
@@ -17,7 +17,7 @@ use Rattle.literals.specs.Literals.{Found}
 use Rattle.inconsistency.specs.Reasons.{findReason}
 use Rattle.finished.specs.Finished.{Finished, finishedTest}
 use Rattle.call.specs.Call.{leafFrom}
-use Rattle.certificate.specs.Certificate.{wordsOf, wholeWords, cellOf, valueOf, width, next, State, stepFrom, claimed, headed}
+use Rattle.certificate.specs.Certificate.{wordsOf, wholeWords, width, next, State, stepFrom, claimed, headed}
 
 -- ---- a step
 
@@ -97,12 +97,6 @@ uniqueReturned (refused k) = negℤ (pos k)
 uniqueReturned (ok solution) = pos 1
 
 -- ---- what it is for
-
--- a clause says of a full board that one of its literals is true on it
-pub record Holds (full clause : List ℕ) : Type 0 where
-  pub word : ℕ
-  pub member : List·Memᴰ word clause
-  pub true-there : getD full (cellOf word) 0 ≡ valueOf word
 
 -- the one solution of a leaf
 pub record OnlySolution (l : Leaf) (solution : List ℕ) : Type 0 where
