@@ -8,7 +8,7 @@ ghost use Rattle.certificate.specs.Certificate.{wordsOf, wholeWords, loo
 ghost use Rattle.certificate.specs.Inside.{endOf};
 
 // What a step's first word has beyond the number of its literals.
-const TAG: usize = 8388608;
+pub const TAG: usize = 8388608;
 
 // The word at place k.
 pub fn word_at(certificate: &[u8], k: usize) -> usize
@@ -175,7 +175,7 @@ pub fn take_step(certificate: &[u8], at: usize, n: usize, cells: &mut [u8; 1024]
 }
 
 // A fresh array of cells: all undecided.
-fn undecided() -> [u8; 1024]
+pub fn undecided() -> [u8; 1024]
     ensures { λ r. ⌜ r ≡ replicate 1024 2 ⌝ }
 {
     [2u8; 1024]

@@ -6,7 +6,7 @@ ghost use mathlib.Core.Path.{_≡_};
 ghost use mathlib.Core.Bool.{true};
 ghost use mathlib.Core.List.{map};
 ghost use Prim.Native.Nat.{ℕ, _+_, _*_, _≤_};
-ghost use lib.ListN.{length, getD, replicate};
+ghost use lib.ListN.{length, getD};
 ghost use lib.Seq.{slice};
 ghost use Rattle.grid.specs.Lists.{upto, all, filter, arrayOf};
 ghost use Rattle.grid.specs.Side.{sized};
@@ -20,16 +20,6 @@ ghost use Rattle.sizes.specs.Inside.{Drawn};
 ghost use Rattle.call.specs.Inside.{withSizes, Holds};
 ghost use Rattle.certificate.specs.Certificate.{wordsOf};
 ghost use Rattle.unique.specs.Unique.{baseCell, twoOpen, refuted, stepOf, stepsOf, checkOn, hostUnique, uniqueReturned};
-
-// The first word of the step of no literals.
-const EMPTY: usize = 8388608;
-
-// A fresh array of cells: all undecided.
-fn undecided() -> [u8; 1024]
-    ensures { λ r. ⌜ r ≡ replicate 1024 2 ⌝ }
-{
-    [2u8; 1024]
-}
 
 // The state of a cell of this code before anything is assumed: a black one is empty, a given one square, any other undecided.
 fn base_cell(code: u8) -> u8
@@ -49,7 +39,7 @@ fn base_cells(codes: &[u8; 1024], n: usize) -> [u8; 1024]
     requires { ⌜ n ≤ 1024 ⌝ }
     ensures { λ r. ⌜ r ≡ arrayOf 2 (map (λ i. baseCell (getD (now (codes .entry)) i 0)) (upto n)) ⌝ }
 {
-    let mut cells = undecided();
+    let mut cells = certificate::undecided();
     let mut i = 0;
     while i < n {
         cells[i] = base_cell(codes[i]);
@@ -219,7 +209,8 @@ fn check_steps<'a>(
             return refusal;
         }
         let next = certificate::step_end(certificate, at);
-        if certificate::word_at(certificate, at) == EMPTY {
+        // The step of no literals.
+        if certificate::word_at(certificate, at) == certificate::TAG {
             if next == count {
                 return 0;
             }

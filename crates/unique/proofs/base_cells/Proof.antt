@@ -11,10 +11,6 @@ use Rattle.unique.specs.Unique.{baseCell}
 use borrow.Author.Needs.{needs}
 use Rattle.unique.proofs.base_cells.Statement.{statement}
 use Rattle.unique.proofs.base_cells.Tie as tie
-use Rattle.unique.proofs.base_cells.Reads as reads
-use Rattle.unique.proofs.base_cells.Lts as lts
-use Rattle.unique.proofs.base_cell.Reads as base-cell-reads
-use Rattle.unique.proofs.undecided.Reads as undecided-reads
 
 abbrev Inv-loop : tie.InvT-loop
 Inv-loop codes n cells₀ i₀ cells i = (i ≤ n) × (length cells ≡ 1024) × (cells ≡ arrayOf 2 (map (λ k. baseCell (getD codes k 0)) (upto i)))
