@@ -1,4 +1,3 @@
-pub mod ArrowSquares
 pub mod FinishedLaws
 pub mod TwoBlocks
 pub mod VerdictLaws

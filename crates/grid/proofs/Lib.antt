@@ -1,6 +1,7 @@
 pub mod ListLaws
 pub mod AppendLaws
 pub mod SliceLaws
+pub mod ArrowSquares
 pub mod LinkLaws
 pub mod Count
 pub mod Finite

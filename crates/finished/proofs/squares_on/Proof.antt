@@ -8,7 +8,7 @@ use lib.ListN.{getD}
 use borrow.Author.Needs.{needs}
 use borrow.Author.Tests.{eq-eqb, ne-eqb}
 use Rattle.grid.specs.Cells.{square}
-use Rattle.finished.proofs.ArrowSquares.{ahead, none-ahead, one-counted, other-passed}
+use Rattle.grid.proofs.ArrowSquares.{ahead, none-ahead, one-counted, other-passed}
 use Rattle.finished.proofs.squares_on.Statement.{statement}
 use Rattle.finished.proofs.squares_on.Tie as tie
 

@@ -9,7 +9,7 @@ use lib.ListN.{getD}
 use borrow.Author.Needs.{needs}
 use borrow.Author.Tests.{eq-eqb, ne-eqb}
 use Rattle.grid.specs.Cells.{potential, empty}
-use Rattle.finished.proofs.ArrowSquares.{ahead, none-ahead, one-counted, other-passed}
+use Rattle.grid.proofs.ArrowSquares.{ahead, none-ahead, one-counted, other-passed}
 use Rattle.unique.proofs.open_on.Statement.{statement}
 use Rattle.unique.proofs.open_on.Tie as tie
 

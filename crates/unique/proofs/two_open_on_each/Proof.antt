@@ -11,11 +11,11 @@ use lib.Seq.{length-take-le, getD-take}
 use borrow.Author.Needs.{needs}
 use Rattle.grid.specs.Lists.{all}
 use Rattle.grid.specs.Cells.{potential}
+use Rattle.grid.proofs.ArrowSquares.{ahead, has-two, lacks-two}
 use Rattle.record.specs.Problem.{arrowsFrom}
 use Rattle.form.proofs.Steps.{arrows-on, arrows-fail, arrows-end}
 use Rattle.groups.specs.Arrays.{linesOf}
 use Rattle.unique.specs.Unique.{twoOpen}
-use Rattle.finished.proofs.ArrowSquares.{ahead, has-two, lacks-two}
 use Rattle.unique.proofs.two_open_on_each.Statement.{statement}
 use Rattle.unique.proofs.two_open_on_each.Tie as tie
 
