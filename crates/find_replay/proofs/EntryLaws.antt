@@ -8,7 +8,6 @@ use lib.Dec.{eqb}
 use Rattle.record.specs.Problem.{numberOf}
 use Rattle.board.specs.Kept.{openOf}
 use Rattle.board.specs.Decide.{decideAllOf}
-use Rattle.board.specs.declared.Board.{Board}
 use Rattle.board.specs.declared.Opened.{Opened}
 use Rattle.board.specs.declared.Decided.{Decided}
 use Rattle.finished.specs.declared.Verdict.{Verdict}

@@ -6,13 +6,13 @@ use native.Mathlib.Omega.{arith}
 use mathlib.Core.Logic.{_⊎_, inl, inr}
 use mathlib.Core.Path.{_≡_, refl, sym, ap, _∙_}
 use mathlib.Core.Bool.{Bool, true, false, cond, _&&_}
-use mathlib.Core.List.{List, [], _∷_, _++_}
+use mathlib.Core.List.{List, [], _∷_}
 use lib.Dec.{eqb}
 use lib.ListN.{length, getD, set, take, length-set, length-append}
 use lib.Seq.{take-suc, take-suc-set, take-set-le, getD-set-same, getD-set-other}
 use borrow.Author.Tests.{eq-eqb, ne-eqb}
 use Rattle.grid.specs.Lists.{range, upto, filter}
-use Rattle.grid.proofs.ListLaws.{split, place-in, filter-length, upto-mem}
+use Rattle.grid.proofs.ListLaws.{split, place-in, filter-length}
 use Rattle.grid.proofs.AppendLaws.{by-eq, upto-length, filter-more, filter-upto, count-hit, count-miss}
 use Rattle.grid.proofs.ArrayLaws.{fewer-set}
 use Rattle.groups.specs.Flood.{unlabelled, free, Offered, skip, take as taken}

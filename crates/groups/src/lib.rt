@@ -11,7 +11,7 @@ ghost use Rattle.grid.specs.Lists.{member};
 ghost use Rattle.grid.specs.Marks.{Marks};
 ghost use Rattle.grid.specs.Side.{InGrid, InPlace, sized, besideOf};
 ghost use Rattle.grid.specs.Cells.{square};
-ghost use Rattle.groups.specs.Arrays.{Line, labelArray, noGroup, counts, marked, GroupTable};
+ghost use Rattle.groups.specs.Arrays.{Line, noGroup, counts, marked, GroupTable};
 ghost use Rattle.groups.specs.Table.{Unused, labelled};
 ghost use Rattle.groups.specs.Flood.{unlabelled, free, Only, Walked, Offerable, Marked, Offered, OfferedSide, Spread, Ready};
 

@@ -17,7 +17,6 @@ use board::Board;
 use replay::Run;
 use replay::Tally;
 use rounds::Rounds;
-ghost use mathlib.Core.Path.{_≡_};
 ghost use Prim.Native.Nat.{_+_, _*_, _≤_, _<_};
 ghost use lib.ListN.{length, take};
 ghost use Rattle.grid.specs.Side.{sized};

@@ -1,21 +1,17 @@
 -- Marks at the names of groups, and arrays of kinds and owners that are filled cell by cell.
 -- Assumes nothing.
-use Prim.Native.Nat.{ℕ, _+_, _%_, _≤_, _<_}
-use native.Mathlib.Decide.{decLt}
+use Prim.Native.Nat.{ℕ, _+_, _≤_, _<_}
 use native.Mathlib.Omega.{arith}
-use mathlib.Core.Bool.{Bool, false, cond, _&&_, _||_, or-false, and-false}
-use mathlib.Core.Path.{_≡_, refl, sym, _∙_}
+use mathlib.Core.Bool.{Bool, _&&_, _||_, or-false, and-false}
+use mathlib.Core.Path.{_≡_, refl, sym}
 use mathlib.Core.List.{List}
-use lib.Dec.{eqb, ltb}
-use lib.ListN.{length, getD, set, replicate}
-use lib.Seq.{set-getD}
-use borrow.Author.Tests.{eq-eqb, ne-eqb, lt-ltb, le-ltb}
-use Rattle.grid.specs.Lists.{range, upto, any}
+use lib.Dec.{eqb}
+use lib.ListN.{length, set, replicate}
+use borrow.Author.Tests.{eq-eqb, ne-eqb}
 use Rattle.grid.specs.Marks.{Marks}
 use Rattle.grid.specs.Grid.{Grid}
-use Rattle.grid.proofs.AppendLaws.{any-more}
 use Rattle.grid.proofs.FilledLaws.{filled-none, filled-more, filled-length}
-use Rattle.grid.proofs.MarkLaws.{marks-same, marks-set, mark-is}
+use Rattle.grid.proofs.MarkLaws.{marks-same, marks-set}
 use Rattle.kinds.specs.Arrays.{kindCode, ownerBy}
 use Rattle.kinds.specs.Inside.{kindIn, codesIn, unnamed, ownersIn}
 

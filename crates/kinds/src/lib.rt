@@ -2,7 +2,7 @@
 use grid::Side;
 ghost use mathlib.Core.Path.{_≡_};
 ghost use Prim.Native.Nat.{ℕ, _*_, _≤_, _<_};
-ghost use mathlib.Core.Bool.{Bool, cond, _&&_, _||_};
+ghost use mathlib.Core.Bool.{Bool, _&&_, _||_};
 ghost use mathlib.Core.List.{List, [], _∷_, _++_};
 ghost use lib.Dec.{eqb};
 ghost use lib.ListN.{getD, set, take, replicate};

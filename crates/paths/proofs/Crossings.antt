@@ -4,7 +4,7 @@ use Prim.Native.Nat.{ℕ, zero, suc, _+_, _-_, _≤_, _<_}
 use native.Mathlib.Omega.{arith}
 use native.Mathlib.Numerals.{add-one}
 use mathlib.Core.Path.{_≡_, refl, sym, ap, _∙_, subst}
-use mathlib.Core.Bool.{Bool, true, false, cond, _&&_}
+use mathlib.Core.Bool.{Bool, true, false, cond}
 use mathlib.Core.List.{List, [], _∷_, List·Memᴰ, List·Memᴰ·head, List·Memᴰ·tail}
 use lib.Dec.{eqb, leb}
 use lib.ListN.{length, getD, take}
@@ -17,11 +17,11 @@ use Rattle.record.specs.Record.{Puzzle}
 use Rattle.grid.specs.Cells.{square}
 use Rattle.groups.specs.Groups.{Joined, labels, group, names}
 use Rattle.groups.specs.Arrows.{onArrow}
-use Rattle.groups.specs.Arrays.{labelArray, marked}
+use Rattle.groups.specs.Arrays.{marked}
 use Rattle.groups.proofs.GroupLaws.{group-mem, linked-label}
 use Rattle.groups.proofs.MarkLaws.{mask-test}
 use Rattle.groups.proofs.TableLaws.{tally-is, name-low}
-use Rattle.literals.specs.Literals.{Found, orElse, firstOf}
+use Rattle.literals.specs.Literals.{orElse, firstOf}
 use Rattle.paths.specs.Paths.{reason2, reason2At}
 use Rattle.units.specs.Arrays.{firstName}
 use Rattle.paths.specs.Ends.{BlockTable, crossed, arrowCellOf, arrowCellsFrom, foundWay, EndsJoined, Crossing}

@@ -4,12 +4,12 @@ use Prim.Native.Nat.{ℕ, _≤_, _<_}
 use native.Mathlib.Decide.{decLt}
 use native.Mathlib.Omega.{arith}
 use mathlib.Core.Path.{_≡_, refl, sym, ap, _∙_, subst}
-use mathlib.Core.Bool.{Bool, true, false, So, cond, _&&_}
+use mathlib.Core.Bool.{Bool, So, _&&_}
 use mathlib.Core.List.{List}
 use lib.Dec.{eqb}
 use lib.ListN.{length, getD, List·getD-eq-default}
 use borrow.Author.Tests.{eqb-true, eq-eqb}
-use Rattle.grid.specs.Lists.{upto, filter}
+use Rattle.grid.specs.Lists.{upto}
 use Rattle.grid.specs.Grid.{Grid, size, cellsOf}
 use Rattle.grid.proofs.ListLaws.{so-false, and-true, true-and, upto-mem}
 use Rattle.grid.proofs.AppendLaws.{same-test, filter-filter, filter-agree}

@@ -1,6 +1,6 @@
 -- The search for reason 1: the first of the listed names that passes a test, and what the counts of a group tell.
 -- Assumes nothing.
-use Prim.Native.Nat.{ℕ, suc, _+_, _≤_, _<_}
+use Prim.Native.Nat.{ℕ, _+_, _<_}
 use native.Mathlib.Omega.{arith}
 use native.Mathlib.Numerals.{add-one}
 use mathlib.Core.Path.{_≡_, refl, sym, ap, _∙_}
@@ -11,7 +11,7 @@ use lib.ListN.{length, getD, take, drop}
 use lib.Seq.{drop-cons, drop-length, getD-take, length-take-le}
 use Rattle.grid.specs.Lists.{any}
 use Rattle.grid.specs.Grid.{Grid, size}
-use Rattle.grid.proofs.ListLaws.{at-mem, mem-at}
+use Rattle.grid.proofs.ListLaws.{mem-at}
 use Rattle.record.specs.Record.{Puzzle}
 use Rattle.grid.specs.Cells.{Literal, potential, square}
 use Rattle.groups.specs.Groups.{labels, group, names}

@@ -3,13 +3,13 @@
 use borrow.Author.Needs.{needs}
 use native.Mathlib.Omega.{arith}
 use Prim.Native.Nat.{ℕ}
-use mathlib.Core.Bool.{Bool, false, not}
+use mathlib.Core.Bool.{Bool, not}
 use mathlib.Core.Path.{_≡_, sym, _∙_}
 use mathlib.Core.List.{List}
 use lib.Dec.{eqb}
 use lib.ListN.{length, replicate}
 use borrow.Author.Tests.{ne-eqb}
-use Rattle.text.specs.Text.{Written, written}
+use Rattle.text.specs.Text.{Written}
 use Rattle.answer.specs.Program.{printed}
 use Rattle.replay.specs.Comparisons.{DiffersUnless}
 use Rattle.replay.specs.Lists.{byteIn, differs}

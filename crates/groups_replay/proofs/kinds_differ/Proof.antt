@@ -1,8 +1,6 @@
 -- `groups_replay::kinds_differ` holds each of the two arrays against what the list says.
 -- Assumes nothing.
 use borrow.Author.Needs.{needs}
-use mathlib.Core.Bool.{true≢false}
-use mathlib.Core.Path.{sym, _∙_}
 use Rattle.replay.proofs.ComparisonLaws.{fails, test-told, same-differs}
 use Rattle.groups_replay.proofs.kinds_differ.Statement.{statement}
 use Rattle.groups_replay.proofs.kinds_differ.Tie as tie

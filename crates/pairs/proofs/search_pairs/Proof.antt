@@ -1,7 +1,7 @@
 -- `pairs::search_pairs` meets its contract: reason 3 for every pair, and only where none meets it reason 4.
 -- Assumes nothing.
 use Prim.Native.Nat.{ℕ}
-use mathlib.Core.Path.{_≡_, refl, subst}
+use mathlib.Core.Path.{_≡_, subst}
 use mathlib.Core.List.{List}
 use Rattle.literals.specs.declared.Finding.{Finding}
 use mathlib.Core.Bool.{cond}

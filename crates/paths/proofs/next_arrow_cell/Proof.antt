@@ -4,7 +4,6 @@ use Prim.Native.Nat.{_-_}
 use mathlib.Core.Path.{_≡_, refl, sym, _∙_}
 use native.Mathlib.Omega.{arith}
 use lib.ListN.{getD}
-use borrow.Author.Needs.{needs}
 use Rattle.paths.specs.Ends.{arrowCellOf, arrowCellsFrom}
 use Rattle.paths.proofs.Crossings.{next-hit, next-miss, next-end}
 use Rattle.paths.proofs.next_arrow_cell.Statement.{statement}

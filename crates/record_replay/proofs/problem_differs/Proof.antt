@@ -1,7 +1,6 @@
 -- `record_replay::problem_differs` holds each field against what the list says.
 -- Assumes nothing.
 use borrow.Author.Needs.{needs}
-use native.Mathlib.Omega.{arith}
 use mathlib.Core.Path.{_≡_, sym}
 use lib.ListN.{length}
 use Rattle.record_replay.proofs.ProblemLaws.{too-many, other-height, other-width, other-count, other-codes, arrows-decide}

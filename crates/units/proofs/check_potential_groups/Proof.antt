@@ -5,7 +5,6 @@ use native.Mathlib.Omega.{arith}
 use mathlib.Core.Path.{sym, ap, _∙_}
 use lib.ListN.{take}
 use Rattle.grid.specs.Side.{sized}
-use Rattle.grid.proofs.GridLaws.{size-most}
 use Rattle.kinds.specs.Inside.{puzzleWith}
 use Rattle.units.specs.Arrays.{foundAt, boundaryOf}
 use Rattle.units.proofs.Checks.{named-found, nobody-found}
