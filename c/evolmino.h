@@ -1,7 +1,8 @@
 /* The proved Evolmino constraint, for C and C++. `rt staticlib host` writes the library, target/staticlib/libhost.a. The calls are for edition 1
- * of the rules (README, The puzzle) and leaves without sizes, but for those that take an edition and sizes, whose names end in _with,
- * evolmino_board_open, which takes both for the board that it opens, and evolmino_setter_file, which takes the edition; a record that is turned or
- * joined is so for both editions. The calls whose names begin with evolmino_board_ are for a game, on one board that the caller keeps and lends. */
+ * of the rules (README, The puzzle) and leaves without sizes, but for those whose names end in _with and evolmino_unique, which take an edition and
+ * sizes, evolmino_board_open, which takes both for the board that it opens, and evolmino_setter_file, which takes the edition; a record that is
+ * turned or joined is so for both editions. The calls whose names begin with evolmino_board_ are for a game, on one board that the caller keeps and
+ * lends. */
 #ifndef EVOLMINO_H
 #define EVOLMINO_H
 
@@ -295,7 +296,8 @@ int32_t evolmino_player_file(const uint8_t *file, size_t file_len,
  * not 1 or 2, then 22 for sizes as evolmino_find_with refuses them. What stands in the memory before does not matter, but it is memory that may be
  * read: set it to zero once, as by static or memset. The pointers are not null, also where a length is 0, and the board does not overlap the record
  * or the sizes. Each call for a board may be made from any thread, and from several at once on different boards, those that take a const board also on
- * the same one; none keeps anything but what is in the board. The others write the board's memory also where they refuse, with what stood in it. It takes up to about 30 kilobytes of stack.
+ * the same one; none keeps anything but what is in the board. The others write the board's memory also where they refuse, with what stood in it. It
+ * takes up to about 30 kilobytes of stack.
  */
 int32_t evolmino_board_open(const uint8_t *record, size_t record_len,
                             uint32_t edition,

@@ -60,7 +60,7 @@ impl Certain {
 /// for empty, 1 for square, 2 for open. The bytes behind these, and where it refuses the whole output, are unchanged.
 ///
 /// It refuses in the order of [`find_bytes`](crate::find_bytes). It keeps nothing, takes nothing from the heap and up to about
-/// 270 kilobytes of stack, on a large grid.
+/// 265 kilobytes of stack, on a large grid.
 pub fn certain_bytes(
     record: &[u8],
     decisions: &[u8],

@@ -233,8 +233,8 @@ fn search_from<'a>(
     }
 }
 
-// What `certain` answers, on the arrays of a board that is known to be well formed: for `certain`, which has tested its board, and for a caller
-// that has opened the board itself. Of the sizes those of the first `sized` cells are taken. The cells are as they were.
+// What `certain` answers, on the arrays of a board that is known to be well formed: for `certain`, which has tested its board, and for
+// `host_certain`, which goes by an accepted record. Of the sizes those of the first `sized` cells are taken. The cells are as they were.
 pub fn certain_cells<'a>(
     edition: u8,
     sized: usize,

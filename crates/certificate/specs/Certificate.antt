@@ -109,7 +109,8 @@ followFrom ws p cells (h ∷ hs) =
 unfoldable pub hintsFrom : List ℕ → ℕ → State → State
 hintsFrom ws at s = cond (eqb (s .0) 0) (followFrom ws at (s .1) (hintsAt ws at)) s
 
--- the step at a place, on the cells that the leaf decides: 26 where it is not whole; 27 for more literals than there are cells (so that a hint is as quick to follow as the leaf is small), or for a word that is no literal; 28
+-- the step at a place, on the cells that the leaf decides: 26 where it is not whole; 27 for more literals than there are cells (so that a hint is as quick to follow as the leaf is
+-- small), or for a word that is no literal; 28
 unfoldable pub stepFrom : ℕ → List ℕ → List ℕ → ℕ → State
 stepFrom n base ws at = cond (whole ws at) (cond (leb (width ws at) n) (hintsFrom ws at (assumeFrom n base (clauseAt ws at))) (27, base)) (26, base)
 
