@@ -1,5 +1,6 @@
 // Replays lists of calls from standard input: each call is made by value and on a lent board, and what it answers, leaves and writes is
-// compared with what the list says. Then come boards that no list of calls could leave, which every call must refuse.
+// compared with what the list says. Then come boards that no list of calls could leave, which every call must refuse; one that some call
+// takes is counted as one that differs.
 //
 // A list has a head of lines that begin with `#`, an empty line, and entries to its end: u16 length, that many bytes of record, u8 edition, u16
 // length and that many u16 of sizes, u8 refusal of open, and where that is 0 the counts of hints that the fresh board is handed in with, u16

@@ -236,14 +236,6 @@ fn write_damage(out: &mut [u8], at: usize, whole: bool) -> usize
     text::write_text(out, at, b"list damaged\n")
 }
 
-// Has a text written to standard output, and returns how many bytes it has.
-fn hand_over(text: &[u8]) -> usize
-    ensures { λ r. ⌜ r ≡ length (now (text .entry)) ⌝ }
-{
-    io::write_all(STDOUT_FILENO, text);
-    text.len()
-}
-
 impl Run {
     // An entry that the list ends inside of, or that can't be gone through: it differs, and where it ends isn't known.
     pub fn broken() -> Run
@@ -364,6 +356,16 @@ impl Tally {
         write_damage(out, damage, self.whole)
     }
 
+    // Has a text written to standard output, and returns how many bytes it has. It must be the text of what was counted; the tally and the
+    // words are there to say so.
+    fn hand_over(self, entries: &[u8], parts: &[u8], text: &[u8]) -> usize
+        requires { ⌜ now text ≡ tallyText self (now entries) (now parts) ⌝ }
+        ensures { λ r. ⌜ r ≡ length (now (text .entry)) ⌝ }
+    {
+        io::write_all(STDOUT_FILENO, text);
+        text.len()
+    }
+
     // Prints this text, and returns how many bytes it has. Its words have at most 47, so that all of it has room.
     pub fn print(self, entries: &[u8], parts: &[u8]) -> usize
         requires { ⌜ length (now entries) + length (now parts) ≤ 47 ⌝ }
@@ -371,6 +373,6 @@ impl Tally {
     {
         let mut out = [0u8; 128];
         let end = self.write(&mut out, entries, parts);
-        hand_over(&out[..end])
+        self.hand_over(entries, parts, &out[..end])
     }
 }

@@ -30,7 +30,7 @@ slice-aggregate-hand-over c =
     sym (length-take-le (w .write .result) (w .write .last .1 .0) (within w))
 
 hand-over-requires : tie.Need-hand-over-requires
-hand-over-requires c κs = search needs
+hand-over-requires c κs = text-taken (c .before .before .write .ensures)
 
 returns : tie.Need-returns
 returns c = c .hand-over .ensures ∙ ap length (text-taken (c .before .before .before .write .ensures))
