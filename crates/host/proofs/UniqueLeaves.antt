@@ -25,7 +25,7 @@ use Rattle.finished.specs.Finished.{keeps, keepsAll, twoSquares, allButRules, f
 use Rattle.sizes.specs.Bytes.{numbersIn, sizesIn}
 use Rattle.call.specs.Call.{leafFrom}
 use Rattle.certificate.specs.Certificate.{tag, wordAt, wordsOf, wholeWords, literal, whole, earlier, lookStep, lookFrom, hintOf, assumeFrom, followFrom, hintsFrom, stepFrom, headWord, headAt, claimed, headed}
-use Rattle.unique.specs.Unique.{baseCell, baseOf, twoOpen, lonely, given, refuted, closeOf, stepOf, stepsFrom, solutionOr, hostUnique, uniqueReturned}
+use Rattle.unique.specs.Unique.{baseCell, baseOf, twoOpen, lonely, hasReason, refuted, closeOf, stepOf, stepsFrom, solutionOr, hostUnique, uniqueReturned}
 use Rattle.host.proofs.ToldLeaves.{grid23}
 
 -- the literals of a cell: it is square, it is empty
@@ -88,5 +88,5 @@ pub one-solution :
     ∷ told 1 [] (words ++ (0 ∷ []))
     ∷ [])
     (pos 1 ∷ map (λ k. negℤ (pos k)) (29 ∷ []) ++ (pos 1 ∷ map (λ k. negℤ (pos k)) (16 ∷ 22 ∷ 23 ∷ 24 ∷ 25 ∷ 26 ∷ 27 ∷ 28 ∷ 30 ∷ 30 ∷ [])))
-unfolding range upto filter any all last init tail flatMap member howMany once arrayOf size cellsOf row col only up down left right neighbours touches rename join joinAll edges labels group names _>>=_ unless bit number field cellCodes there stepCells arrowAt filler arrowsAt readRecord isEdition rangesFrom sizesOf empty square undecided potential isFloating isIn isNeighbour kindTouching onArrow arrowBlock blocksTouched kindAt kindsOf has viewWith view block floatNear inReach reach disturbing fenceAt fence orElse reasonIf firstOf each reason1At reason1 appended breadthFirst parent path reason2At reason2 pairsFrom pairs fits moreTest oneTest grownTest rulesTest mostApart blockName reasonGrow reason3At gap reasonShrink reason4At reason4aAt reason4bAt reason34 reason5 findReason keeps keepsAll twoSquares allButRules finishedTest sizedTest reasonLow reasonHigh reason5At records.stepFrom rangeTest leafFrom numbersIn sizesIn wordAt wordsOf wholeWords literal whole earlier lookStep lookFrom hintOf assumeFrom followFrom hintsFrom stepFrom headWord headAt claimed headed baseCell baseOf twoOpen lonely given refuted closeOf stepOf stepsFrom solutionOr hostUnique uniqueReturned
+unfolding range upto filter any all last init tail flatMap member howMany once arrayOf size cellsOf row col only up down left right neighbours touches rename join joinAll edges labels group names _>>=_ unless bit number field cellCodes there stepCells arrowAt filler arrowsAt readRecord isEdition rangesFrom sizesOf empty square undecided potential isFloating isIn isNeighbour kindTouching onArrow arrowBlock blocksTouched kindAt kindsOf has viewWith view block floatNear inReach reach disturbing fenceAt fence orElse reasonIf firstOf each reason1At reason1 appended breadthFirst parent path reason2At reason2 pairsFrom pairs fits moreTest oneTest grownTest rulesTest mostApart blockName reasonGrow reason3At gap reasonShrink reason4At reason4aAt reason4bAt reason34 reason5 findReason keeps keepsAll twoSquares allButRules finishedTest sizedTest reasonLow reasonHigh reason5At records.stepFrom rangeTest leafFrom numbersIn sizesIn wordAt wordsOf wholeWords literal whole earlier lookStep lookFrom hintOf assumeFrom followFrom hintsFrom stepFrom headWord headAt claimed headed baseCell baseOf twoOpen lonely hasReason refuted closeOf stepOf stepsFrom solutionOr hostUnique uniqueReturned
 one-solution = refl

@@ -29,7 +29,7 @@ use Rattle.reasons.proofs.Stands.{find-stands}
 use Rattle.finished.specs.Finished.{Finished, twoSquares}
 use Rattle.finished.proofs.FinishedLaws.{two-test}
 use Rattle.certificate.specs.Certificate.{tag, width, clauseAt, middle, hintsAt, next, earlier, State, assumeFrom, followFrom}
-use Rattle.unique.specs.Unique.{baseCell, baseOf, twoOpen, lonely, given, refuted, closeOf}
+use Rattle.unique.specs.Unique.{baseCell, baseOf, twoOpen, lonely, hasReason, refuted, closeOf}
 use Rattle.unique.proofs.StepLaws.{Step, step-is}
 use Rattle.only.specs.Good.{Closes, last-step, one-step}
 use Rattle.only.proofs.Under.{TrueOn, Under, Followed, holds-nil, holds-dec, assume-under, assumed-literal, follow-under, followed-earlier}
@@ -110,10 +110,10 @@ module _ (l : Leaf) (valid : ValidLeaf l) (full : List ℕ) (fin : Finished l fu
         (fin .rules)
 
     never-refuted : refuted l cells ≡ true → ⊥
-    unfolding refuted given
+    unfolding refuted hasReason
     never-refuted t = go (split (lonely (l .puzzle .arrows) cells)) (findReason l (take n cells)) refl t
       where
-        go : (lonely (l .puzzle .arrows) cells ≡ true) ⊎ (lonely (l .puzzle .arrows) cells ≡ false) → (f : Found) → findReason l (take n cells) ≡ f → (lonely (l .puzzle .arrows) cells || given f) ≡ true → ⊥
+        go : (lonely (l .puzzle .arrows) cells ≡ true) ⊎ (lonely (l .puzzle .arrows) cells ≡ false) → (f : Found) → findReason l (take n cells) ≡ f → (lonely (l .puzzle .arrows) cells || hasReason f) ≡ true → ⊥
         go (inl a) f e x = lonely-never a
         go (inr a) none e x = false≢true (rw a at x)
         go (inr a) (some r) e x = no-reason r e

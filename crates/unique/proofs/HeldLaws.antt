@@ -31,7 +31,7 @@ use Rattle.finished.specs.Inside.{problemOn}
 use Rattle.call.specs.Inside.{Holds}
 use Rattle.call.proofs.Holding.{holds-size, holds-few, holds-lines, holds-reason, holds-leaf}
 use Rattle.certificate.specs.Certificate.{wordsOf, wholeWords, claimed, headed, stepFrom}
-use Rattle.unique.specs.Unique.{baseCell, baseOf, twoOpen, lonely, given, refuted, stepsOf, solutionOr, checkOn, uniqueReturned}
+use Rattle.unique.specs.Unique.{baseCell, baseOf, twoOpen, lonely, hasReason, refuted, stepsOf, solutionOr, checkOn, uniqueReturned}
 use Rattle.unique.proofs.HeadLaws.{claimed-long}
 
 -- a refusal
@@ -39,16 +39,16 @@ pub returned-not : {o : Outcome (List ℕ)} {k : ℕ} → o ≡ refused k → ne
 unfolding uniqueReturned
 returned-not e = rw e refl
 
--- whether a reason was given, by the answer of the search
-given-none : (f : Found) → findingBy 0 f ≡ Nothing → given f ≡ false
-unfolding given findingBy
-given-none none e = refl
-given-none (some r) e = let z : _≡_ {A = ℕ} 0 1 = cc in absurd (omega arith)
+-- whether there is a reason, by the answer of the search
+reason-none : (f : Found) → findingBy 0 f ≡ Nothing → hasReason f ≡ false
+unfolding hasReason findingBy
+reason-none none e = refl
+reason-none (some r) e = let z : _≡_ {A = ℕ} 0 1 = cc in absurd (omega arith)
 
-given-some : (f : Found) {k : ℕ} → findingBy 0 f ≡ Reason k → given f ≡ true
-unfolding given findingBy
-given-some none e = let z : _≡_ {A = ℕ} 0 1 = cc in absurd (omega arith)
-given-some (some r) e = refl
+reason-some : (f : Found) {k : ℕ} → findingBy 0 f ≡ Reason k → hasReason f ≡ true
+unfolding hasReason findingBy
+reason-some none e = let z : _≡_ {A = ℕ} 0 1 = cc in absurd (omega arith)
+reason-some (some r) e = refl
 
 module _ {l : Leaf} {e : ℕ} {lows highs : List ℕ} {h w : ℕ} {arrows ends : List ℕ} {number : ℕ} (x : Holds l e lows highs h w arrows ends number) where
   -- ---- cells
@@ -68,15 +68,15 @@ module _ {l : Leaf} {e : ℕ} {lows highs : List ℕ} {h w : ℕ} {arrows ends :
 
     -- none is: the reason tells
     module _ (t : all (twoOpen cells) (linesOf arrows ends number) ≡ true) {b a : List ℕ} {r : Finding} (f : FoundAs reason b a r) where
-      by-reason : given reason ≡ refuted l cells
+      by-reason : hasReason reason ≡ refuted l cells
       unfolding refuted lonely
-      by-reason = rw (sym lines-same ∙ t) (ap given (holds-reason x (take (h * w) cells) ∙ ap (λ n. findReason l (take n cells)) (holds-size x)))
+      by-reason = rw (sym lines-same ∙ t) (ap hasReason (holds-reason x (take (h * w) cells) ∙ ap (λ n. findReason l (take n cells)) (holds-size x)))
 
       pub refuted-not : r ≡ Nothing → false ≡ refuted l cells
-      refuted-not z = sym (given-none reason (sym (f .answer) ∙ z)) ∙ by-reason
+      refuted-not z = sym (reason-none reason (sym (f .answer) ∙ z)) ∙ by-reason
 
       pub refuted-reason : {k : ℕ} → r ≡ Reason k → true ≡ refuted l cells
-      refuted-reason z = sym (given-some reason (sym (f .answer) ∙ z)) ∙ by-reason
+      refuted-reason z = sym (reason-some reason (sym (f .answer) ∙ z)) ∙ by-reason
 
       -- and no search is refused
       pub never-refused : {k : ℕ} → r ≡ Refused k → ⊥

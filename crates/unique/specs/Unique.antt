@@ -37,15 +37,15 @@ twoOpen cells a = leb 2 (length (filter (potential cells) a))
 unfoldable pub lonely : List (List ℕ) → List ℕ → Bool
 lonely arrows cells = not (all (twoOpen cells) arrows)
 
--- a reason is given
-unfoldable pub given : Found → Bool
-given none = false
-given (some r) = true
+-- there is a reason
+unfoldable pub hasReason : Found → Bool
+hasReason none = false
+hasReason (some r) = true
 
 module _ (l : Leaf) where
   -- no finished board of the leaf has these cells, for a reason or for an arrow that is short of two squares
   unfoldable pub refuted : List ℕ → Bool
-  refuted cells = lonely (l .puzzle .arrows) cells || given (findReason l (take (size (l .puzzle .grid)) cells))
+  refuted cells = lonely (l .puzzle .arrows) cells || hasReason (findReason l (take (size (l .puzzle .grid)) cells))
 
   -- whether a step closes: where a clause is false it does; where the cells have to tell, they must be refuted, else 29; a refusal stays
   unfoldable pub closeOf : State → ℕ
