@@ -307,14 +307,14 @@ int32_t evolmino_board_open(const uint8_t *record, size_t record_len,
 /* Decides a cell: value 1 for a square, 0 for empty. Black and given cells do not bind it.
  *
  * Returns 0, or the negated number of a refusal, which changes no byte: 6 for a board that no list of calls could leave, then 7 for an index that is
- * height * width or more, then 8 for a value above 1, and last 9 for a cell that is decided already. It takes up to about 80 kilobytes of stack.
+ * height * width or more, then 8 for a value above 1, and last 9 for a cell that is decided already. It takes up to about 45 kilobytes of stack.
  */
 int32_t evolmino_board_decide(struct evolmino_board *board, size_t index, uint8_t value);
 
 /* Takes the latest decision back, and leaves nothing of it.
  *
  * Returns 0, or the negated number of a refusal, which changes no byte: 6 for a board that no list of calls could leave, then 10 where no decision
- * stands. It takes up to about 80 kilobytes of stack.
+ * stands. It takes up to about 45 kilobytes of stack.
  */
 int32_t evolmino_board_undo(struct evolmino_board *board);
 
@@ -324,7 +324,7 @@ int32_t evolmino_board_undo(struct evolmino_board *board);
  * Returns the number of literals, which stand at the buffer's front, 0 where no reason applies, or the negated number of a refusal, which changes
  * neither the board nor the buffer: 6 for a board that no list of calls could leave, then 17 for a player above 3, and last 11 for a buffer of fewer
  * than 3 * height * width + 1 literals. literals_len counts literals. What stands behind the last one is unchanged. The pointers are not null, also
- * where a length is 0, and the buffer does not overlap the board. It takes up to about 135 kilobytes of stack.
+ * where a length is 0, and the buffer does not overlap the board. It takes up to about 125 kilobytes of stack.
  */
 int32_t evolmino_board_find(struct evolmino_board *board, uint8_t player,
                             uint16_t *literals, size_t literals_len);
@@ -340,7 +340,7 @@ int32_t evolmino_board_finished(const struct evolmino_board *board);
  *
  * Returns and writes what evolmino_certain returns and writes, or the negated number of a refusal, which changes no byte: 6 for a board that no list of
  * calls could leave, then 11 for an output shorter than 8 + height * width bytes. The pointers are not null, also where a length is 0, and the output
- * does not overlap the board. It takes up to about 300 kilobytes of stack.
+ * does not overlap the board. It takes up to about 280 kilobytes of stack.
  */
 int32_t evolmino_board_certain(const struct evolmino_board *board,
                                uint64_t budget,
@@ -349,7 +349,7 @@ int32_t evolmino_board_certain(const struct evolmino_board *board,
 /* Tells how many hints a player took, 0 to 3: the finds of that player that were accepted since the board was opened, or 65535 where they are more.
  *
  * Returns the count, or the negated number of a refusal: 6 for a board that no list of calls could leave, then 17 for a player above 3. The board is
- * unchanged. It takes up to about 40 kilobytes of stack.
+ * unchanged. It takes up to about 30 kilobytes of stack.
  */
 int32_t evolmino_board_hints(const struct evolmino_board *board, uint8_t player);
 

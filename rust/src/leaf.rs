@@ -110,6 +110,8 @@ pub type Size = (usize, u16, u16);
 /// // Cell 4 is on no arrow.
 /// assert_eq!(leaf.sizes(&[(4, 1, 2)]).finished(&full), Err(Refusal::Sizes));
 /// ```
+///
+/// Of the stack the exported call of [`Leaf::certain`] takes up to about 270 kilobytes, those of [`Leaf::find`] and [`Leaf::unique`] 105, and any other 45.
 #[derive(Clone, Debug, PartialEq, Eq, Hash)]
 pub struct Leaf<'a> {
     record: Cow<'a, [u8]>,
