@@ -98,6 +98,7 @@ mem_value (d ∷ ds) u i v (Memᴰ.head e) = rw (eq-eqb d.0 i (sym (ap (λ z. z.
 mem_value (d ∷ ds) u i v (Memᴰ.tail m) =
     rw (So-false (eqb d.0 i) (λ e. u.0 (subst (λ z. Memᴰ z (map index ds)) (sym (eqb-true d.0 i e)) (Memᴰ.map index m))))
     (mem_value ds u.1 i v m)
+mem_value [] u i v x'' = elim x'' [ ]
 
 value_low : (ds : List Literal) (i : ℕ) → ((d : Literal) → Memᴰ d ds → d.1 ≤ 1) → value_at ds i ≤ 2
 unfolding value_at

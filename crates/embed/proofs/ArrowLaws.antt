@@ -37,13 +37,13 @@ module _ {g h : Grid} {f : ℕ → ℕ} (E : Embedding g h f) where
       let l = b j (Memᴰ.head refl) in
       Fresh.cons (λ m. n (k j l m)) (Fresh-to (f j ∷ U) (Kept-more u U k j l) (λ x m. b x (Memᴰ.tail m)) r)
 
-  Walk-on : {i : ℕ} {js : List ℕ} → i < size g → Walk g i js → (x : ℕ) → Memᴰ x (i ∷ js) → x < size g
-  Walk-on l w x (Memᴰ.head e) = rw e l
-  Walk-on l end x (Memᴰ.tail m) = absurd (Memᴰ.not-nil m)
-  Walk-on {i} l (on n w) x (Memᴰ.tail m) = Walk-on (on_grid g l (beside g i n)) w x m
+  Walk-on : (x : ℕ) {i : ℕ} {js : List ℕ} → i < size g → Walk g i js → Memᴰ x (i ∷ js) → x < size g
+  Walk-on x l w (Memᴰ.head e) = rw e l
+  Walk-on x l end (Memᴰ.tail m) = absurd (Memᴰ.not-nil m)
+  Walk-on x {i} l (on n w) (Memᴰ.tail m) = Walk-on x (on_grid g l (beside g i n)) w m
 
   Arrow-on : {a : List ℕ} → Arrow g a → (x : ℕ) → Memᴰ x a → x < size g
-  Arrow-on (arrow l w) = Walk-on l w
+  Arrow-on (arrow l w) x = Walk-on x l w
 
   Arrow-to : {a : List ℕ} → Arrow g a → Arrow h (map f a)
   Arrow-to (arrow l w) = arrow (E.into _ l) (Walk-to l w)

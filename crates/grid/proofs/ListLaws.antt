@@ -83,6 +83,7 @@ module _ {A : Type 0} where
       go : (b : Bool) → Memᴰ x (filter p ys) → Memᴰ x (cond b (y ∷ filter p ys) (filter p ys))
       go true k = Memᴰ.tail k
       go false k = k
+  mem-filter p [] {x = x} x4 h = elim x4 [ ]
 
   -- some member passes
   pub any-mem : (p : A → Bool) (l : List A) → any p l ≡ true → (x : A) × Memᴰ x l × (p x ≡ true)
@@ -98,12 +99,14 @@ module _ {A : Type 0} where
   unfolding any
   mem-any p (y ∷ ys) (Memᴰ.head e) h = rw (ap p (sym e) ∙ h) refl
   mem-any p (y ∷ ys) (Memᴰ.tail m) h = So-orr (p y) (mem-any p ys m h)
+  mem-any p [] x4 h = elim x4 [ ]
 
   -- every member passes
   pub all-mem : (p : A → Bool) (l : List A) → all p l ≡ true → (x : A) → Memᴰ x l → p x ≡ true
   unfolding all
   all-mem p (y ∷ ys) h x (Memᴰ.head e) = ap p e ∙ (and-true (p y) (all p ys) h).0
   all-mem p (y ∷ ys) h x (Memᴰ.tail m) = all-mem p ys (and-true (p y) (all p ys) h).1 x m
+  all-mem p [] h x x4 = elim x4 [ ]
 
   pub mem-all : (p : A → Bool) (l : List A) → ((x : A) → Memᴰ x l → p x ≡ true) → all p l ≡ true
   unfolding all
@@ -115,6 +118,7 @@ module _ {A : Type 0} where
   unfolding last
   last-mem d (y ∷ []) m = Memᴰ.head refl
   last-mem d (y ∷ z ∷ zs) m = Memᴰ.tail (last-mem y (z ∷ zs) (Memᴰ.head refl))
+  last-mem d [] m = elim m [ ]
 
 module _ {A B : Type 0} where
   -- the members of a flat_map
@@ -132,6 +136,7 @@ module _ {A B : Type 0} where
   unfolding flat_map
   mem-flat_map f (z ∷ zs) {x} {y} (Memᴰ.head e) k = Memᴰ.append_left (flat_map f zs) (rw e at k)
   mem-flat_map f (z ∷ zs) (Memᴰ.tail m) k = Memᴰ.append_right (f z) (mem-flat_map f zs m k)
+  mem-flat_map f [] {x = x} {y = y} x4 k = elim x4 [ ]
 
 -- the test of membership
 pub member-mem : (i : ℕ) (l : List ℕ) → So (member i l) → Memᴰ i l
@@ -162,6 +167,7 @@ mem-once (y ∷ ys) {x} m = go (Dec-So (member y ys)) m (λ k. mem-once ys k)
     go (yes h) (Memᴰ.tail k) ih = rw h (ih k)
     go (no h) (Memᴰ.head e) ih = rw (So-false (member y ys) h) (Memᴰ.head e)
     go (no h) (Memᴰ.tail k) ih = rw (So-false (member y ys) h) (Memᴰ.tail (ih k))
+mem-once [] {x = x} m = elim m [ ]
 
 -- `once` of a list with no member, and of one whose members are all f
 pub once-nil : (l : List ℕ) → ((x : ℕ) → ¬ Memᴰ x l) → once l ≡ []
@@ -223,6 +229,7 @@ get_or-range a (suc k) (suc i) h = omega (arith, get_or-range (suc a) k i (omega
 pub mem_at : (l : List ℕ) {x : ℕ} → Memᴰ x l → (k : ℕ) × (k < length l) × (get_or l k 0 ≡ x)
 mem_at (y ∷ ys) (Memᴰ.head e) = (0, omega arith, sym e)
 mem_at (y ∷ ys) (Memᴰ.tail m) = let r = mem_at ys m in (suc r.0, omega (arith, r.1), r.2)
+mem_at [] x3 = elim x3 [ ]
 
 pub at_mem : (l : List ℕ) (k : ℕ) → k < length l → Memᴰ (get_or l k 0) l
 at_mem [] k h = absurd (omega arith)
@@ -271,10 +278,13 @@ pub init-mem : {A : Type 0} (l : List A) {x : A} → Memᴰ x (init l) → Mem�
 unfolding init
 init-mem (y ∷ z ∷ l) (Memᴰ.head e) = Memᴰ.head e
 init-mem (y ∷ z ∷ l) (Memᴰ.tail m) = Memᴰ.tail (init-mem (z ∷ l) m)
+init-mem {A = A} [] x3 = elim x3 [ ]
+init-mem {A = A} (y ∷ []) x7 = elim x7 [ ]
 
 pub tail-mem : {A : Type 0} (l : List A) {x : A} → Memᴰ x (tail l) → Memᴰ x l
 unfolding tail
 tail-mem (y ∷ l) m = Memᴰ.tail m
+tail-mem {A = A} [] m = elim m [ ]
 
 pub init-map : {A B : Type 0} (f : A → B) (l : List A) → init (map f l) ≡ map f (init l)
 unfolding init

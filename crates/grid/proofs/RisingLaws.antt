@@ -40,6 +40,7 @@ unfolding last
 last_greatest d (cons {xs = []} h k) y (Memᴰ.head e) = omega arith
 last_greatest d (cons {x} {xs = z ∷ zs} h k) y (Memᴰ.head e) = omega (arith, h z (Memᴰ.head refl), last_greatest x k z (Memᴰ.head refl))
 last_greatest d (cons {x} h k) y (Memᴰ.tail m) = last_greatest x k y m
+last_greatest d nil y x3 = elim x3 [ ]
 
 -- two rising lists with the same members are one
 pub Rising-same : {a b : List ℕ} → Rising a → Rising b → ((x : ℕ) → Memᴰ x a → Memᴰ x b) → ((x : ℕ) → Memᴰ x b → Memᴰ x a) → a ≡ b

@@ -186,6 +186,7 @@ join_all_one (e ∷ es) l x y hx hy (Memᴰ.head q) =
     join_all_keeps es (join e.0 e.1 l) x y (rw length-join hx) (rw length-join hy) (rw (← q) (join_one l x y hx hy))
 join_all_one (e ∷ es) l x y hx hy (Memᴰ.tail m) =
     join_all_one es (join e.0 e.1 l) x y (rw length-join hx) (rw length-join hy) m
+join_all_one [] l x y hx hy x5 = elim x5 [ ]
 
 module _ (g : Grid) (p : ℕ → Bool) where
   -- the pairs joined are neighbours that pass

@@ -389,6 +389,10 @@ shades_Possible s decisions k low =
 abbrev pub SaidOne : Said → Type 0
 SaidOne x = (x.number ≡ pos 0) ⊎ (x.number ≡ pos 1) ⊎ (x.number ≡ pos 2)
 
+certain_by_cases : (n budget : ℕ) (r : Reached) → certain_by n budget r ≡ cond (leb r.steps budget) (known n r) (untold Spent budget)
+unfolding certain_by
+certain_by_cases n budget r = refl
+
 pub search_number : (n budget : ℕ) (r : Reached) → SaidOne (said_of n (certain_by n budget r))
 unfolding said_of
 search_number = number_is
@@ -404,7 +408,7 @@ search_number = number_is
 
     number_is : (n budget : ℕ) (r : Reached)
         → (certainty_number (certain_by n budget r).answer ≡ pos 0) ⊎ (certainty_number (certain_by n budget r).answer ≡ pos 1) ⊎ (certainty_number (certain_by n budget r).answer ≡ pos 2)
-    number_is n budget r = by (leb r.steps budget) n budget r (certain_by n budget r) (unfold certain_by in refl)
+    number_is n budget r = by (leb r.steps budget) n budget r (certain_by n budget r) (certain_by_cases n budget r)
 
 certain_number : (budget : ℕ) (l : Leaf) (ds : List Literal) → SaidOne (certain_on budget l ds)
 certain_number budget l ds = search_number (size l.puzzle.grid) budget (search_of l (cells_after l.puzzle.grid ds))

@@ -160,12 +160,17 @@ module _ (g : Grid) (cells : List ℕ)
       let t = whole_Tree g cells sq< b sb in
       way (size g) a (record { cs = whole; es = []; tree = t; parts = sym (append-nil whole); few = Tree-length g cells sq< b sb t; listed = whole_Listed g cells sq< b sb a l })
 
+  -- two runs from equal cells are one; the cells are two names here, since a clause for two `arrived` cannot have one
+  Runs-same_from : {a c : ℕ} {r s : List ℕ} → a ≡ c → Runs whole b a r → Runs whole b c s → r ≡ s
+  Runs-same_from e arrived arrived = refl
+  Runs-same_from e arrived (onward ne m q) = absurd (ne (sym e))
+  Runs-same_from e (onward ne m q) arrived = absurd (ne e)
+  Runs-same_from e (onward {a} {p} {way} ne m r) (onward {a = c} {p = q} {way = s} ne' m' r') =
+      let one : q ≡ p = one_parent (whole_Tree g cells sq< b sb) a q p (subst (λ z. Memᴰ (z, q) whole) (sym e) m') m in
+      ap (λ z. z ∷ way) e ∙ ap (λ z. c ∷ z) (Runs-same_from (sym one) r r')
+
   Runs-same : {a : ℕ} {r s : List ℕ} → Runs whole b a r → Runs whole b a s → r ≡ s
-  Runs-same arrived arrived = refl
-  Runs-same arrived (onward ne m q) = absurd (ne refl)
-  Runs-same (onward ne m q) arrived = absurd (ne refl)
-  Runs-same (onward {a} {p} ne m r) (onward {p = q} {way = s} ne' m' r') =
-      ap (λ z. a ∷ z) (Runs-same {s = s} r (subst (λ z. Runs whole b z s) (one_parent (whole_Tree g cells sq< b sb) a q p m' m) r'))
+  Runs-same = Runs-same_from refl
 
   -- nothing else does
   pub path-Runs_only : (a : ℕ) → Linked (Adjacent g) (λ c. So (square cells c)) b a → (r : List ℕ) → Runs whole b a r → r ≡ path (size g) whole a b

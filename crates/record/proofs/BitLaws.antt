@@ -76,6 +76,7 @@ module _ (s : List ℕ) where
 parted : (a b : List ℕ) {x : ℕ} → Distinct (a ++ b) → Memᴰ x a → Memᴰ x b → ⊥
 parted (y ∷ a) b d (Memᴰ.head e) m = d.0 (rw (← e) (Memᴰ.append_right a m))
 parted (y ∷ a) b d (Memᴰ.tail k) m = parted a b d.1 k m
+parted [] b d x5 m = elim x5 [ ]
 
 parted_rest : (a b : List ℕ) → Distinct (a ++ b) → Distinct b
 parted_rest [] b d = d

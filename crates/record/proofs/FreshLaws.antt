@@ -31,6 +31,7 @@ Fresh-Distinct (Fresh.cons {j} {js} h r) = (later r (Memᴰ.head refl), Fresh-Di
     later : {u l : List ℕ} {x : ℕ} → Fresh u l → Memᴰ x u → Memᴰ x l → ⊥
     later (Fresh.cons h r) m (Memᴰ.head e) = h (rw (← e) m)
     later (Fresh.cons h r) m (Memᴰ.tail k) = later r (Memᴰ.tail m) k
+    later Fresh.nil m x12 = elim x12 [ ]
 
 -- distinct numbers below n are at most n
 pub Fresh-length : (n : ℕ) (u l : List ℕ) → Fresh u l → ((x : ℕ) → Memᴰ x l → x < n) → length l ≤ n
@@ -82,6 +83,7 @@ pub one_length : (as' : List (List ℕ)) (a : List ℕ) → Memᴰ a as' → len
 unfolding flat_map
 one_length (b ∷ as') a (Memᴰ.head e) = rw (e, length-append) (omega arith)
 one_length (b ∷ as') a (Memᴰ.tail m) = rw length-append (omega (arith, one_length as' a m))
+one_length [] a x' = elim x' [ ]
 
 -- all arrows together have no more cells than the grid
 pub arrows_length : (p : Puzzle) → Valid p → length (together p.arrows) ≤ size p.grid

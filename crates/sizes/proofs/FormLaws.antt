@@ -159,6 +159,7 @@ module _ (p : Puzzle) (lows highs : List ℕ) (s : SizeArrays p.arrows lows high
       one i a b c (Memᴰ.head e) = omega (arith, a, e)
       one i a b c (Memᴰ.tail (Memᴰ.head e)) = omega (arith, b, e)
       one i a b c (Memᴰ.tail (Memᴰ.tail (Memᴰ.head e))) = omega (arith, c, e)
+      one i a b c (Memᴰ.tail (Memᴰ.tail (Memᴰ.tail x13))) = elim x13 [ ]
 
   -- and the arrays are its own: no cell off the grid has a size
   module _ (v : ValidArrows p.grid p.arrows) (n : ℕ) (over : size p.grid ≤ n) where

@@ -22,11 +22,11 @@ start c = c.before.before.before.before.before
 
 -- the file has the head h, and the problem is that of its record
 abbrev Headed : tie.Start → Head → Type 0
-Headed s h = (read_head s.args.file.now ≡ ok h) × (s.args.t1 ≡ problem_of h.puzzle)
+Headed s h = (read_head s.args.file.now ≡ ok h) × (s.args.problem ≡ problem_of h.puzzle)
 
 -- the length of the record
 found : (c : tie.After-record-length) (h : Head) → Headed (start c) h → c.record-length.result ≡ h.bytes
-found c h e = length_found (start c).args.file.now e.0 (start c).args.t1 e.1 c.record-length.result c.record-length.ensures
+found c h e = length_found (start c).args.file.now e.0 (start c).args.problem e.1 c.record-length.result c.record-length.ensures
 
 short : (c : tie.After-record-length) → c.record-length.result ≤ 4096
 short c = let s = start c in omega (arith, found c s.pre.0 (s.pre.1, s.pre.2), head_length s.args.file.now s.pre.1)
@@ -44,21 +44,21 @@ returns c =
 record-length-requires : tie.Need-record-length-requires
 record-length-requires c κs =
     let s = c.before.before.before.before in
-    let b = parts s.requires.0.puzzle (head_Valid s.args.file.now s.requires.1) s.args.t1 s.requires.2 in
+    let b = parts s.requires.0.puzzle (head_Valid s.args.file.now s.requires.1) s.args.problem s.requires.2 in
     (b.tall, b.wide, b.few, b.ended, b.short)
 
 mul-is-tail : tie.Need-overflow-mul-is-tail
-mul-is-tail c = let s = start c in omega (arith, cells_few s.args.file.now s.pre.1 s.args.t1 s.pre.2)
+mul-is-tail c = let s = start c in omega (arith, cells_few s.args.file.now s.pre.1 s.args.problem s.pre.2)
 
 is-tail-requires : tie.Need-is-tail-requires
-is-tail-requires c κs = let s = start c in (short c, cells_few s.args.file.now s.pre.1 s.args.t1 s.pre.2)
+is-tail-requires c κs = let s = start c in (short c, cells_few s.args.file.now s.pre.1 s.args.problem s.pre.2)
 
 -- whether the tail is one
 test : (c : tie.After-is-tail) (h : Head) → Headed (start c.before) h → c.is-tail.result ≡ tail_test (tail_of (start c.before).args.file.now h) (cells_in h)
 test c h e =
     let l = c.before in
     let a = (start l).args in
-    tested a.file.now e.0 a.t1 e.1 l.record-length.result (found l h e) c.is-tail.result c.is-tail.ensures
+    tested a.file.now e.0 a.problem e.1 l.record-length.result (found l h e) c.is-tail.result c.is-tail.ensures
 
 no-player-requires-2 : tie.Need-no-player-requires-2
 no-player-requires-2 c κs = search rules

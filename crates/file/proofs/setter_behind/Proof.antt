@@ -32,20 +32,20 @@ start c = c.before.before.before.before.before
 
 -- the file has the head h, and the problem is that of its record
 abbrev Headed : tie.Start → Head → Type 0
-Headed s h = (read_head s.args.file.now ≡ ok h) × (s.args.t1 ≡ problem_of h.puzzle)
+Headed s h = (read_head s.args.file.now ≡ ok h) × (s.args.problem ≡ problem_of h.puzzle)
 
 -- the length of the record
 found : (c : tie.After-record-length) (h : Head) → Headed (start c) h → c.record-length.result ≡ h.bytes
-found c h e = length_found (start c).args.file.now e.0 (start c).args.t1 e.1 c.record-length.result c.record-length.ensures
+found c h e = length_found (start c).args.file.now e.0 (start c).args.problem e.1 c.record-length.result c.record-length.ensures
 
 short : (c : tie.After-record-length) → c.record-length.result ≤ 4096
 short c = let s = start c in omega (arith, found c s.pre.0 (s.pre.1, s.pre.2), head_length s.args.file.now s.pre.1)
 
 mul-n : tie.Need-overflow-mul-n
-mul-n c = let s = c.before in omega (arith, cells_few s.args.file.now s.requires.1 s.args.t1 s.requires.2)
+mul-n c = let s = c.before in omega (arith, cells_few s.args.file.now s.requires.1 s.args.problem s.requires.2)
 
 add-if1 : tie.Need-overflow-add-if1
-add-if1 c = let s = c.before in omega (arith, cells_few s.args.file.now s.requires.1 s.args.t1 s.requires.2)
+add-if1 c = let s = c.before in omega (arith, cells_few s.args.file.now s.requires.1 s.args.problem s.requires.2)
 
 no-setter-requires : tie.Need-no-setter-requires
 no-setter-requires c κs = search rules
@@ -55,29 +55,29 @@ returns : tie.Need-returns
 returns c =
     let i = c.before in
     let a = i.before.before.args in
-    λ h r f. c.no-setter.ensures ∙ ap setter_of (sym (setter_11 a.file.now r a.room a.edition (omega (arith, i.if1.true, cells_found a.file.now r a.t1 f))))
+    λ h r f. c.no-setter.ensures ∙ ap setter_of (sym (setter_11 a.file.now r a.room a.edition (omega (arith, i.if1.true, cells_found a.file.now r a.problem f))))
 
 record-length-requires : tie.Need-record-length-requires
 record-length-requires c κs =
     let s = c.before.before.before.before in
-    let b = parts s.requires.0.puzzle (head_Valid s.args.file.now s.requires.1) s.args.t1 s.requires.2 in
+    let b = parts s.requires.0.puzzle (head_Valid s.args.file.now s.requires.1) s.args.problem s.requires.2 in
     (b.tall, b.wide, b.few, b.ended, b.short)
 
 is-tail-requires : tie.Need-is-tail-requires
-is-tail-requires c κs = let s = start c in (short c, cells_few s.args.file.now s.pre.1 s.args.t1 s.pre.2)
+is-tail-requires c κs = let s = start c in (short c, cells_few s.args.file.now s.pre.1 s.args.problem s.pre.2)
 
 -- there is room, and whether the tail is one
 module _ (c : tie.After-is-tail) (h : Head) (e : Headed (start c.before) h) where
   room : 1 + cells_in h ≤ (start c.before).args.room
   room =
       let a = (start c.before).args in
-      omega (arith, c.before.before.before.before.if1.false, cells_found a.file.now e.0 a.t1 e.1)
+      omega (arith, c.before.before.before.before.if1.false, cells_found a.file.now e.0 a.problem e.1)
 
   test : c.is-tail.result ≡ tail_test (tail_of (start c.before).args.file.now h) (cells_in h)
   test =
       let l = c.before in
       let a = (start l).args in
-      tested a.file.now e.0 a.t1 e.1 l.record-length.result (found l h e) c.is-tail.result c.is-tail.ensures
+      tested a.file.now e.0 a.problem e.1 l.record-length.result (found l h e) c.is-tail.result c.is-tail.ensures
 
 no-setter-requires-2 : tie.Need-no-setter-requires-2
 no-setter-requires-2 c κs = search rules
@@ -114,7 +114,7 @@ read-solution-requires : tie.Need-read-solution-requires
 read-solution-requires c κs =
     let l = c.before.before.before.before.before.before in
     let s = start l in
-    (short l, cells_few s.args.file.now s.pre.1 s.args.t1 s.pre.2, c.before.no-codes.ensures)
+    (short l, cells_few s.args.file.now s.pre.1 s.args.problem s.pre.2, c.before.no-codes.ensures)
 
 -- the edition is one, seen from before the solution is tested
 abbrev edition-told : tie.After-is-finished-arg5 → tie.Else3
@@ -139,7 +139,7 @@ slice-aggregate-is-finished-2 c = search rules
 is-finished-requires : tie.Need-is-finished-requires
 is-finished-requires c κs =
     let s = begun c in
-    let q = s.args.t1 in
+    let q = s.args.problem in
     let t = drop (tail-told c).before.before.record-length.result s.args.file.now in
     let n = q.height * q.width in (
       (edition-told c).if3.false,
@@ -159,7 +159,7 @@ verdict c h e =
     let l = (tail-told b).before.before in
     let i = (edition-told b).before in
     let k = an_edition a.edition i.edition-of.result i.edition-of.ensures (edition-told b).if3.false in
-    judged a.file.now e.0 a.t1 e.1 i.edition-of.result (cells b) l.record-length.result (found l h e) b.before.before.before.before.before.before.before.read-solution.ensures c.is-finished.result (rw none_kept at c.is-finished.ensures)
+    judged a.file.now e.0 a.problem e.1 i.edition-of.result (cells b) l.record-length.result (found l h e) b.before.before.before.before.before.before.before.read-solution.ensures c.is-finished.result (rw none_kept at c.is-finished.ensures)
     ∙ ap (λ (n : ℕ). finished_test (in_edition n h.puzzle) (solution_in (tail_of a.file.now h) (cells_in h))) k.1
 
 no-setter-requires-4 : tie.Need-no-setter-requires-4
@@ -192,7 +192,7 @@ returns-5 c =
     let k = an_edition a.edition e.edition-of.result e.edition-of.ensures (edition-told b).if3.false in
     λ h r f.
     setter_done a.file.now r a.room a.edition (room t h (r, f)) (sym (test t h (r, f)) ∙ not-false _ (tail-told b).if2.false) k.0 (sym (verdict y h (r, f)) ∙ not-false _ c.before.if4.false)
-    l.record-length.result c.read-grade.result (a.t1.height * a.t1.width) (cells b) (found l h (r, f)) c.read-grade.ensures (cells_found a.file.now r a.t1 f)
+    l.record-length.result c.read-grade.result (a.problem.height * a.problem.width) (cells b) (found l h (r, f)) c.read-grade.ensures (cells_found a.file.now r a.problem f)
     b.before.before.before.before.before.before.before.read-solution.ensures
 
 pub setter_behind_spec : {M : Type 1} → statement M

@@ -38,24 +38,24 @@ abbrev cuts : tie.Start invariant-loop decreases-loop → List ℕ
 cuts s = take s.args.count s.args.ends.now
 
 -- what is known of the next arrow
-record Next (s : tie.Start invariant-loop decreases-loop) (at k : ℕ) : Type 0 where
-  lt : k < length (cuts s)
-  at-end : get_or (cuts s) k 0 ≡ get_or s.args.ends.now k 0
-  above : at < get_or (cuts s) k 0
-  below : get_or (cuts s) k 0 ≤ last 0 (cuts s)
-  rest : rises (get_or (cuts s) k 0) (drop (k + 1) (cuts s)) ≡ true
-  top : last 0 (cuts s) ≡ last (get_or (cuts s) k 0) (drop (k + 1) (cuts s))
+record Next (ends : List ℕ) (count at k : ℕ) : Type 0 where
+  lt : k < length (take count ends)
+  at-end : get_or (take count ends) k 0 ≡ get_or ends k 0
+  above : at < get_or (take count ends) k 0
+  below : get_or (take count ends) k 0 ≤ last 0 (take count ends)
+  rest : rises (get_or (take count ends) k 0) (drop (k + 1) (take count ends)) ≡ true
+  top : last 0 (take count ends) ≡ last (get_or (take count ends) k 0) (drop (k + 1) (take count ends))
 
-next : (s : tie.Start invariant-loop decreases-loop) (good : Bool) (at k : ℕ) → Amid s.args.arrows.now (cuts s) s.args.starts.now s.args.w good at k → k < s.args.count → Next s at k
-next s good at k m h =
-    let lt : k < length (cuts s) = omega (arith, length-take-le s.args.count s.args.ends.now (omega arith)) in
-    let r = next_rise (cuts s) at k lt m.rise in
-    let t : last 0 (cuts s) ≡ last (get_or (cuts s) k 0) (drop (k + 1) (cuts s)) = m.top ∙ last_on (cuts s) at k lt in
+next : (arrows starts ends : List ℕ) (w count : ℕ) → count ≤ length ends → (good : Bool) (at k : ℕ) → Amid arrows (take count ends) starts w good at k → k < count → Next ends count at k
+next arrows starts ends w count few good at k m h =
+    let lt : k < length (take count ends) = omega (arith, length-take-le count ends few) in
+    let r = next_rise (take count ends) at k lt m.rise in
+    let t : last 0 (take count ends) ≡ last (get_or (take count ends) k 0) (drop (k + 1) (take count ends)) = m.top ∙ last_on (take count ends) at k lt in
     record {
       lt = lt;
-      at-end = get_or-take s.args.count s.args.ends.now k 0 h;
+      at-end = get_or-take count ends k 0 h;
       above = r.0;
-      below = omega (arith, t, rises-last (get_or (cuts s) k 0) (drop (k + 1) (cuts s)) r.1);
+      below = omega (arith, t, rises-last (get_or (take count ends) k 0) (drop (k + 1) (take count ends)) r.1);
       rest = r.1;
       top = t;
     }
@@ -76,7 +76,7 @@ follows-requires : tie.Need-follows-requires invariant-loop decreases-loop
 follows-requires c κs =
     let s = c.before.before.before.before in
     let t = c.before.before.before.loop in
-    let n = next s t.good t.at t.k t.invariant (omega arith) in
+    let n = next s.args.arrows.now s.args.starts.now s.args.ends.now s.args.w s.args.count (omega arith) t.good t.at t.k t.invariant (omega arith) in
     let e : get_or (cuts s) t.k 0 ≡ c.wide.result = n.at-end ∙ sym c.wide.ensures.0 in
     (s.requires.0, omega (arith, e, n.above), omega (arith, e, n.below, s.requires.4.few), s.requires.3, λ i h. s.requires.4.low i (omega (arith, e, n.below, h)))
 
@@ -91,7 +91,7 @@ loop-again c =
     let s = c.before.before.before.before.before.before in
     let t = c.before.before.before.before.before.loop in
     let line = s.args.arrows.now in
-    let n = next s t.good t.at t.k t.invariant (omega arith) in
+    let n = next s.args.arrows.now s.args.starts.now s.args.ends.now s.args.w s.args.count (omega arith) t.good t.at t.k t.invariant (omega arith) in
     let e : get_or (cuts s) t.k 0 ≡ c.before.before.wide.result = n.at-end ∙ sym c.before.before.wide.ensures.0 in
     record {
       rise = rw e at n.rest;

@@ -57,8 +57,7 @@ fifth s = reason5 (board s) (kept_ranges s.args.lowest.now s.args.highest.now (l
 -- the arrays hold its kinds
 held : (c : tie.After-count-cells)
     → let k = c.before.before.before.before.before.before.before.before in
-    let l = k.compute-board-info-detailed.new in
-    Held (board (start k)) l.1.1.1.1.1.0 l.1.1.1.1.1.1.0
+    Held (board (start k)) k.compute-board-info-detailed.new.1.1.1.1.1.0 k.compute-board-info-detailed.new.1.1.1.1.1.1.0
 held c =
     let k = known (chained c) in
     let s = start k in

@@ -90,8 +90,7 @@ none c = c.enum_told.given.1
 -- the table of the blocks
 blocks : (c : tie.After-compute-connected-components2)
     → let k = searched (passed c) in
-    let l = c.compute-connected-components2.new in
-    BlockTable (puzzle (start k)) (held (start k)) l.1.1.1.1.1.0 (marked k).mark-arrow-cells.last.1.1.0 l.1.1.1.1.1.1.0 l.1.1.1.1.1.1.1.0 l.1.1.1.1.1.1.1.1.0 c.compute-connected-components2.result
+    BlockTable (puzzle (start k)) (held (start k)) c.compute-connected-components2.new.1.1.1.1.1.0 (marked k).mark-arrow-cells.last.1.1.0 c.compute-connected-components2.new.1.1.1.1.1.1.0 c.compute-connected-components2.new.1.1.1.1.1.1.1.0 c.compute-connected-components2.new.1.1.1.1.1.1.1.1.0 c.compute-connected-components2.result
 blocks c =
     let k = searched (passed c) in
     let s = start k in

@@ -62,19 +62,23 @@ scene c =
     let l = i.before.loop in
     rw c.wide.ensures.0 (next_Scene (start i).requires.1 l.from l.a i.loop-test.true l.invariant.sub (l.invariant.rise i.loop-test.true))
 
--- what its search says, if it ends at `to`
-abbrev Says : tie.After-search-arrow invariant-loop decreases-loop → ℕ → Type 0
-Says c to =
-    let i = (ended c.before).before.before in
-    let n = (start i).args in
-    let l = i.before.loop in
-    FoundAs (first_found_of (reason (start i)) (pairs (take (n.h * n.w) n.cells.now) (slice l.from to n.arrows.now))) l.buffer
-    c.search-arrow.new.1.1.1.1.1.1.1.1.1.1.1.1.1.1.1.1.1.0 c.search-arrow.result
-
-found : (c : tie.After-search-arrow invariant-loop decreases-loop) → let i = (ended c.before).before.before in Says c (get_or (start i).args.ends.now i.before.loop.a 0)
+-- what its search says
+found : (c : tie.After-search-arrow invariant-loop decreases-loop)
+    → let i = (ended c.before).before.before in
+      let n = (start i).args in
+      let l = i.before.loop in
+      FoundAs (first_found_of (reason (start i)) (pairs (take (n.h * n.w) n.cells.now) (slice l.from (get_or n.ends.now l.a 0) n.arrows.now))) l.buffer
+      c.search-arrow.new.1.1.1.1.1.1.1.1.1.1.1.1.1.1.1.1.1.0 c.search-arrow.result
 found c =
     let e = ended c.before in
-    subst (Says c) e.wide.ensures.0 (c.search-arrow.ensures.0 (lines (start e.before.before)) (scene e))
+    let i = e.before.before in
+    let n = (start i).args in
+    let l = i.before.loop in
+    subst
+        (λ to. FoundAs (first_found_of (reason (start i)) (pairs (take (n.h * n.w) n.cells.now) (slice l.from to n.arrows.now))) l.buffer
+            c.search-arrow.new.1.1.1.1.1.1.1.1.1.1.1.1.1.1.1.1.1.0 c.search-arrow.result)
+        e.wide.ensures.0
+        (c.search-arrow.ensures.0 (lines (start i)) (scene e))
 
 loop-holds : tie.Need-loop-init invariant-loop decreases-loop
 loop-holds c = record { high = omega arith; rise = λ h. omega arith; work = c.before.requires.3; same = refl; sub = λ l m. m; passed = refl }

@@ -14,8 +14,8 @@ use Rattle.unique.proofs.is_refuted.Statement.{statement}
 use Rattle.unique.proofs.is_refuted.Tie as tie
 
 -- the places before find, seen from behind it: where no arrow is short, and the start
-abbrev room : tie.After-find-inconsistency → tie.Else1
-room c = c.before.before
+abbrev cleared : tie.After-find-inconsistency → tie.Else1
+cleared c = c.before.before
 
 abbrev start : tie.Else1 → tie.Start
 start c = c.before.before.before.before.before
@@ -59,7 +59,7 @@ same_length c = search rules
 returns-2 : tie.Need-returns-2
 returns-2 c =
     let f = found c.before.before in
-    λ l x. refuted_not x (start (room f)).args.cells.now (two (room f)) f.find-inconsistency.ensures c.enum_told.given.1
+    λ l x. refuted_not x (start (cleared f)).args.cells.now (two (cleared f)) f.find-inconsistency.ensures c.enum_told.given.1
 
 same-length-2 : tie.Need-same-length-2
 same-length-2 c = search rules
@@ -67,7 +67,7 @@ same-length-2 c = search rules
 returns-3 : tie.Need-returns-3
 returns-3 c =
     let f = found c.before.before in
-    λ l x. refuted_reason x (start (room f)).args.cells.now (two (room f)) f.find-inconsistency.ensures c.enum-told2.given.1
+    λ l x. refuted_reason x (start (cleared f)).args.cells.now (two (cleared f)) f.find-inconsistency.ensures c.enum-told2.given.1
 
 same-length-3 : tie.Need-same-length-3
 same-length-3 c = search rules
@@ -75,7 +75,7 @@ same-length-3 c = search rules
 returns-4 : tie.Need-returns-4
 returns-4 c =
     let f = found c.before.before in
-    λ l x. absurd (never_refused x (start (room f)).args.cells.now (two (room f)) f.find-inconsistency.ensures c.enum-told3.given.1)
+    λ l x. absurd (never_refused x (start (cleared f)).args.cells.now (two (cleared f)) f.find-inconsistency.ensures c.enum-told3.given.1)
 
 pub is_refuted_spec : {M : Type 1} → statement M
 is_refuted_spec =
