@@ -9,6 +9,7 @@ ghost use Rattle.replay.specs.Lists.{byte_in, differs};
 ghost use Rattle.answer_replay.specs.Answers.{AnswersSo};
 
 use replay::{Run, Tally};
+use std::io;
 
 // A byte that no text has stands in every place of a fresh room for the text.
 fn text_room() -> [u8; answer::TEXT]
@@ -63,8 +64,8 @@ fn go_through(list: &[u8]) -> Tally {
     tally
 }
 
-fn main() {
-    let mut space = replay::room();
-    let n = io::read_full(0, &mut space);
-    go_through(&space[..n]).print(b" inputs, ", b"");
+fn main(rt: HostRuntime) -> io::Result<()> {
+    let list = replay::read_list(rt.alloc(), rt.reader())?;
+    go_through(list.as_slice()).print(b" inputs, ", b"", &mut io::writer(&rt))?;
+    Ok(())
 }

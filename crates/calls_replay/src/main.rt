@@ -16,6 +16,7 @@ ghost use Rattle.std.specs.Prelude.{◌≤◌, ◌<◌, length};
 use board::{Board, Decided, Opened};
 use finds::{Made, Way};
 use replay::{Run, Tally};
+use std::io;
 
 // The most numbers of sizes that an entry may have.
 const SIZES: usize = 4096;
@@ -276,9 +277,9 @@ fn go_through(list: &[u8]) -> Tally {
     tally
 }
 
-fn main() {
-    let mut space = replay::room();
-    let n = io::read_full(0, &mut space);
-    go_through(&space[..n]).print(b" lists, ", b" calls, ");
-    damaged::go_through().print(b" damaged boards, ", b"");
+fn main(rt: HostRuntime) -> io::Result<()> {
+    let list = replay::read_list(rt.alloc(), rt.reader())?;
+    go_through(list.as_slice()).print(b" lists, ", b" calls, ", &mut io::writer(&rt))?;
+    damaged::go_through().print(b" damaged boards, ", b"", &mut io::writer(&rt))?;
+    Ok(())
 }

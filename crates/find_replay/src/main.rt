@@ -14,6 +14,7 @@ use board::Board;
 use finds::Way;
 use finished::Verdict;
 use replay::{Run, Tally};
+use std::io;
 
 // Whether a verdict is not the one for this number: 1 for a finished board, 0 for another.
 fn verdict_differs(verdict: Verdict, number: usize) -> bool
@@ -105,8 +106,8 @@ fn go_through(list: &[u8]) -> Tally {
     tally
 }
 
-fn main() {
-    let mut space = replay::room();
-    let n = io::read_full(0, &mut space);
-    go_through(&space[..n]).print(b" boards, ", b"");
+fn main(rt: HostRuntime) -> io::Result<()> {
+    let list = replay::read_list(rt.alloc(), rt.reader())?;
+    go_through(list.as_slice()).print(b" boards, ", b"", &mut io::writer(&rt))?;
+    Ok(())
 }

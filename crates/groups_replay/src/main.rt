@@ -22,6 +22,7 @@ ghost use Rattle.groups_replay.specs.Blocks.{KindsSo, GroupsSo, PotentialSo};
 use board::Board;
 use replay::{Run, Tally};
 use rounds::Rounds;
+use std::io;
 
 // Whether the names of groups or their counts differ from those that the list has at `at`.
 fn groups_differ(
@@ -267,8 +268,8 @@ fn go_through(list: &[u8]) -> Tally {
     tally
 }
 
-fn main() {
-    let mut space = replay::room();
-    let n = io::read_full(0, &mut space);
-    go_through(&space[..n]).print(b" boards, ", b" arrow blocks, ");
+fn main(rt: HostRuntime) -> io::Result<()> {
+    let list = replay::read_list(rt.alloc(), rt.reader())?;
+    go_through(list.as_slice()).print(b" boards, ", b" arrow blocks, ", &mut io::writer(&rt))?;
+    Ok(())
 }

@@ -10,6 +10,7 @@ ghost use Rattle.replay.specs.Lists.{byte_in, differs};
 ghost use Rattle.host_replay.specs.HostCalls.{fresh, CallSo};
 
 use replay::{Run, Tally};
+use std::io;
 
 // What stands in every place of the array before a call.
 const BEFORE: u8 = 170;
@@ -139,8 +140,8 @@ fn go_through(list: &[u8]) -> Tally {
     tally
 }
 
-fn main() {
-    let mut space = replay::room();
-    let n = io::read_full(0, &mut space);
-    go_through(&space[..n]).print(b" calls, ", b"");
+fn main(rt: HostRuntime) -> io::Result<()> {
+    let list = replay::read_list(rt.alloc(), rt.reader())?;
+    go_through(list.as_slice()).print(b" calls, ", b"", &mut io::writer(&rt))?;
+    Ok(())
 }

@@ -1,13 +1,23 @@
 // The program `reason`: reads standard input to its end, or as far as it takes to see that it is too long, and prints what `answer::respond` writes.
-ghost use Rattle.std.specs.Prelude.{◌≡◌, length};
+#![tactic(auto)]
 
-use libc::STDOUT_FILENO;
+ghost use Rattle.std.specs.Prelude.{◌≡◌, length, take, OnOk, IfOk, IfSome};
+ghost use Rattle.std.specs.Io.KnownBytes.{Appends};
+ghost use Rattle.answer.specs.Program.{printed};
 
-// Room for the longest input and one byte more.
-fn input_room() -> [u8; answer::INPUT + 1]
-    ensures { 8193 ≡ length result }
+use std::alloc::Global;
+use std::io;
+use std::io::{Read, Write};
+
+// The input to its end, or one byte further than the longest.
+fn read_input<R: Read + Drop>(alloc: Global, input: R) -> io::Result<Vec<u8>>
+    ensures { IfOk result (λ v. IfSome (R.remaining input) (λ bytes. v.items ≡ take 8193 bytes)) }
 {
-    [0; answer::INPUT + 1]
+    let mut bytes = Vec::new(alloc);
+    input
+        .take(answer::INPUT as u64 + 1)
+        .read_to_end(&mut bytes)?;
+    Ok(bytes)
 }
 
 // Room for the longest text.
@@ -17,10 +27,25 @@ fn text_room() -> [u8; answer::TEXT]
     [0; answer::TEXT]
 }
 
-fn main() {
-    let mut input = input_room();
-    let n = io::read_full(0, &mut input);
+// Writes the text for an input.
+fn write_answer<W: Write>(input: &[u8], output: &mut W) -> io::Result<()>
+    ensures { OnOk result (Appends (W.contents output.old) (W.contents output.new) (printed input.now)) }
+{
     let mut text = text_room();
-    let end = answer::respond(&input[..n], &mut text);
-    io::write_all(STDOUT_FILENO, &text[..end]);
+    let end = answer::respond(input, &mut text);
+    output.write_all(&text[..end])
+}
+
+// Reads an input to its end, or as far as it takes to see that it is too long, and writes the text for it.
+#[tactic(auto, using(crate::proofs::InputLaws::printed_taken))]
+fn run<R: Read + Drop, W: Write>(alloc: Global, input: R, output: &mut W) -> io::Result<()>
+    ensures { OnOk result (IfSome (R.remaining input) (λ bytes.
+        Appends (W.contents output.old) (W.contents output.new) (printed bytes))) }
+{
+    let bytes = read_input(alloc, input)?;
+    write_answer(bytes.as_slice(), output)
+}
+
+fn main(rt: HostRuntime) -> io::Result<()> {
+    run(rt.alloc(), rt.reader(), &mut io::writer(&rt))
 }

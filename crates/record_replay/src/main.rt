@@ -3,13 +3,15 @@
 // A list has a head of lines that begin with `#`, an empty line, and entries to its end: u16 length, that many bytes of record, u8 refusal;
 // where it is 0 also u8 height, u8 width, a code for each cell, u16 number of arrows, and for each arrow u16 length and u16 cells.
 // A u16 has its high byte first.
+#![tactic(auto)]
+
 ghost use Rattle.std.specs.Prelude.{◌≡◌, ◌+◌, ◌≤◌, ◌<◌, length, replicate};
 ghost use Rattle.replay.specs.Comparisons.{DiffersUnless};
 ghost use Rattle.record_replay.specs.Problems.{ZerosFrom, ArrowsSo, area_at, ProblemSo, RecordSo};
 
-use libc::STDOUT_FILENO;
 use record::Problem;
 use replay::{Run, Tally};
+use std::io;
 
 // A record that is far too long.
 fn zeros() -> [u8; 131072]
@@ -161,14 +163,13 @@ fn go_through(list: &[u8]) -> Tally {
     tally
 }
 
-fn main() {
-    let mut space = replay::room();
-    let n = io::read_full(0, &mut space);
-    go_through(&space[..n]).print(b" records, ", b"");
+fn main(rt: HostRuntime) -> io::Result<()> {
+    let list = replay::read_list(rt.alloc(), rt.reader())?;
+    go_through(list.as_slice()).print(b" records, ", b"", &mut io::writer(&rt))?;
     let long = zeros();
     let r = record::read(&long);
     let answer = r.answer;
-    io::write_all(STDOUT_FILENO, b"131072 zeros: refused ");
-    io::print_decimal(STDOUT_FILENO, replay::number(answer) as u64);
-    io::write_all(STDOUT_FILENO, b"\n");
+    let refusal = replay::number(answer);
+    println!(rt; "131072 zeros: refused {refusal}")?;
+    Ok(())
 }

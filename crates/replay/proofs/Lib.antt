@@ -1,4 +1,5 @@
-pub mod ComparisonLaws
 mod ListLaws
 mod PrintedLaws
 mod TallyLaws
+pub mod ComparisonLaws
+pub mod KnownLaws

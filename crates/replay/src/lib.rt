@@ -2,15 +2,20 @@
 // count of its entries, and the text that says the count.
 //
 // A list has a head of lines that begin with `#`, an empty line, and then entries to its end. A u16 has its high byte first.
-ghost use Rattle.std.specs.Prelude.{◌+◌, ◌≤◌, ◌<◌, ◌≡◌, cond, length, get_or, replicate};
+#![tactic(auto)]
+
+ghost use Rattle.std.specs.Prelude.{◌+◌, ◌≤◌, ◌<◌, ◌≡◌, cond, length, get_or, replicate, take, OnOk, IfOk, IfSome};
+ghost use Rattle.std.specs.Io.KnownBytes.{Appends};
 ghost use Rattle.record.specs.Problem.{number_of};
 ghost use Rattle.text.specs.Text.{Written};
 ghost use Rattle.replay.specs.Tallies.{sum_of, broken_run, run_of, then_of, also_of, empty_tally, tally_of, with_of};
 ghost use Rattle.replay.specs.Lists.{area_of, number_at, data_start, byte_in, number_in, differs};
 ghost use Rattle.replay.specs.Printed.{count_text, parts_text, damage_text, tally_text};
 
-use libc::STDOUT_FILENO;
 use record::Answer;
+use std::alloc::Global;
+use std::io;
+use std::io::{Read, Write};
 
 // What an entry counted, and where it ends in the list, far behind it where the list ends inside the entry.
 #[derive(Drop)]
@@ -21,7 +26,7 @@ pub struct Run {
 }
 
 // What was counted of a list, where its next entry begins, and whether no damage was met.
-#[derive(Drop)]
+#[derive(Clone, Copy)]
 pub struct Tally {
     pub entries: usize,
     pub parts: usize,
@@ -35,6 +40,15 @@ pub fn room() -> [u8; 524288]
     ensures { result ≡ replicate 524288 0 }
 {
     [0; 524288]
+}
+
+// Reads a list to its end, or as far as there is room for the longest.
+pub fn read_list<R: Read + Drop>(alloc: Global, input: R) -> io::Result<Vec<u8>>
+    ensures { IfOk result (λ v. IfSome (R.remaining input) (λ bytes. v.items ≡ take 524288 bytes)) }
+{
+    let mut list = Vec::new(alloc);
+    input.take(524288).read_to_end(&mut list)?;
+    Ok(list)
 }
 
 // A number that is no literal stands in every place of a fresh buffer.
@@ -356,23 +370,32 @@ impl Tally {
         write_damage(out, damage, self.whole)
     }
 
-    // Has a text written to standard output, and returns how many bytes it has. It must be the text of what was counted; the tally and the
+    // Has a text written to the output, and returns how many bytes it has. It must be the text of what was counted; the tally and the
     // words are there to say so.
-    fn hand_over(self, entries: &[u8], parts: &[u8], text: &[u8]) -> usize
+    fn hand_over<W: Write>(
+        self,
+        entries: &[u8],
+        parts: &[u8],
+        text: &[u8],
+        output: &mut W,
+    ) -> io::Result<usize>
         requires { text.now ≡ tally_text self entries.now parts.now }
-        ensures { result ≡ length text.now }
+        ensures count { IfOk result (λ n. n ≡ length text.now) }
+        ensures printed { OnOk result (Appends (W.contents output.old) (W.contents output.new) text.now) }
     {
-        io::write_all(STDOUT_FILENO, text);
-        text.len()
+        output.write_all(text)?;
+        Ok(text.len())
     }
 
     // Prints this text, and returns how many bytes it has. Its words have at most 47, so that all of it has room.
-    pub fn print(self, entries: &[u8], parts: &[u8]) -> usize
+    pub fn print<W: Write>(self, entries: &[u8], parts: &[u8], output: &mut W) -> io::Result<usize>
         requires { length entries.now + length parts.now ≤ 47 }
-        ensures { result ≡ length (tally_text self entries.now parts.now) }
+        ensures count { IfOk result (λ n. n ≡ length (tally_text self entries.now parts.now)) }
+        ensures printed { OnOk result
+            (Appends (W.contents output.old) (W.contents output.new) (tally_text self entries.now parts.now)) }
     {
         let mut out = [0u8; 128];
         let end = self.write(&mut out, entries, parts);
-        self.hand_over(entries, parts, &out[..end])
+        self.hand_over(entries, parts, &out[..end], output)
     }
 }

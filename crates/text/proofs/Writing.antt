@@ -6,7 +6,7 @@ use native.Mathlib.Numerals.{add-one}
 use mathlib.Core.Path.{◌≡◌, sym, ap, ◌∙◌}
 use mathlib.Core.List.{List, [], ◌∷◌, ◌++◌, append_assoc}
 use lib.ListN.{length, get_or, set, take, drop, length-append, length-drop, take-append-drop}
-use lib.Seq.{length-take-le, set_split, take_at, drop-append-add, drop-drop, take-suc}
+use lib.Seq.{length-take-le, set_split, take_at, drop-append-add, drop-drop, take-suc, take-append_seam}
 use Rattle.text.specs.Text.{written, Written}
 
 -- no text changes nothing
@@ -79,3 +79,10 @@ write_none o at = record { behind = omega arith; whole = sym (written_none o at)
 -- the list stays as long while a text is written byte by byte
 pub text_length : (out text : List ℕ) (at i : ℕ) → i ≤ length text → at + length text ≤ length out → length (written at (take i text) out) ≡ length out
 text_length out text at i h r = written-length out at (take i text) (omega (arith, length-take-le i text h))
+
+-- the bytes before the place behind a text that begins the list are the text
+pub text_taken : {o o' text : List ℕ} {r : ℕ} → Written o 0 text o' r → take r o' ≡ text
+unfolding written
+text_taken {o} {o'} {text} {r} w =
+    let e : 0 + length text ≡ length text = omega arith in
+    rw (w.whole, w.behind, e) (take-append_seam text (drop (length text) o))

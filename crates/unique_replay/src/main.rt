@@ -9,6 +9,7 @@ ghost use Rattle.replay.specs.Comparisons.{DiffersUnless};
 ghost use Rattle.unique_replay.specs.Certificates.{expected, CallSo};
 
 use replay::{Run, Tally};
+use std::io;
 
 // The number that this byte of a list stands for.
 fn expected_number(answer: usize) -> i32
@@ -73,8 +74,8 @@ fn go_through(list: &[u8]) -> Tally {
     tally
 }
 
-fn main() {
-    let mut space = replay::room();
-    let n = io::read_full(0, &mut space);
-    go_through(&space[..n]).print(b" certificates, ", b"");
+fn main(rt: HostRuntime) -> io::Result<()> {
+    let list = replay::read_list(rt.alloc(), rt.reader())?;
+    go_through(list.as_slice()).print(b" certificates, ", b"", &mut io::writer(&rt))?;
+    Ok(())
 }

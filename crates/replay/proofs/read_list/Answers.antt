@@ -1,0 +1,6 @@
+use Rattle.replay.proofs.KnownLaws.{known_taken}
+use Rattle.replay.proofs.read_list.Goals as goal
+
+pub returns : goal.returns
+returns g c = known_taken g.R.Read.remaining c.take.result.inner c.args.input c.take.result.limit 524288 c.new-list.result.items
+    c.read_to_end.new.buf.items c.take.ensures.inner c.take.ensures.limit c.new-list.ensures.items c.in_ok-read_to_end.ensures.bytes
