@@ -4,12 +4,11 @@ use Prim.Native.Nat.{ℕ, ◌+◌, ◌≤◌}
 use native.Mathlib.Omega.{arith}
 use mathlib.Core.Bool.{Bool, true, false, cond}
 use mathlib.Core.Path.{◌≡◌}
-use mathlib.Core.List.{List, [], ◌∷◌, ◌++◌}
+use mathlib.Core.List.{List, [], ◌++◌}
 use lib.Dec.{eqb}
-use lib.ListN.{length, take, drop, length-append}
-use lib.Seq.{take-append_seam}
+use lib.ListN.{length, length-append}
 use borrow.Author.Tests.{eq-eqb, ne_eqb}
-use Rattle.text.specs.Text.{Written, written, digits_within}
+use Rattle.text.specs.Text.{Written, digits_within}
 use Rattle.text.proofs.Writing.{write_none, write_then}
 use Rattle.text.proofs.Lines.{room_behind}
 use Rattle.text.proofs.TextLaws.{digits_length}
@@ -91,10 +90,3 @@ module _ (t : Tally) (entry part : List ℕ) {o o₁ : List ℕ} {m₁ : ℕ} (r
       pub tally_Written : {o₄ : List ℕ} {r : ℕ} → Written o₃ m₃ (damage_text t.whole) o₄ r → Written o 0 (tally_text t entry part) o₄ r
       unfolding tally_text
       tally_Written w = write_then counted w (omega (arith, counted_length))
-
--- the bytes before the place behind a text that begins the list are the text
-pub text_taken : {o o' text : List ℕ} {r : ℕ} → Written o 0 text o' r → take r o' ≡ text
-unfolding written
-text_taken {o} {o'} {text} {r} w =
-    let e : 0 + length text ≡ length text = omega arith in
-    rw (w.whole, w.behind, e) (take-append_seam text (drop (length text) o))

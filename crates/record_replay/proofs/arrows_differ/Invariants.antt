@@ -1,0 +1,13 @@
+use Prim.Native.Nat.{◌-◌, ◌≤◌}
+use mathlib.Core.Bool.{Bool}
+use Rattle.replay.specs.Comparisons.{DiffersUnless}
+use Rattle.record_replay.specs.Problems.{ArrowsSo}
+use Rattle.record_replay.proofs.arrows_differ.Given as goal
+
+abbrev pub invariant-loop-i : goal.invariant-loop-i
+invariant-loop-i l =
+    (l.i ≤ l.arrows) × (l.end ≤ 1024)
+    × ((r : Bool) → DiffersUnless r (ArrowsSo l.list l.at (l.arrows - l.i) l.line l.ends l.end l.i) → DiffersUnless r (ArrowsSo l.list l.start l.arrows l.line l.ends 0 0))
+
+abbrev pub decreases-loop-i : goal.decreases-loop-i
+decreases-loop-i l = l.arrows - l.i
