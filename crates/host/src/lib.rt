@@ -1,4 +1,4 @@
-// The calls that are exported for Rust and C, each thin over the crate that has it.
+// The calls for Rust and C, each thin over the crate that has it. `host_c` exports them.
 ghost use Rattle.std.specs.Prelude.{◌≡◌, length};
 ghost use Rattle.exported.specs.Written.{written, output_with};
 ghost use Rattle.clauses.specs.Clauses.{sheet_for};
@@ -21,8 +21,7 @@ use board::Board;
 
 // Opens the record in edition 1, decides in order and finds. The literals stand in the output's first bytes, two each, most significant first.
 // Returns how many there are, 0 for none, or the negated number of a refusal, which leaves the output as it was.
-#[unsafe(no_mangle)]
-pub extern "C" fn evolmino_find(record: &[u8], decisions: &[u8], output: &mut [u8]) -> i32
+pub fn evolmino_find(record: &[u8], decisions: &[u8], output: &mut [u8]) -> i32
     ensures { (result ≡ returned (host_finds «record».now decisions.now (length output.old)))
         × (output.new ≡ output_after (host_finds «record».now decisions.now (length output.old)) output.old) }
 {
@@ -30,8 +29,7 @@ pub extern "C" fn evolmino_find(record: &[u8], decisions: &[u8], output: &mut [u
 }
 
 // The same in an edition with sizes: 16-bit numbers, cell, lowest and highest for each, cells rising, two bytes a number, most significant first.
-#[unsafe(no_mangle)]
-pub extern "C" fn evolmino_find_with(
+pub fn evolmino_find_with(
     record: &[u8],
     edition: u32,
     sizes: &[u8],
@@ -45,21 +43,14 @@ pub extern "C" fn evolmino_find_with(
 }
 
 // Opens the record in edition 1, decides in order and tells whether the leaf is finished: 1 for yes, 0 for no, or the negated number of a refusal.
-#[unsafe(no_mangle)]
-pub extern "C" fn evolmino_finished(record: &[u8], decisions: &[u8]) -> i32
+pub fn evolmino_finished(record: &[u8], decisions: &[u8]) -> i32
     ensures { result ≡ judged (host_finished «record».now decisions.now) }
 {
     host_finished::finished(record, decisions)
 }
 
 // The same in an edition with sizes, which are as in `evolmino_find_with`.
-#[unsafe(no_mangle)]
-pub extern "C" fn evolmino_finished_with(
-    record: &[u8],
-    edition: u32,
-    sizes: &[u8],
-    decisions: &[u8],
-) -> i32
+pub fn evolmino_finished_with(record: &[u8], edition: u32, sizes: &[u8], decisions: &[u8]) -> i32
     ensures { result ≡ judged (host_finished_with «record».now edition sizes.now decisions.now) }
 {
     host_finished::finished_with(record, edition, sizes, decisions)
@@ -67,8 +58,7 @@ pub extern "C" fn evolmino_finished_with(
 
 // Writes the clause sheet of a record to the front of the output, and returns the number of bytes, or the negated number of a refusal, which
 // leaves the output as it was.
-#[unsafe(no_mangle)]
-pub extern "C" fn evolmino_clauses(record: &[u8], output: &mut [u8]) -> i32
+pub fn evolmino_clauses(record: &[u8], output: &mut [u8]) -> i32
     ensures { (result ≡ written (sheet_for (length output.old) «record».now))
         × (output.new ≡ output_with (sheet_for (length output.old) «record».now) output.old) }
 {
@@ -78,8 +68,7 @@ pub extern "C" fn evolmino_clauses(record: &[u8], output: &mut [u8]) -> i32
 // Opens the record in edition 1, decides in order and writes for each cell of the grid in row order the first cell of its block and the block's count
 // of squares, two bytes each, most significant first; 0 and 0 for a cell that is not square. Returns how many bytes are written, or the
 // negated number of a refusal, which leaves the output as it was.
-#[unsafe(no_mangle)]
-pub extern "C" fn evolmino_shades(record: &[u8], decisions: &[u8], output: &mut [u8]) -> i32
+pub fn evolmino_shades(record: &[u8], decisions: &[u8], output: &mut [u8]) -> i32
     ensures { (result ≡ written (host_shades «record».now decisions.now (length output.old)))
         × (output.new ≡ output_with (host_shades «record».now decisions.now (length output.old)) output.old) }
 {
@@ -90,13 +79,7 @@ pub extern "C" fn evolmino_shades(record: &[u8], decisions: &[u8], output: &mut 
 // cells are told, 1 where no finished board agrees with the decisions, 2 where the budget is spent, or the negated number of a refusal,
 // which leaves the output as it was. The output's first eight bytes are the number of steps, most significant first; where the cells are
 // told one byte for each follows, in row order: 0 empty, 1 square, 2 open.
-#[unsafe(no_mangle)]
-pub extern "C" fn evolmino_certain(
-    record: &[u8],
-    decisions: &[u8],
-    budget: u64,
-    output: &mut [u8],
-) -> i32
+pub fn evolmino_certain(record: &[u8], decisions: &[u8], budget: u64, output: &mut [u8]) -> i32
     ensures { (result ≡ said_number (host_certain «record».now decisions.now budget (length output.old)))
         × (output.new ≡ output_with (said_bytes (host_certain «record».now decisions.now budget (length output.old))) output.old) }
 {
@@ -104,8 +87,7 @@ pub extern "C" fn evolmino_certain(
 }
 
 // The same in an edition with sizes, which are as in `evolmino_find_with`.
-#[unsafe(no_mangle)]
-pub extern "C" fn evolmino_certain_with(
+pub fn evolmino_certain_with(
     record: &[u8],
     edition: u32,
     sizes: &[u8],
@@ -122,13 +104,7 @@ pub extern "C" fn evolmino_certain_with(
 // Opens the record in an edition with sizes, which are as in `evolmino_find_with`, and checks a certificate that the leaf has one solution only. Returns 1
 // where it is accepted: the claimed solution, which the certificate starts with, is finished then, and every finished board is it. Or the negated number of
 // a refusal.
-#[unsafe(no_mangle)]
-pub extern "C" fn evolmino_unique(
-    record: &[u8],
-    edition: u32,
-    sizes: &[u8],
-    certificate: &[u8],
-) -> i32
+pub fn evolmino_unique(record: &[u8], edition: u32, sizes: &[u8], certificate: &[u8]) -> i32
     ensures { result ≡ unique_returned (host_unique «record».now edition sizes.now certificate.now) }
 {
     unique::unique(record, edition, sizes, certificate)
@@ -136,8 +112,7 @@ pub extern "C" fn evolmino_unique(
 
 // Turns the record by k: flipped left and right first if k is 4 or more, then k modulo 4 quarter turns clockwise. The turned record stands in the
 // output's first bytes. Returns how many they are, or the negated number of a refusal, which leaves the output as it was.
-#[unsafe(no_mangle)]
-pub extern "C" fn evolmino_turn(record: &[u8], k: u32, output: &mut [u8]) -> i32
+pub fn evolmino_turn(record: &[u8], k: u32, output: &mut [u8]) -> i32
     ensures { (result ≡ written (turn_record k (length output.old) «record».now))
         × (output.new ≡ output_with (turn_record k (length output.old) «record».now) output.old) }
 {
@@ -146,8 +121,7 @@ pub extern "C" fn evolmino_turn(record: &[u8], k: u32, output: &mut [u8]) -> i32
 
 // Joins two records of equal height: the left grid, a column of black cells, the right grid, the left's arrows and then the right's. The joined record
 // stands in the output's first bytes. Returns how many they are, or the negated number of a refusal, which leaves the output as it was.
-#[unsafe(no_mangle)]
-pub extern "C" fn evolmino_join(left: &[u8], right: &[u8], output: &mut [u8]) -> i32
+pub fn evolmino_join(left: &[u8], right: &[u8], output: &mut [u8]) -> i32
     ensures { (result ≡ written (join_record (length output.old) left.now right.now))
         × (output.new ≡ output_with (join_record (length output.old) left.now right.now) output.old) }
 {
@@ -156,8 +130,7 @@ pub extern "C" fn evolmino_join(left: &[u8], right: &[u8], output: &mut [u8]) ->
 
 // Reads a setter's file in an edition: a record, and from the next byte a grade and a solution. The output's first byte is the grade, and one byte a cell
 // follows, in row order: 1 square, 0 empty. Returns the record's length in bytes, or the negated number of a refusal, which leaves the output as it was.
-#[unsafe(no_mangle)]
-pub extern "C" fn evolmino_setter_file(file: &[u8], edition: u32, output: &mut [u8]) -> i32
+pub fn evolmino_setter_file(file: &[u8], edition: u32, output: &mut [u8]) -> i32
     ensures { (result ≡ given_length (setter_given (length output.old) edition file.now))
         × (output.new ≡ output_with (given_bytes (setter_given (length output.old) edition file.now)) output.old) }
 {
@@ -166,8 +139,7 @@ pub extern "C" fn evolmino_setter_file(file: &[u8], edition: u32, output: &mut [
 
 // Reads a player's file, which is the setter's: the output's first byte is the grade, and no bit of the solution is looked at. Returns the record's length
 // in bytes, or the negated number of a refusal, which leaves the output as it was.
-#[unsafe(no_mangle)]
-pub extern "C" fn evolmino_player_file(file: &[u8], output: &mut [u8]) -> i32
+pub fn evolmino_player_file(file: &[u8], output: &mut [u8]) -> i32
     ensures { (result ≡ given_length (player_given (length output.old) file.now))
         × (output.new ≡ output_with (given_bytes (player_given (length output.old) file.now)) output.old) }
 {
@@ -178,13 +150,7 @@ pub extern "C" fn evolmino_player_file(file: &[u8], output: &mut [u8]) -> i32
 
 // Opens a record in an edition with sizes, cell, lowest and highest for each, cells rising, into the board's memory. Returns 0, or the negated number of
 // a refusal, which leaves the memory as it was: 1 to 5 for the record, 16 for another edition than 1 and 2, 22 for sizes that may not stand.
-#[unsafe(no_mangle)]
-pub extern "C" fn evolmino_board_open(
-    record: &[u8],
-    edition: u32,
-    sizes: &[u16],
-    board: &mut Board,
-) -> i32
+pub fn evolmino_board_open(record: &[u8], edition: u32, sizes: &[u16], board: &mut Board) -> i32
     ensures { (result ≡ answer_number (open_of «record».now edition sizes.now).answer)
         × (board.new ≡ after_open board.old (open_of «record».now edition sizes.now)) }
 {
@@ -195,8 +161,7 @@ pub extern "C" fn evolmino_board_open(
 
 // Adds a decision. Returns 0, or the negated number of a refusal, which leaves the board as it was: 6 a board that no list of calls could leave, 7 an index
 // off the grid, 8 a value above 1, 9 a cell that is decided already.
-#[unsafe(no_mangle)]
-pub extern "C" fn evolmino_board_decide(board: &mut Board, index: usize, value: u8) -> i32
+pub fn evolmino_board_decide(board: &mut Board, index: usize, value: u8) -> i32
     ensures { (result ≡ answer_number (decide_of board.old index value).answer) × (board.new ≡ (decide_of board.old index value).board) }
 {
     let answer = lent::decide_in(board, index, value);
@@ -204,8 +169,7 @@ pub extern "C" fn evolmino_board_decide(board: &mut Board, index: usize, value: 
 }
 
 // Removes the latest decision. Returns 0, or the negated number of a refusal, which leaves the board as it was: 6, 10 where there is no decision.
-#[unsafe(no_mangle)]
-pub extern "C" fn evolmino_board_undo(board: &mut Board) -> i32
+pub fn evolmino_board_undo(board: &mut Board) -> i32
     ensures { (result ≡ answer_number (undo_of board.old).answer) × (board.new ≡ (undo_of board.old).board) }
 {
     let answer = lent::undo_in(board);
@@ -215,8 +179,7 @@ pub extern "C" fn evolmino_board_undo(board: &mut Board) -> i32
 // Finds a reason, for a player from 0 to 3 whose count of hints rises. The literals stand in the buffer's first places, value × 32,768 + index each. Returns
 // how many there are, 0 for none, or the negated number of a refusal, which leaves the board and the buffer as they were: 6, 17 a player above 3, 11 a
 // buffer of less than 3 × H × W + 1 numbers.
-#[unsafe(no_mangle)]
-pub extern "C" fn evolmino_board_find(board: &mut Board, player: u8, literals: &mut [u16]) -> i32
+pub fn evolmino_board_find(board: &mut Board, player: u8, literals: &mut [u16]) -> i32
     ensures { (result ≡ finding_number (find_of board.old player literals.old))
         × (board.new ≡ after_find board.old player (length literals.old))
         × (literals.new ≡ buffer_after board.old player literals.old) }
@@ -226,16 +189,14 @@ pub extern "C" fn evolmino_board_find(board: &mut Board, player: u8, literals: &
 }
 
 // Tells whether the board is finished: 1 for yes, 0 for no, or the negated number of a refusal, 6.
-#[unsafe(no_mangle)]
-pub extern "C" fn evolmino_board_finished(board: &Board) -> i32
+pub fn evolmino_board_finished(board: &Board) -> i32
     ensures { result ≡ verdict_number (finished_of board.now) }
 {
     host_board::finished_number(*board)
 }
 
 // Tells which cells are certain, as `evolmino_certain` does: 6 a board that no list of calls could leave, then 11 an output of less than 8 + H × W bytes.
-#[unsafe(no_mangle)]
-pub extern "C" fn evolmino_board_certain(board: &Board, budget: u64, output: &mut [u8]) -> i32
+pub fn evolmino_board_certain(board: &Board, budget: u64, output: &mut [u8]) -> i32
     ensures { (result ≡ said_number (board_certain board.now budget (length output.old)))
         × (output.new ≡ output_with (said_bytes (board_certain board.now budget (length output.old))) output.old) }
 {
@@ -243,8 +204,7 @@ pub extern "C" fn evolmino_board_certain(board: &Board, budget: u64, output: &mu
 }
 
 // Tells how many hints a player has taken, or the negated number of a refusal: 6, 17 a player above 3.
-#[unsafe(no_mangle)]
-pub extern "C" fn evolmino_board_hints(board: &Board, player: u8) -> i32
+pub fn evolmino_board_hints(board: &Board, player: u8) -> i32
     ensures { result ≡ count_number (hints_of board.now player) }
 {
     host_board::hints_number(*board, player)
