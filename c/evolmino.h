@@ -1,4 +1,4 @@
-/* The proved Evolmino constraint, for C and C++. `rt staticlib host` writes the library, target/staticlib/libhost.a. The calls are for edition 1
+/* The proved Evolmino constraint, for C and C++. `.ci/built` writes the library, target/staticlib/libhost.a. The calls are for edition 1
  * of the rules (README, The puzzle) and leaves without sizes, but for those whose names end in _with and evolmino_unique, which take an edition and
  * sizes, evolmino_board_open, which takes both for the board that it opens, and evolmino_setter_file, which takes the edition; a record that is
  * turned or joined is so for both editions. The calls whose names begin with evolmino_board_ are for a game, on one board that the caller keeps and

@@ -1,4 +1,4 @@
-//! Links `libhost.a`, the proved library that `rt staticlib host` writes.
+//! Links `libhost.a`, the proved library that `.ci/built` writes.
 
 use std::path::{Path, PathBuf};
 use std::{env, fs, process};
@@ -16,11 +16,11 @@ fn main() {
         set_by_cargo("CARGO_CFG_TARGET_OS"),
     );
     if target != ("x86_64".into(), "linux".into()) {
-        fail("`rt staticlib` writes libraries for x86-64 Linux only, and this build is for another machine.");
+        fail("`rt lib` writes libraries for x86-64 Linux only, and this build is for another machine.");
     }
     if !library.is_file() {
         fail(&format!(
-            "{} is not there. Run `rt staticlib host` in the root of the repository, or set EVOLMINO_HOST to the folder that has libhost.a.",
+            "{} is not there. Run `.ci/built` in the root of the repository, or set EVOLMINO_HOST to the folder that has libhost.a.",
             library.display()
         ));
     }

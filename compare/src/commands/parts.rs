@@ -71,7 +71,7 @@ pub fn run(boards_by_side: &[(usize, Vec<Known>)]) -> Outcome {
         let program = folder.join(part.program);
         if !program.is_file() {
             println!(
-                "{} is not there: run `rt check find_replay groups_replay`",
+                "{} is not there: run `rt ci` and `.ci/built`",
                 program.display()
             );
             return Ok(());
