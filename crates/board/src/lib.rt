@@ -17,7 +17,7 @@ use record::{Answer, Problem};
 // `order` has the decided cells in the order decided, `decided` of them, with 0 behind; `hints` counts for each player, 0 to 3, that
 // player's accepted finds since open, up to 65,535; `lowest` and `highest` have the ends of the range beside each cell, with 0 at a cell that has none.
 #[repr(C)]
-#[derive(Drop)]
+#[derive(Clone, Copy)]
 pub struct Board {
     pub problem: Problem,
     pub edition: u8,

@@ -8,7 +8,7 @@ ghost use Rattle.groups_replay.specs.Blocks.{Computed};
 use super::arrays;
 
 // How often labels and kinds are computed.
-#[derive(Drop)]
+#[derive(Clone, Copy)]
 pub struct Rounds {
     pub labels: usize,
     pub kinds: usize,

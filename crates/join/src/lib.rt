@@ -12,7 +12,7 @@ use exported::{counted, negated};
 use record::{Answer, Problem};
 
 // A grid of `width` columns that stands from the column `from` on among `total` columns.
-#[derive(Drop)]
+#[derive(Clone, Copy)]
 struct Stand {
     from: usize,
     width: usize,

@@ -45,7 +45,7 @@ enum Owner {
 }
 
 // The kind of a cell, with the name of its arrow block.
-#[derive(Drop)]
+#[derive(Clone, Copy)]
 enum DetailedCellKind {
     // Decided empty.
     Empty,

@@ -18,7 +18,7 @@ use std::io;
 use std::io::{Read, Write};
 
 // What an entry counted, and where it ends in the list, far behind it where the list ends inside the entry.
-#[derive(Drop)]
+#[derive(Clone, Copy)]
 pub struct Run {
     pub parts: usize,
     pub differ: usize,
