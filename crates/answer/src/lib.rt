@@ -1,4 +1,6 @@
 // The text that the program `reason` prints for its input.
+#![tactic(auto)]
+
 ghost use Rattle.std.specs.Prelude.{◌≡◌, ◌+◌, ◌*◌, ◌<◌, length};
 ghost use Rattle.host_find.specs.Host.{returned, output_after};
 ghost use Rattle.answer.specs.Program.{program_finds, printed};

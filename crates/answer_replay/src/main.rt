@@ -3,6 +3,8 @@
 //
 // A list has a head of lines that begin with `#`, an empty line, and entries to its end: u16 length, that many bytes of input, u16 length,
 // that many bytes of text. A u16 has its high byte first.
+#![tactic(auto)]
+
 ghost use Rattle.std.specs.Prelude.{◌≤◌, ◌<◌, ◌≡◌, length, replicate};
 ghost use Rattle.replay.specs.Comparisons.{DiffersUnless};
 ghost use Rattle.replay.specs.Lists.{byte_in, differs};

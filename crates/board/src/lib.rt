@@ -1,5 +1,7 @@
 // A board: a problem in an edition, with sizes beside some arrow cells, its decided cells and a count of hints for each of four players. It is
 // opened from a record; decide adds a decision, undo removes the latest.
+#![tactic(auto)]
+
 ghost use Rattle.std.specs.Prelude.{◌≡◌, true, List, ℕ, ◌≤◌, ◌<◌, length, get_or, replicate};
 ghost use Rattle.grid.specs.Grid.{size};
 ghost use Rattle.record.specs.Problem.{grid_of};

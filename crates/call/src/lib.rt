@@ -1,5 +1,7 @@
 // What the calls share that read a record and decide in order on its fresh board: of the board they keep no more than the states of its cells. And
 // the edition as a call takes it.
+#![tactic(auto)]
+
 ghost use Rattle.std.specs.Prelude.{◌≡◌, replicate};
 ghost use Rattle.grid.specs.Grid.{size};
 ghost use Rattle.record.specs.Record.{Puzzle};

@@ -1,4 +1,6 @@
 // Cells that are certain: what holds in every finished board that agrees with the standing decisions.
+#![tactic(auto)]
+
 ghost use Rattle.std.specs.Prelude.{◌≡◌, true, ◌&&◌, ◌*◌, ◌≤◌, length, take, replicate};
 ghost use Rattle.grid.specs.Lists.{all};
 ghost use Rattle.form.specs.Form.{problem_formed};

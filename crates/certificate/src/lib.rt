@@ -1,4 +1,6 @@
 // The certificate that a leaf has one solution only: its words, its steps, and what the hints of a step come to. Of the leaf it knows the number of cells alone.
+#![tactic(auto)]
+
 ghost use Rattle.std.specs.Prelude.{◌≡◌, ◌+◌, ◌*◌, ◌/◌, ◌≤◌, ◌<◌, length, get_or, replicate};
 ghost use Rattle.std.proofs.Math.Seq.{slice};
 ghost use Rattle.grid.specs.Lists.{all, upto, array_of};

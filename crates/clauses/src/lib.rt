@@ -1,5 +1,7 @@
 // The clause sheet of a puzzle, for other solvers. A function that writes takes the place to write at and returns the place behind; it
 // writes what has room in the output, and counts all. So the length of a sheet is what is counted on an output that has no room.
+#![tactic(auto)]
+
 ghost use Rattle.std.specs.Prelude.{◌≡◌, List, [], ◌∷◌, ◌++◌, map, ℕ, ◌+◌, ◌-◌, ◌*◌, ◌≤◌, ◌<◌, length, get_or};
 ghost use Rattle.grid.specs.Lists.{flat_map, upto, filter};
 ghost use Rattle.grid.specs.Grid.{down, right};

@@ -1,4 +1,6 @@
 // Tests of the arrays of a board: whether the states and the order of its cells are those of decisions on them.
+#![tactic(auto)]
+
 ghost use Rattle.std.specs.Prelude.{◌≡◌, cond, ◌&&◌, List, ℕ, ◌≤◌, eqb, leb, length, take};
 ghost use Rattle.grid.specs.Lists.{all, upto, member};
 ghost use Rattle.grid.specs.Marks.{Marks};

@@ -1,4 +1,6 @@
 // What an exported call returns, a count or the number of a refusal, negated; and how it writes numbers and bytes to its output.
+#![tactic(auto)]
+
 ghost use Rattle.std.specs.Prelude.{◌≡◌, pos, neg_ℤ, ◌+◌, ◌*◌, ◌≤◌, ◌<◌, ◌++◌, length, take, drop};
 ghost use Rattle.exported.specs.Written.{bytes_of};
 

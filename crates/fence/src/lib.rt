@@ -1,4 +1,6 @@
 // The fence of an arrow block.
+#![tactic(auto)]
+
 ghost use Rattle.std.specs.Prelude.{◌≡◌, ℕ, ◌*◌, ◌≤◌, ◌<◌, Bool, ◌&&◌, ◌||◌, List, eqb, length, take};
 ghost use Rattle.grid.specs.Lists.{any};
 ghost use Rattle.grid.specs.Grid.{neighbours};

@@ -1,4 +1,6 @@
 // The fields of a record, packed most significant bit first: numbers, codes of cells, an arrow's start and its steps.
+#![tactic(auto)]
+
 ghost use Rattle.std.specs.Prelude.{◌≡◌, ◌+◌, ◌*◌, ◌≤◌, ◌<◌, get_or};
 ghost use Rattle.fields.specs.Fields.{number, field, step_from, filler, rest_zero};
 ghost use Rattle.grid.specs.Side.{sized};

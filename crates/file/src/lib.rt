@@ -1,5 +1,7 @@
 // One file for setter and player: a record, then from the next byte a grade (3 bits), the solution (one bit a cell, row by row) and zero filler.
 // Nothing of the solution reaches the player's answer.
+#![tactic(auto)]
+
 ghost use Rattle.std.specs.Prelude.{◌≡◌, [], ◌∷◌, ◌++◌, ◌+◌, ◌*◌, ◌≤◌, length, take, drop};
 ghost use Rattle.grid.specs.Lists.{array_of};
 ghost use Rattle.fields.specs.Fields.{ok, refused};

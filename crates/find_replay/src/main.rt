@@ -6,6 +6,8 @@
 // compared, at least once: two runs that differ in it tell the time of a call. Then come entries to its end: u16 length, that many bytes of
 // record, u8 edition, u16 number of decisions, that many u16 decisions, u16 number of literals (0 for no reason), that many u16 literals,
 // and a byte, 1 for a finished board and 0 for another. A u16 has its high byte first.
+#![tactic(auto)]
+
 ghost use Rattle.std.specs.Prelude.{◌+◌, ◌*◌, ◌<◌, length};
 ghost use Rattle.replay.specs.Comparisons.{DiffersUnless};
 ghost use Rattle.find_replay.specs.Entries.{VerdictSo, BoardSo, EntrySo};

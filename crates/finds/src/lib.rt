@@ -1,5 +1,7 @@
 // Find with a lent part of a longer buffer, by value and on a lent board, held against what a list says of it: nothing behind its literals
 // may be written, nor anything by a refused one.
+#![tactic(auto)]
+
 ghost use Rattle.std.specs.Prelude.{◌≡◌, ◌≤◌, length};
 ghost use Rattle.board.specs.Hints.{after_find};
 ghost use Rattle.reasons.specs.Find.{find_of, buffer_after};

@@ -1,4 +1,6 @@
 // Tests of the arrays of a board: whether they are those of an accepted record, and the passes over one array.
+#![tactic(auto)]
+
 ghost use Rattle.std.specs.Prelude.{◌≡◌, true, [], ℕ, ◌-◌, ◌≤◌, ◌<◌, ltb, length, take, drop};
 ghost use Rattle.grid.specs.Lists.{all, last, member};
 ghost use Rattle.grid.specs.Marks.{Marks};

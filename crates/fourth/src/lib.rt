@@ -1,4 +1,6 @@
 // Reason 4 for two squares of an arrow with none between: (a) and (b).
+#![tactic(auto)]
+
 ghost use Rattle.std.specs.Prelude.{◌≡◌, List, ℕ, ◌+◌, ◌*◌, length};
 ghost use Rattle.literals.specs.Inside.{FoundAs, Fit};
 ghost use Rattle.growth.specs.Pairs.{pair_at, view_on, Scene, Grouped, Squares};

@@ -1,4 +1,6 @@
 // A grid's cells, their four neighbours, and signed moves that stop at the edges.
+#![tactic(auto)]
+
 ghost use Rattle.std.specs.Prelude.{◌≡◌, cond, ◌+◌, ◌*◌, ◌<◌, pos, ◌-ℤ◌, set};
 ghost use Rattle.std.specs.Int.Signed.{mag};
 ghost use Rattle.grid.specs.Side.{sized, moved_of, shifted_of, beside_of, around_of, InGrid, InPlace};

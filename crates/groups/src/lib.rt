@@ -1,6 +1,8 @@
 // Groups: blocks, potential groups and arrow cells of a grid of at most 32 by 32 cells. A group is
 // named by its first cell in row order; cells are 0 empty, 1 square, 2 undecided. The arrays are
 // lent by the caller.
+#![tactic(auto)]
+
 ghost use Rattle.std.specs.Prelude.{◌≡◌, ℕ, ◌+◌, ◌*◌, ◌≤◌, ◌<◌, Bool, cond, eqb, length, get_or, set, take, replicate};
 ghost use Rattle.grid.specs.Lists.{member};
 ghost use Rattle.grid.specs.Marks.{Marks};

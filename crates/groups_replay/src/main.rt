@@ -8,6 +8,8 @@
 // u8 kind; for each cell a u16 name of its owner. Then the u16 number of arrow blocks, and for each by rising name: u16 name, u16 size of its reach,
 // for each cell a u8 mark of its reach, u16 number of literals of its fence, and the literals, u16 each. A u16 has its high byte first; where there is
 // no group, the name is 1024, and the counts are 0.
+#![tactic(auto)]
+
 mod arrays;
 mod arrows;
 mod blocks;

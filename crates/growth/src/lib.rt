@@ -1,4 +1,6 @@
 // The parts of reasons 3 and 4: the literals and the sizes of blocks, reaches and gaps.
+#![tactic(auto)]
+
 ghost use Rattle.std.specs.Prelude.{◌≡◌, ◌+◌, ◌<◌, ◌≤◌, ℕ, ◌*◌, length, get_or, false, List};
 ghost use Rattle.std.proofs.Math.Seq.{slice};
 ghost use Rattle.grid.specs.Lists.{filter};

@@ -1,5 +1,4 @@
 pub mod Values
-pub mod Numbered
 pub mod Leaves
 pub mod PairByPair
 pub mod Returns

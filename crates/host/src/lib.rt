@@ -1,4 +1,6 @@
 // The calls for Rust and C, each thin over the crate that has it. `host_c` exports them.
+#![tactic(auto)]
+
 ghost use Rattle.std.specs.Prelude.{◌≡◌, length};
 ghost use Rattle.exported.specs.Written.{written, output_with};
 ghost use Rattle.clauses.specs.Clauses.{sheet_for};

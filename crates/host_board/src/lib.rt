@@ -1,5 +1,7 @@
 // The numbers that the exported calls on a board return: of an answer and of a finding, which `lent` gives, and by value those of open, finished, certain
 // and hints; open gives with its number the board as it leaves it. The exported calls, over a lent board, are in `host`.
+#![tactic(auto)]
+
 ghost use Rattle.std.specs.Prelude.{◌≡◌, ℕ, ◌<◌, length};
 ghost use Rattle.literals.specs.declared.Finding.TheVariants.{Reason};
 ghost use Rattle.exported.specs.Written.{output_with};

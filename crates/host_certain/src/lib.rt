@@ -1,5 +1,7 @@
 // The call `evolmino_certain`: a record is opened, decisions are made in order, and it is told which cells are certain. And the same in an edition with
 // sizes.
+#![tactic(auto)]
+
 ghost use Rattle.std.specs.Prelude.{◌≡◌, ◌+◌, ◌≤◌, ◌++◌, length, take, drop, true};
 ghost use Rattle.grid.specs.Side.{sized};
 ghost use Rattle.record.specs.Record.{Puzzle, ok};

@@ -1,4 +1,6 @@
 // The host call, `evolmino_find`: a record is opened, decisions are made in order, and a reason is found. And the same in an edition with sizes.
+#![tactic(auto)]
+
 ghost use Rattle.std.specs.Prelude.{◌≡◌, true, ◌+◌, ◌*◌, ◌≤◌, length, take};
 ghost use Rattle.grid.specs.Lists.{last};
 ghost use Rattle.grid.specs.Side.{sized};

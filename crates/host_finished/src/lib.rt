@@ -1,5 +1,7 @@
 // The call `evolmino_finished`: a record is opened, decisions are made in order, and it is told whether the leaf is finished. And the same in an edition
 // with sizes.
+#![tactic(auto)]
+
 ghost use Rattle.std.specs.Prelude.{◌≡◌, true};
 ghost use Rattle.grid.specs.Side.{sized};
 ghost use Rattle.record.specs.Record.{Puzzle, ok};

@@ -4,6 +4,8 @@
 // A list has a head of lines that begin with `#`, an empty line, and entries to its end: u16 length, that many bytes of record, u16 length,
 // that many bytes of decisions, u16 length of the output, the number that is returned in 4 bytes, two's complement, and where it is positive
 // that many u16 literals. A number has its high byte first.
+#![tactic(auto)]
+
 ghost use Rattle.std.specs.Prelude.{◌≤◌, ◌<◌, ◌≡◌, length};
 ghost use Rattle.replay.specs.Comparisons.{DiffersUnless};
 ghost use Rattle.replay.specs.Lists.{byte_in, differs};

@@ -1,4 +1,6 @@
 // The call `evolmino_shades`: a record is opened, decisions are made in order, and the shades of the board are written.
+#![tactic(auto)]
+
 ghost use Rattle.std.specs.Prelude.{◌≡◌, ◌*◌, ◌≤◌, length, take};
 ghost use Rattle.grid.specs.Side.{sized};
 ghost use Rattle.record.specs.Record.{ok};

@@ -1,4 +1,6 @@
 // Joining the records of two leaves of equal height: the left grid, a column of black cells and the right grid, written as one record.
+#![tactic(auto)]
+
 ghost use Rattle.std.specs.Prelude.{◌≡◌, map, ℕ, ◌+◌, ◌*◌, ◌/◌, ◌%◌, ◌≤◌, ◌<◌, length, get_or};
 ghost use Rattle.grid.specs.Lists.{upto, array_of};
 ghost use Rattle.record.specs.Record.{Puzzle};

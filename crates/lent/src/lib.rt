@@ -1,4 +1,6 @@
 // Decide, undo and find on one board lent by the caller. The exported calls of `host` pass the board that they are lent on to these.
+#![tactic(auto)]
+
 ghost use Rattle.std.specs.Prelude.{◌≡◌, length};
 ghost use Rattle.board.specs.Decide.{decide_of, undo_of};
 ghost use Rattle.board.specs.Hints.{after_find};

@@ -1,4 +1,6 @@
 // Literals in a lent buffer, and the answer of find.
+#![tactic(auto)]
+
 ghost use Rattle.std.specs.Prelude.{◌≡◌, ◌+◌, ◌<◌, ◌≤◌, length, set, cond};
 ghost use Rattle.grid.specs.Cells.{word};
 

@@ -1,5 +1,7 @@
 // The reach of a block from its own cells: a walk over the block's chain finds the floating groups near it, and the sizes of
 // the groups give the size of the reach, without a pass over the grid.
+#![tactic(auto)]
+
 ghost use Rattle.std.specs.Prelude.{◌≡◌, Bool, ◌&&◌, ◌||◌, List, [], ◌∷◌, ℕ, ◌+◌, ◌*◌, ◌≤◌, ◌<◌, eqb, length, get_or, replicate};
 ghost use Rattle.grid.specs.Grid.{neighbours};
 ghost use Rattle.grid.specs.Side.{sized, towards, InGrid, InPlace};

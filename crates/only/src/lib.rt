@@ -1,1 +1,2 @@
 // A leaf with an accepted certificate has one solution only: laws only.
+#![tactic(auto)]

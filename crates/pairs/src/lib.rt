@@ -1,4 +1,6 @@
 // Reasons 3 and 4: the search for them along the arrows.
+#![tactic(auto)]
+
 ghost use Rattle.std.specs.Prelude.{List, ◌≡◌, ℕ, ◌+◌, ◌*◌, ◌≤◌, take};
 ghost use Rattle.std.proofs.Math.Seq.{slice};
 ghost use Rattle.grid.specs.Lists.{flat_map};

@@ -1,4 +1,6 @@
 // Reason 2: a block with two arrow cells, and the squares of a shortest way between them.
+#![tactic(auto)]
+
 ghost use Rattle.std.specs.Prelude.{◌≡◌, ℕ, ◌*◌, ◌<◌, ◌≤◌, length, get_or, take, drop, replicate, List, ◌++◌};
 ghost use Rattle.grid.specs.Grid.{size};
 ghost use Rattle.grid.specs.Side.{InGrid, sized};

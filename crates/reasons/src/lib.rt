@@ -1,5 +1,7 @@
 // Find: the first reason that applies to a board, written as literals into a lent buffer, and counted on the board as a hint of the player
 // who asks.
+#![tactic(auto)]
+
 ghost use Rattle.std.specs.Prelude.{◌≡◌, ◌≤◌, length, take, replicate};
 ghost use Rattle.board.specs.Hints.{hinted, after_find};
 ghost use Rattle.reasons.specs.Find.{find_of, buffer_after};

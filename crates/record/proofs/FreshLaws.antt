@@ -31,7 +31,7 @@ Fresh-Distinct (Fresh.cons {j} {js} h r) = (later r (Memᴰ.head refl), Fresh-Di
     later : {u l : List ℕ} {x : ℕ} → Fresh u l → Memᴰ x u → Memᴰ x l → ⊥
     later (Fresh.cons h r) m (Memᴰ.head e) = h (rw (← e) m)
     later (Fresh.cons h r) m (Memᴰ.tail k) = later r (Memᴰ.tail m) k
-    later Fresh.nil m x12 = elim x12 [ ]
+    later Rattle.record.specs.Valid.nil m x12 = elim x12 [ ]
 
 -- distinct numbers below n are at most n
 pub Fresh-length : (n : ℕ) (u l : List ℕ) → Fresh u l → ((x : ℕ) → Memᴰ x l → x < n) → length l ≤ n

@@ -57,7 +57,7 @@ ends_rise {as' = (i ∷ js) ∷ rest} at (Arrows.cons (arrow hi w) n r) zero l =
 ends_rise {as' = (i ∷ js) ∷ rest} at (Arrows.cons (arrow hi w) n r) (suc k) l =
     let x = ends_rise (at + length (i ∷ js)) r k (omega arith) in
     (rw (start_later at (at + length (i ∷ js)) (ends_from (at + length (i ∷ js)) rest) k) x.0, omega (arith, x.1, length-append (i ∷ js) (arrow_cells rest)))
-ends_rise {g = g} {as' = _ ∷ _} at (Arrows.cons {used = used} {a = []} {rest = rest} x3 n r) k l = elim x3 [ ]
+ends_rise {g = g} {as' = _ ∷ _} at (Rattle.record.specs.Valid.cons {used = used} {a = []} {rest = rest} x3 n r) k l = elim x3 [ ]
 
 module _ (p : Puzzle) where
   abbrev pub line : List ℕ

@@ -1,4 +1,6 @@
 // The record of a puzzle: its fields in turn, read from a byte slice.
+#![tactic(auto)]
+
 ghost use Rattle.std.specs.Prelude.{◌≡◌, not, List, [], ◌∷◌, ◌++◌, ℕ, ◌+◌, ◌*◌, ◌≤◌, ◌<◌, length, take};
 ghost use Rattle.grid.specs.Lists.{member, last, array_of};
 ghost use Rattle.fields.specs.Fields.{refused, unless, bytes_for};

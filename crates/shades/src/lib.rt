@@ -1,4 +1,6 @@
 // Shades: for each cell the first cell of its block and the block's count of squares, by which the app numbers and tints blocks.
+#![tactic(auto)]
+
 ghost use Rattle.std.specs.Prelude.{◌≡◌, ◌++◌, ◌*◌, ◌≤◌, length, take, drop, replicate};
 ghost use Rattle.grid.specs.Side.{sized};
 ghost use Rattle.shades.specs.Shades.{shades_on, shades_of};

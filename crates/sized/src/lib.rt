@@ -1,4 +1,6 @@
 // Reason 5: sized cells that are square, whose blocks can't become as large as the lowest size or are larger than the highest.
+#![tactic(auto)]
+
 ghost use Rattle.std.specs.Prelude.{List, ◌≡◌, ℕ, ◌*◌, ◌<◌, length};
 ghost use Rattle.record.specs.Sizes.{kept_ranges};
 ghost use Rattle.literals.specs.Inside.{FoundAs, Fit};

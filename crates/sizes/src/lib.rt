@@ -1,5 +1,7 @@
 // Sizes beside arrow cells: a list of 16-bit numbers, cell, lowest and highest for each, read into two arrays by cell; refusal 22. And the
 // test of such arrays.
+#![tactic(auto)]
+
 ghost use Rattle.std.specs.Prelude.{◌≡◌, Bool, cond, ◌&&◌, ℕ, ◌+◌, ◌*◌, ◌<◌, eqb, leb, length, replicate};
 ghost use Rattle.grid.specs.Lists.{all, upto};
 ghost use Rattle.record.specs.Record.{Puzzle};

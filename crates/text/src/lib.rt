@@ -1,5 +1,7 @@
 // The text that the program `reason` prints for what the host call says: numbers, words and lines. The replaying programs write their
 // numbers and words by the same functions.
+#![tactic(auto)]
+
 ghost use Rattle.std.specs.Prelude.{◌≡◌, ◌∷◌, ◌++◌, [], ◌+◌, ◌*◌, ◌%◌, ◌≤◌, ◌<◌, length, take};
 ghost use Rattle.grid.specs.Lists.{flat_map};
 ghost use Rattle.std.specs.Int.Signed.{mag};

@@ -1,4 +1,6 @@
 // Turning the record of a leaf: the cells and arrows of its puzzle go to their turned places, and the record is written again.
+#![tactic(auto)]
+
 ghost use Rattle.std.specs.Prelude.{◌≡◌, map, ℕ, ◌+◌, ◌-◌, ◌*◌, ◌≤◌, ◌<◌, leb, length, get_or};
 ghost use Rattle.grid.specs.Lists.{upto, array_of};
 ghost use Rattle.grid.specs.Side.{sized, InGrid, InPlace};

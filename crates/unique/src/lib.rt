@@ -1,4 +1,6 @@
 // The call `evolmino_unique`: a record is opened in an edition with sizes, and a certificate that its leaf has one solution only is checked.
+#![tactic(auto)]
+
 ghost use Rattle.std.specs.Prelude.{◌≡◌, true, map, ℕ, ◌+◌, ◌*◌, ◌≤◌, length, get_or};
 ghost use Rattle.std.proofs.Math.Seq.{slice};
 ghost use Rattle.grid.specs.Lists.{upto, all, filter, array_of};

@@ -4,6 +4,8 @@
 // A list has a head of lines that begin with `#`, an empty line, and entries to its end: u16 length, that many bytes of record, the edition in
 // one byte, u16 length, that many bytes of sizes, u16 length, that many bytes of certificate, and the number that is returned in one byte: 1, or
 // 256 less the number of the refusal. A number has its high byte first.
+#![tactic(auto)]
+
 ghost use Rattle.std.specs.Prelude.{◌<◌, ◌≡◌, length};
 ghost use Rattle.replay.specs.Comparisons.{DiffersUnless};
 ghost use Rattle.unique_replay.specs.Certificates.{expected, CallSo};

@@ -1,4 +1,6 @@
 // Reason 1: a potential group with a square and no arrow cell.
+#![tactic(auto)]
+
 ghost use Rattle.std.specs.Prelude.{◌≡◌, ℕ, ◌+◌, ◌*◌, ◌<◌, ◌≤◌, length, get_or, take, List, ◌&&◌, eqb};
 ghost use Rattle.grid.specs.Lists.{any, filter, last, upto};
 ghost use Rattle.grid.specs.Grid.{neighbours};

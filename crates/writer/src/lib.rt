@@ -1,4 +1,6 @@
 // Writing a record: fields of a few bits, most significant bit first, into a lent slice.
+#![tactic(auto)]
+
 ghost use Rattle.std.specs.Prelude.{◌≡◌, [], ◌∷◌, ◌+◌, ◌-◌, ◌*◌, ◌^◌, ◌≤◌, ◌<◌, length, get_or};
 ghost use Rattle.grid.specs.Lists.{flat_map, upto};
 ghost use Rattle.grid.specs.Side.{sized};

@@ -1,0 +1,11 @@
+use borrow.Author.Rules.{rules}
+use Prim.Native.Nat.{◌-◌, ◌≤◌}
+use native.Mathlib.Omega.{arith}
+use mathlib.Core.Logic.{⊎_elim}
+use Rattle.calls_replay.proofs.damaged.count_accepted.Given as goal
+
+abbrev pub invariant-loop-k : goal.invariant-loop-k
+invariant-loop-k l = (l.count ≤ l.k) × (l.k ≤ 41)
+
+abbrev pub decreases-loop-k : goal.decreases-loop-k
+decreases-loop-k l = 41 - l.k

@@ -1,0 +1,15 @@
+-- `clauses::write_arrow` meets its contract.
+-- Assumes nothing.
+use Prim.Native.Nat.{◌-◌, ◌*◌, ◌≤◌}
+use native.Mathlib.Omega.{arith}
+use Rattle.grid.specs.Lists.{flat_map, upto}
+use Rattle.clauses.proofs.AppendLaws.{Appends-start, Appends-more, Appends-all, Appends-end}
+use Rattle.clauses.specs.Inside.{Appends, clause_piece}
+use borrow.Author.Rules.{rules}
+use Rattle.clauses.proofs.write_arrow.Goals as goal
+
+pub loop-k-init : goal.loop-k-init
+loop-k-init c = (omega arith, Appends-start (clause_piece c.args.line.now c.args.from c.args.n) c.args.at 2050 c.args.out.now)
+
+pub loop-k-preserved : goal.loop-k-preserved
+loop-k-preserved c = (omega (arith, c.loop-k-test.true), Appends-more (clause_piece c.args.line.now c.args.from c.args.n) c.loop-k.k c.loop-k.invariant.1 c.put_clause-end.ensures)

@@ -1,0 +1,15 @@
+-- `clauses::write_given` meets its contract.
+-- Assumes nothing.
+use Prim.Native.Nat.{◌-◌, ◌*◌, ◌≤◌}
+use native.Mathlib.Omega.{arith}
+use borrow.Author.Rules.{rules}
+use Rattle.grid.specs.Lists.{flat_map, upto}
+use Rattle.clauses.specs.Inside.{Appends, given_piece}
+use Rattle.clauses.proofs.AppendLaws.{Appends-start, Appends-more, Appends-all, Appends-end}
+use Rattle.clauses.proofs.write_given.Goals as goal
+
+pub loop-i-init : goal.loop-i-init
+loop-i-init c = (omega arith, Appends-start (given_piece c.args.codes.now) c.args.at 4 c.args.out.now)
+
+pub loop-i-preserved : goal.loop-i-preserved
+loop-i-preserved c = (omega (arith, c.loop-i-test.true), Appends-more (given_piece c.args.codes.now) c.loop-i.i c.loop-i.invariant.1 c.put_given-end.ensures)

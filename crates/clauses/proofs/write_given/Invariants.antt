@@ -1,0 +1,13 @@
+use Prim.Native.Nat.{◌-◌, ◌*◌, ◌≤◌}
+use native.Mathlib.Omega.{arith}
+use borrow.Author.Rules.{rules}
+use Rattle.grid.specs.Lists.{flat_map, upto}
+use Rattle.clauses.specs.Inside.{Appends, given_piece}
+use Rattle.clauses.proofs.AppendLaws.{Appends-start, Appends-more, Appends-all, Appends-end}
+use Rattle.clauses.proofs.write_given.Given as goal
+
+abbrev pub invariant-loop-i : goal.invariant-loop-i
+invariant-loop-i l = (l.i ≤ l.n) × Appends l.at (l.i * 4) (flat_map (given_piece l.codes) (upto l.i)) l.initial.out l.out l.end
+
+abbrev pub decreases-loop-i : goal.decreases-loop-i
+decreases-loop-i l = l.n - l.i

@@ -1,0 +1,15 @@
+-- `clauses::write_others` meets its contract.
+-- Assumes nothing.
+use Prim.Native.Nat.{◌-◌, ◌*◌, ◌≤◌}
+use native.Mathlib.Omega.{arith}
+use Rattle.grid.specs.Lists.{flat_map, upto}
+use Rattle.clauses.proofs.AppendLaws.{Appends-start, Appends-more, Appends-all, Appends-end}
+use Rattle.clauses.specs.Inside.{Appends, other_piece}
+use borrow.Author.Rules.{rules}
+use Rattle.clauses.proofs.write_others.Goals as goal
+
+pub loop-t-init : goal.loop-t-init
+loop-t-init c = (omega arith, Appends-start (other_piece c.args.line.now c.args.from c.args.k) c.args.at 2 c.args.out.now)
+
+pub loop-t-preserved : goal.loop-t-preserved
+loop-t-preserved c = (omega (arith, c.loop-t-test.true), Appends-more (other_piece c.args.line.now c.args.from c.args.k) c.loop-t.t c.loop-t.invariant.1 c.put_other-end.ensures)

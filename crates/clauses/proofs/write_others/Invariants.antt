@@ -1,0 +1,13 @@
+use Prim.Native.Nat.{◌-◌, ◌*◌, ◌≤◌}
+use native.Mathlib.Omega.{arith}
+use Rattle.grid.specs.Lists.{flat_map, upto}
+use Rattle.clauses.proofs.AppendLaws.{Appends-start, Appends-more, Appends-all, Appends-end}
+use Rattle.clauses.specs.Inside.{Appends, other_piece}
+use borrow.Author.Rules.{rules}
+use Rattle.clauses.proofs.write_others.Given as goal
+
+abbrev pub invariant-loop-t : goal.invariant-loop-t
+invariant-loop-t l = (l.t ≤ l.n) × Appends l.at (l.t * 2) (flat_map (other_piece l.line l.from l.k) (upto l.t)) l.initial.out l.out l.end
+
+abbrev pub decreases-loop-t : goal.decreases-loop-t
+decreases-loop-t l = l.n - l.t

@@ -1,0 +1,15 @@
+-- `clauses::write_pairs` meets its contract.
+-- Assumes nothing.
+use Prim.Native.Nat.{◌-◌, ◌*◌, ◌≤◌}
+use native.Mathlib.Omega.{arith}
+use Rattle.grid.specs.Lists.{flat_map, upto}
+use Rattle.clauses.proofs.AppendLaws.{Appends-most, Appends-start, Appends-more, Appends-all, Appends-end}
+use Rattle.clauses.specs.Inside.{Appends, with_piece}
+use borrow.Author.Rules.{rules}
+use Rattle.clauses.proofs.write_pairs.Goals as goal
+
+pub loop-a-init : goal.loop-a-init
+loop-a-init c = (omega arith, Appends-start (with_piece c.args.i c.args.cells.now) c.args.at 32 c.args.out.now)
+
+pub loop-a-preserved : goal.loop-a-preserved
+loop-a-preserved c = (omega (arith, c.loop-a-test.true), Appends-more (with_piece c.args.i c.args.cells.now) c.loop-a.a c.loop-a.invariant.1 (Appends-most 32 (omega (arith, c.loop-a-test.true, c.requires.1)) c.write_with-end.ensures))

@@ -1,0 +1,13 @@
+use Prim.Native.Nat.{◌-◌, ◌*◌, ◌≤◌}
+use native.Mathlib.Omega.{arith}
+use Rattle.grid.specs.Lists.{flat_map, upto}
+use Rattle.clauses.proofs.AppendLaws.{Appends-most, Appends-start, Appends-more, Appends-all, Appends-end}
+use Rattle.clauses.specs.Inside.{Appends, with_piece}
+use borrow.Author.Rules.{rules}
+use Rattle.clauses.proofs.write_pairs.Given as goal
+
+abbrev pub invariant-loop-a : goal.invariant-loop-a
+invariant-loop-a l = (l.a ≤ l.count) × Appends l.at (l.a * 32) (flat_map (with_piece l.i l.cells) (upto l.a)) l.initial.out l.out l.end
+
+abbrev pub decreases-loop-a : goal.decreases-loop-a
+decreases-loop-a l = l.count - l.a

@@ -1,0 +1,10 @@
+-- `clauses::write_sheet` meets its contract.
+-- Assumes nothing.
+use native.Mathlib.Omega.{arith}
+use Rattle.grid.proofs.SideLaws.{area}
+use Rattle.clauses.proofs.AppendLaws.{Appends-end, sheet_Appends}
+use borrow.Author.Rules.{rules}
+use Rattle.clauses.proofs.write_sheet.Goals as goal
+
+pub returns : goal.returns
+returns c = sheet_Appends c.args.codes.now c.args.marks.now c.requires c.write_given-a.ensures c.write_touching-b.ensures c.write_between-c.ensures c.write_arrows.ensures

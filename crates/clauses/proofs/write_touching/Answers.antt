@@ -1,0 +1,17 @@
+-- `clauses::write_touching` meets its contract.
+-- Assumes nothing.
+use Prim.Native.Nat.{◌-◌, ◌*◌, ◌≤◌}
+use native.Mathlib.Omega.{arith}
+use Rattle.grid.specs.Lists.{flat_map, upto}
+use Rattle.grid.specs.Side.{sized}
+use Rattle.grid.proofs.SideLaws.{area}
+use Rattle.clauses.proofs.AppendLaws.{Appends-start, Appends-more, Appends-all, Appends-end}
+use Rattle.clauses.specs.Inside.{Appends, touching_piece}
+use borrow.Author.Rules.{rules}
+use Rattle.clauses.proofs.write_touching.Goals as goal
+
+pub loop-i-init : goal.loop-i-init
+loop-i-init c = (omega arith, Appends-start (touching_piece c.args.marks.now (sized c.args.h c.args.w)) c.args.at 12 c.args.out.now)
+
+pub loop-i-preserved : goal.loop-i-preserved
+loop-i-preserved c = (omega (arith, c.loop-i-test.true), Appends-more (touching_piece c.args.marks.now (sized c.args.h c.args.w)) c.loop-i.i c.loop-i.invariant.1 c.touching_at-end.ensures)

@@ -1,0 +1,17 @@
+use Prim.Native.Nat.{◌-◌, ◌*◌, ◌≤◌}
+use native.Mathlib.Omega.{arith}
+use mathlib.Core.Path.{◌≡◌}
+use mathlib.Core.List.{[], ◌∷◌}
+use Rattle.grid.specs.Lists.{flat_map, upto}
+use Rattle.clauses.proofs.AppendLaws.{Appends-is, Appends-start, Appends-more, Appends-all, Appends-end}
+use Rattle.clauses.specs.Clauses.{between, clause_bytes}
+use Rattle.clauses.specs.Inside.{Appends}
+use Rattle.clauses.proofs.NearLaws.{map_pieces, same_between}
+use borrow.Author.Rules.{rules}
+use Rattle.clauses.proofs.write_with.Given as goal
+
+abbrev pub invariant-loop-b : goal.invariant-loop-b
+invariant-loop-b l = (l.b ≤ l.a) × Appends l.at (l.b * 8) (flat_map (λ q. clause_bytes (between l.i l.cells l.a q)) (upto l.b)) l.initial.out l.out l.end
+
+abbrev pub decreases-loop-b : goal.decreases-loop-b
+decreases-loop-b l = l.a - l.b

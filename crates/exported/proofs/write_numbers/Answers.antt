@@ -1,0 +1,17 @@
+-- `exported::write_numbers` meets its contract: the numbers passed stand as bytes, and behind them nothing changed.
+-- Assumes nothing.
+use Prim.Native.Nat.{ℕ, ◌-◌, ◌*◌, ◌≤◌}
+use native.Mathlib.Omega.{arith}
+use mathlib.Core.Path.{◌≡◌, ap, ◌∙◌}
+use mathlib.Core.List.{◌++◌}
+use borrow.Author.Rules.{rules}
+use lib.ListN.{length, take, drop, length-set}
+use Rattle.exported.specs.Written.{bytes_of}
+use Rattle.exported.proofs.OutputLaws.{write_next, written_length, written_none}
+use Rattle.exported.proofs.write_numbers.Goals as goal
+
+pub loop-k-init : goal.loop-k-init
+loop-k-init c = (search rules, written_none c.args.numbers.now c.args.output.now)
+
+pub loop-k-preserved : goal.loop-k-preserved
+loop-k-preserved c = (search rules, rw c.loop-k.invariant.1 (write_next c.args.numbers.now c.args.output.now c.loop-k.k (omega arith) (omega arith)))

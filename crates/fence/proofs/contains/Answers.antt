@@ -1,0 +1,13 @@
+-- `fence::contains` meets its contract: the index stands at its place or nowhere.
+-- Assumes nothing.
+use mathlib.Core.Path.{sym}
+use native.Mathlib.Omega.{arith}
+use Rattle.fence.proofs.Fences.{there_not, there_by}
+use borrow.Author.Rules.{rules}
+use Rattle.fence.proofs.contains.Goals as goal
+
+pub returns-then-count-p : goal.returns-then-count-p
+returns-then-count-p c = λ kinds base n t o l. sym (there_not o _ l _ c.place-p.ensures (λ h. absurd (omega (arith, h, c.if-count-p.true))))
+
+pub returns : goal.returns
+returns c = λ kinds base n t o l. there_by o _ l _ c.place-p.ensures c.if-count-p.false

@@ -1,0 +1,9 @@
+-- `fence::insert_cell` meets its contract: a cell of the arrow block is inserted, another is not.
+-- Assumes nothing.
+use borrow.Author.Tests.{ne_eqb}
+use Rattle.fence.proofs.Fences.{none_added, cell_off, cell_added}
+use borrow.Author.Rules.{rules}
+use Rattle.fence.proofs.insert_cell.Goals as goal
+
+pub returns : goal.returns
+returns c = λ base n t l o. cell_added c.args.kinds.now c.args.owners.now c.args.e c.args.i c.if-kinds-i-ne1.false c.if-owners-i.false l o c.insert.ensures

@@ -1,0 +1,51 @@
+-- `fence::insert_disturbing_blocks` meets its contract: the other arrow blocks of the neighbours in the directions passed are inserted.
+-- Assumes nothing.
+use Prim.Native.Nat.{ℕ, ◌≤◌, ◌-◌, ◌*◌}
+use mathlib.Core.Path.{sym, ◌∙◌}
+use mathlib.Core.Logic.{⊎_elim}
+use mathlib.Core.Bool.{Bool, ◌||◌}
+use mathlib.Core.List.{List}
+use native.Mathlib.Omega.{arith}
+use borrow.Author.Rules.{rules}
+use Rattle.grid.specs.Side.{sized}
+use Rattle.grid.proofs.SideLaws.{in_place, some_wide}
+use Rattle.grid.proofs.AroundLaws.{gathered, side_cell, side_at, side_off, sides_none, sides_all}
+use Rattle.fence.specs.Inside.{Ordered, Whole}
+use Rattle.fence.proofs.Fences.{none_added, in_disturbing_among, Whole-disturbing, disturbing_among_none, disturbing_among_more}
+use Rattle.fence.proofs.insert_disturbing_blocks.Goals as goal
+use Rattle.fence.proofs.insert_disturbing_blocks.Invariants.{Added}
+use Rattle.fence.proofs.insert_disturbing_blocks.Goals.{in-At, in-Off}
+
+pub loop-k-init : goal.loop-k-init
+loop-k-init c =
+    let a = c.args in
+    (omega arith, λ base t whole. sides_none (Added a.kinds.now a.owners.now (a.h * a.w) base a.part.now a.count a.f t a.part.now a.count) _ _ (none_added t _ (disturbing_among_none a.kinds.now a.owners.now a.f)))
+
+pub insert_disturbing_block-total-requires : goal.insert_disturbing_block-total-requires
+insert_disturbing_block-total-requires c =
+    let p = c.requires.1 in (
+      (side_cell c.requires.0 c.loop-k.k c.toward-side.result c.toward-side.ensures _ c.in-At.is).within,
+      record {
+        base = p.base;
+        test = _;
+        ordered = c.loop-k.invariant.1 p.base p.test p.whole p.ordered;
+        whole = Whole-disturbing c.args.kinds.now c.args.owners.now c.args.f p.test _ p.whole;
+      },
+    )
+
+pub loop-k-preserved : goal.loop-k-preserved
+loop-k-preserved c =
+    let a = c.args in (
+      omega (arith, c.loop-k-test.true),
+      λ base t whole. elim c.match-side.branch [
+        | in-At v ↦ side_at c.requires.0 c.loop-k.k c.toward-side.result c.toward-side.ensures (Added a.kinds.now a.owners.now (a.h * a.w) base a.part.now a.count a.f t c.match-side.part c.match-side.total) _ v.in-At.is
+            (λ o. rw (v.part-is, v.total-is) (disturbing_among_more a.kinds.now a.owners.now a.f t _ _ (v.insert_disturbing_block-total.ensures base _ (Whole-disturbing a.kinds.now a.owners.now a.f t _ whole) (c.loop-k.invariant.1 base t whole o))))
+        | in-Off v ↦ side_off c.requires.0 c.loop-k.k c.toward-side.result c.toward-side.ensures (Added a.kinds.now a.owners.now (a.h * a.w) base a.part.now a.count a.f t c.match-side.part c.match-side.total) v.in-Off.is
+            (λ o. rw (v.part-is, v.total-is) (c.loop-k.invariant.1 base t whole o))
+      ],
+    )
+
+pub returns : goal.returns
+returns c =
+    let a = c.args in
+    λ base t whole. sides_all (Added a.kinds.now a.owners.now (a.h * a.w) base a.part.now a.count a.f t c.loop-k.part c.loop-k.total) (sized a.h a.w) a.i c.loop-k.k c.loop-k.invariant.0 c.loop-k-test.false (c.loop-k.invariant.1 base t whole)

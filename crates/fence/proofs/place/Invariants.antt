@@ -1,0 +1,13 @@
+use Prim.Native.Nat.{◌≤◌, ◌<◌, ◌+◌, ◌-◌, ◌/◌}
+use mathlib.Core.Path.{◌≡◌}
+use borrow.Author.Rules.{rules}
+use native.Mathlib.Omega.{arith}
+use lib.ListN.{get_or}
+use Rattle.fence.specs.Inside.{key}
+use Rattle.fence.proofs.place.Given as goal
+
+abbrev pub invariant-loop-low : goal.invariant-loop-low
+invariant-loop-low l = (l.low ≤ l.high) × (l.high ≤ l.count) × (0 < l.low → key (get_or l.part (l.low - 1) 0) < key l.lit) × (l.high < l.count → key l.lit ≤ key (get_or l.part l.high 0))
+
+abbrev pub decreases-loop-low : goal.decreases-loop-low
+decreases-loop-low l = l.high - l.low

@@ -1,0 +1,40 @@
+-- `fence::touches_marked` meets its contract: no neighbour in the directions passed is marked.
+-- Assumes nothing.
+use Prim.Native.Nat.{ℕ, ◌≤◌, ◌-◌}
+use mathlib.Core.Path.{◌≡◌}
+use mathlib.Core.Logic.{⊎_elim}
+use mathlib.Core.Bool.{false}
+use mathlib.Core.List.{List}
+use native.Mathlib.Omega.{arith}
+use borrow.Author.Rules.{rules}
+use lib.Dec.{eqb}
+use lib.ListN.{get_or}
+use Rattle.grid.specs.Lists.{any}
+use Rattle.grid.specs.Side.{sized}
+use Rattle.grid.proofs.SideLaws.{in_place, cell_small, some_wide}
+use Rattle.grid.proofs.AroundLaws.{gathered, side_Adjacent, side_cell, side_at, side_off, sides_none, sides_all}
+use Rattle.fence.proofs.Fences.{touch_none, touch_more, touch_hit, touch_end}
+use Rattle.fence.proofs.touches_marked.Goals as goal
+use Rattle.fence.proofs.touches_marked.Invariants.{Untouched}
+use Rattle.fence.proofs.touches_marked.Goals.{in-At+else-marks-j-eq1, in-Off}
+
+pub loop-k-init : goal.loop-k-init
+loop-k-init c = (omega arith, sides_none (Untouched c.args.marks.now) _ _ (touch_none c.args.marks.now))
+
+pub bounds-marks-j : goal.bounds-marks-j
+bounds-marks-j c = cell_small (side_cell c.requires c.loop-k.k c.toward-side.result c.toward-side.ensures _ c.in-At.is)
+
+pub returns-then-marks-j-eq1 : goal.returns-then-marks-j-eq1
+returns-then-marks-j-eq1 c = touch_hit c.args.marks.now _ _ _ (side_Adjacent c.requires c.loop-k.k c.toward-side.result c.toward-side.ensures _ c.in-At.is).1 c.if-marks-j-eq1.true
+
+pub loop-k-preserved : goal.loop-k-preserved
+loop-k-preserved c =
+    let marks = c.args.marks.now in (
+      omega (arith, c.loop-k-test.true),
+      elim c.match-side.branch [ in-At+else-marks-j-eq1 v ↦ side_at c.requires c.loop-k.k c.toward-side.result c.toward-side.ensures (Untouched marks) _ v.in-At.is (touch_more marks _ _ c.loop-k.invariant.1 v.if-marks-j-eq1.false) | in-Off v ↦ side_off c.requires c.loop-k.k c.toward-side.result c.toward-side.ensures (Untouched marks) v.in-Off.is c.loop-k.invariant.1 ],
+    )
+
+pub returns : goal.returns
+returns c =
+    let a = c.args in
+    touch_end a.marks.now _ _ (sides_all (Untouched a.marks.now) (sized a.h a.w) a.i c.loop-k.k c.loop-k.invariant.0 c.loop-k-test.false c.loop-k.invariant.1)

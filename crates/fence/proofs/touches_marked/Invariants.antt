@@ -1,0 +1,25 @@
+use Prim.Native.Nat.{ℕ, ◌≤◌, ◌-◌}
+use mathlib.Core.Path.{◌≡◌}
+use mathlib.Core.Logic.{⊎_elim}
+use mathlib.Core.Bool.{false}
+use mathlib.Core.List.{List}
+use native.Mathlib.Omega.{arith}
+use borrow.Author.Rules.{rules}
+use lib.Dec.{eqb}
+use lib.ListN.{get_or}
+use Rattle.grid.specs.Lists.{any}
+use Rattle.grid.specs.Side.{sized}
+use Rattle.grid.proofs.SideLaws.{in_place, cell_small, some_wide}
+use Rattle.grid.proofs.AroundLaws.{gathered, side_Adjacent, side_cell, side_at, side_off, sides_none, sides_all}
+use Rattle.fence.proofs.Fences.{touch_none, touch_more, touch_hit, touch_end}
+use Rattle.fence.proofs.touches_marked.Given as goal
+
+-- none of the cells is marked
+abbrev pub Untouched : List ℕ → List ℕ → Type 0
+Untouched marks l = any (λ j. eqb (get_or marks j 0) 1) l ≡ false
+
+abbrev pub invariant-loop-k : goal.invariant-loop-k
+invariant-loop-k l = (l.k ≤ 4) × Untouched l.marks (gathered (sized l.h l.w) l.i l.k)
+
+abbrev pub decreases-loop-k : goal.decreases-loop-k
+decreases-loop-k l = 4 - l.k

@@ -1,0 +1,25 @@
+-- `file::read_solution` meets its contract: the first i cells are in the array.
+-- Assumes nothing.
+use Prim.Native.Nat.{ℕ, ◌+◌, ◌-◌, ◌*◌, ◌≤◌}
+use native.Mathlib.Omega.{arith}
+use mathlib.Core.Path.{◌≡◌, ap, ◌∙◌}
+use mathlib.Core.List.{List}
+use lib.ListN.{drop, set}
+use borrow.Author.Rules.{rules}
+use Rattle.grid.specs.Lists.{upto, range, array_of}
+use Rattle.fields.proofs.OutcomeLaws.{number-lt}
+use Rattle.file.specs.File.{solution_in}
+use Rattle.file.proofs.AnswerLaws.{solution_more}
+use Rattle.file.proofs.read_solution.Goals as goal
+
+pub loop-i-init : goal.loop-i-init
+unfolding range solution_in upto
+loop-i-init c = (omega arith, c.requires.2)
+
+pub overflow_cast-cells : goal.overflow_cast-cells
+overflow_cast-cells c =
+    let a = c.args in
+    omega (arith, c.number_at.ensures, number-lt a.file.now (8 * a.from + 3 + c.loop-i.i) 1)
+
+pub loop-i-preserved : goal.loop-i-preserved
+loop-i-preserved c = (omega arith, ap (λ (x : List ℕ). set x c.loop-i.i c.number_at.result) c.loop-i.invariant.1 ∙ solution_more c.args.file.now c.args.from c.loop-i.i (omega arith) c.number_at.ensures)

@@ -1,0 +1,43 @@
+-- `finished::two_on_each` meets its contract: `good` says of the arrows passed that two squares or more stand on each.
+-- Assumes nothing.
+use Prim.Native.Nat.{ℕ, ◌-◌, ◌<◌}
+use native.Mathlib.Omega.{arith}
+use mathlib.Core.Logic.{⊎_elim}
+use mathlib.Core.Path.{◌≡◌, refl, sym, ◌∙◌}
+use mathlib.Core.Bool.{◌&&◌}
+use mathlib.Core.List.{List}
+use lib.ListN.{length, get_or, take, drop}
+use lib.Seq.{length-take-le, get_or-take}
+use borrow.Author.Rules.{rules}
+use Rattle.grid.specs.Lists.{all}
+use Rattle.grid.specs.Cells.{square}
+use Rattle.grid.proofs.ArrowSquares.{ahead, has_two, lacks_two}
+use Rattle.record.specs.Problem.{arrows_from}
+use Rattle.form.proofs.Steps.{arrows_on, arrows_fail, arrows_end}
+use Rattle.groups.specs.Arrays.{lines_of}
+use Rattle.finished.specs.Finished.{two_squares}
+use Rattle.finished.proofs.two_on_each.Goals as goal
+use Rattle.finished.proofs.two_on_each.Goals.{else-squares_on-lt2, then-squares_on-lt2}
+
+pub loop-a-preserved : goal.loop-a-preserved
+unfolding two_squares
+loop-a-preserved c =
+    let cuts-length : length (take c.args.number c.args.ends.now) ≡ c.args.number = length-take-le c.args.number c.args.ends.now c.requires.1.ends_long in
+    let within = c.loop-a-test.true in
+    let cells = c.args.cells.now in
+    let arrows = c.args.arrows.now in
+    let ends = c.args.ends.now in
+    let end : get_or (take c.args.number c.args.ends.now) c.loop-a.a 0 ≡ c.wide-to.result = get_or-take c.args.number ends c.loop-a.a 0 within ∙ sym c.wide-to.ensures.0 in
+    let counted : c.squares_on.result ≡ ahead (square cells) arrows (get_or ends c.loop-a.a 0) c.loop-a.from = rw c.wide-to.ensures.0 at c.squares_on.ensures in
+    let lt : c.loop-a.a < length (take c.args.number c.args.ends.now) = omega (arith, cuts-length, within) in
+    elim c.if-squares_on-lt2.branch [
+      | then-squares_on-lt2 w ↦ rw w.good-is
+          (arrows_fail (two_squares cells) arrows (take c.args.number c.args.ends.now) c.loop-a.good c.loop-a.from c.loop-a.a lt c.loop-a.invariant (lacks_two (square cells) arrows ends c.args.number c.loop-a.from c.loop-a.a within counted w.if-squares_on-lt2.true))
+      | else-squares_on-lt2 w ↦ rw (w.good-is, ← end)
+          (arrows_on (two_squares cells) arrows (take c.args.number c.args.ends.now) c.loop-a.good c.loop-a.from c.loop-a.a lt c.loop-a.invariant (has_two (square cells) arrows ends c.args.number c.loop-a.from c.loop-a.a within counted w.if-squares_on-lt2.false))
+    ]
+
+pub returns : goal.returns
+returns c =
+    let cuts-length : length (take c.args.number c.args.ends.now) ≡ c.args.number = length-take-le c.args.number c.args.ends.now c.requires.1.ends_long in
+    arrows_end (two_squares c.args.cells.now) c.args.arrows.now (take c.args.number c.args.ends.now) c.loop-a.good c.loop-a.from c.loop-a.a (omega (arith, cuts-length, c.loop-a-test.false)) c.loop-a.invariant

@@ -1,0 +1,28 @@
+use Prim.Native.Nat.{ℕ, ◌≤◌, ◌<◌, ◌-◌}
+use native.Mathlib.Omega.{arith}
+use mathlib.Core.Logic.{⊎_elim}
+use mathlib.Core.Path.{◌≡◌, refl, sym, ◌∙◌}
+use mathlib.Core.Bool.{Bool, ◌&&◌}
+use mathlib.Core.List.{List}
+use borrow.Author.Rules.{rules}
+use borrow.Author.Tests.{not-true, not-false}
+use lib.ListN.{length, get_or, take, drop}
+use Rattle.grid.specs.Lists.{member}
+use Rattle.grid.specs.Grid.{Grid, size, neighbours}
+use Rattle.form.specs.Form.{walks, is_path}
+use Rattle.form.specs.Inside.{Suits, Below}
+use Rattle.form.proofs.Steps.{walk_start, walk_on, walk_fail, walk_end}
+use Rattle.form.proofs.follows.Given as goal
+
+-- amid the walk: i is the cell passed last
+pub record Amid (line starts : List ℕ) (w at end : ℕ) (good : Bool) (i k : ℕ) : Type 0 where
+  pub prev : ℕ
+  pub within : prev < end
+  pub is : i ≡ get_or line prev 0
+  pub same : (g : Grid) → Suits g w starts → Below end (size g) line → is_path g (take (end - at) (drop at line)) ≡ (good && walks g i (take (end - k) (drop k line)))
+
+abbrev pub invariant-loop-k : goal.invariant-loop-k
+invariant-loop-k l = Amid l.line l.starts l.w l.at l.end l.good l.i l.k
+
+abbrev pub decreases-loop-k : goal.decreases-loop-k
+decreases-loop-k l = l.end - l.k

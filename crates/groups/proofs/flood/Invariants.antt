@@ -1,0 +1,31 @@
+use Prim.Native.Nat.{ℕ, ◌+◌, ◌-◌, ◌*◌, ◌≤◌, ◌<◌}
+use native.Mathlib.Omega.{arith}
+use mathlib.Core.Path.{◌≡◌, refl, ap}
+use mathlib.Core.Bool.{Bool, true}
+use mathlib.Core.List.{List}
+use lib.ListN.{get_or, set}
+use Rattle.grid.specs.Grid.{Grid, size}
+use Rattle.grid.specs.Side.{sized}
+use Rattle.grid.proofs.SideLaws.{area}
+use Rattle.grid.proofs.ArrayLaws.{how_many-le}
+use Rattle.groups.specs.Arrays.{marked}
+use Rattle.groups.specs.Flood.{unlabelled, free, Only, Flooding}
+use Rattle.groups.specs.Table.{Counting}
+use Rattle.groups.proofs.GroupLaws.{linked_size}
+use Rattle.groups.proofs.CountLaws.{Offered-counts, counted, labelled_none, Counting-none, Counting-all, Counting-few}
+use Rattle.groups.proofs.FloodLaws.{Offered-labelled, flood_starts, flood_ends, Walked-none}
+use borrow.Author.Rules.{rules}
+use Rattle.groups.proofs.flood.Given as goal
+
+pub record Amid (g : Grid) (s : ℕ) (cells onarrow L₁ st₁ : List ℕ) (c₁ : ℕ) (L st : List ℕ) (c ones crossed : ℕ) : Type 0 where
+  pub keeps : (p : ℕ → Bool) (L₀ : List ℕ) → Flooding g p s L₀ 1024 L₁ st₁ c₁ → Flooding g p s L₀ 1024 L st c
+  pub stays : (get_or L₁ s 0 ≡ unlabelled → ⊥) → get_or L s 0 ≡ unlabelled → ⊥
+  pub squares : Counting s (marked cells) L st c ones
+  pub crossings : Counting s (marked onarrow) L st c crossed
+
+abbrev pub invariant-loop-count : goal.invariant-loop-count
+invariant-loop-count l =
+    Amid (sized l.h l.w) l.s l.cells l.onarrow l.initial.labels l.initial.stack l.initial.count l.labels l.stack l.count l.ones l.crossed
+
+abbrev pub decreases-loop-count : goal.decreases-loop-count
+decreases-loop-count l = 2 * free l.labels + l.count

@@ -1,0 +1,21 @@
+-- `groups::mark_arrow_cells` meets its contract: the cells passed are marked.
+-- Assumes nothing.
+use Prim.Native.Nat.{◌≤◌, ◌-◌}
+use native.Mathlib.Omega.{arith}
+use mathlib.Core.Path.{◌≡◌}
+use lib.ListN.{take}
+use borrow.Author.Rules.{rules}
+use Rattle.grid.specs.Lists.{any, member}
+use Rattle.grid.specs.Marks.{Marks}
+use Rattle.grid.proofs.MarkLaws.{Marks-none, Marks-next}
+use Rattle.groups.proofs.mark_arrow_cells.Goals as goal
+
+pub loop-k-init : goal.loop-k-init
+unfolding any member
+loop-k-init c = (omega arith, Marks-none)
+
+pub loop-k-preserved : goal.loop-k-preserved
+loop-k-preserved c =
+    let k = c.loop-k.k in
+    let v = c.loop-k.invariant in
+    (omega arith, rw c.wide-i.ensures.0 (Marks-next c.args.arrows.now k (omega (arith, c.requires.long)) (c.requires.cells k c.loop-k-test.true) v.1))

@@ -1,0 +1,12 @@
+-- `groups::mark_check_cells` meets its contract: the cells passed are told.
+-- Assumes nothing.
+use Prim.Native.Nat.{◌≤◌, ◌-◌}
+use mathlib.Core.Path.{◌≡◌}
+use native.Mathlib.Omega.{arith}
+use Rattle.groups.specs.Arrays.{counts}
+use Rattle.groups.specs.Flood.{Marked}
+use Rattle.groups.proofs.FloodLaws.{Marked-none, Marked-more}
+use Rattle.groups.proofs.mark_check_cells.Goals as goal
+
+pub loop-i-init : goal.loop-i-init
+loop-i-init c = (omega arith, rw c.requires.1 (Marked-none _))

@@ -1,0 +1,19 @@
+use borrow.Author.Rules.{rules}
+use Prim.Native.Nat.{◌-◌, ◌*◌, ◌<◌}
+use native.Mathlib.Omega.{arith}
+use mathlib.Core.Path.{◌≡◌}
+use lib.ListN.{length, take}
+use Rattle.grid.specs.Side.{sized}
+use Rattle.grid.specs.Cells.{square}
+use Rattle.grid.proofs.GridLaws.{size_most}
+use Rattle.groups.specs.Arrays.{counts, marked, Names}
+use Rattle.groups.proofs.TableLaws.{table_few}
+use Rattle.groups_replay.specs.Blocks.{Computed}
+use Rattle.groups_replay.proofs.rounds.label_in_rounds.Given as goal
+
+abbrev pub invariant-loop-i : goal.invariant-loop-i
+invariant-loop-i l =
+    (Names l.firsts l.number × (length l.squares ≡ 1024) × (length l.arrowed ≡ 1024)) × (0 < l.i → Computed (sized l.h l.w) (counts l.is_potential (take (l.h * l.w) l.cells)) (square (take (l.h * l.w) l.cells)) (marked l.onarrow) l.names l.squares l.arrowed)
+
+abbrev pub decreases-loop-i : goal.decreases-loop-i
+decreases-loop-i l = l.rounds - l.i

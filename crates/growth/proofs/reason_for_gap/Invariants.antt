@@ -1,0 +1,27 @@
+use mathlib.Core.Path.{refl}
+use Prim.Native.Nat.{ℕ, ◌-◌, ◌≤◌, max}
+use native.Mathlib.Omega.{arith}
+use mathlib.Core.List.{List}
+use lib.ListN.{get_or}
+use lib.Seq.{slice}
+use borrow.Author.Rules.{rules}
+use Rattle.grid.specs.Lists.{filter}
+use Rattle.grid.proofs.SliceLaws.{slice_more, slice_none, slice_all, slice_short}
+use Rattle.grid.specs.Cells.{empty}
+use Rattle.literals.specs.Literals.{each}
+use Rattle.literals.specs.Inside.{Wrote}
+use Rattle.literals.proofs.BufferLaws.{wrote_length}
+use Rattle.literals.proofs.Pass.{pass_none, pass_count, pass_more}
+use Rattle.growth.proofs.reason_for_gap.Given as goal
+
+-- the empty cells at the places up to k are written
+pub record Amid (cells arrows : List ℕ) (from to : ℕ) (before after : List ℕ) (count k : ℕ) : Type 0 where
+  pub low : from ≤ k
+  pub high : k ≤ max from to
+  pub wrote : Wrote (each 0 (filter (empty cells) (slice from k arrows))) before after count
+
+abbrev pub invariant-loop-k : goal.invariant-loop-k
+invariant-loop-k l = Amid l.cells l.arrows l.from l.to l.initial.buffer l.buffer l.count l.k
+
+abbrev pub decreases-loop-k : goal.decreases-loop-k
+decreases-loop-k l = l.to - l.k

@@ -1,0 +1,19 @@
+-- `host_shades::shade_on` meets its contract: the shades are written number by number.
+-- Assumes nothing.
+use Prim.Native.Nat.{ℕ, ◌*◌, ◌≤◌}
+use native.Mathlib.Omega.{arith}
+use mathlib.Core.Path.{◌≡◌, sym, ap, ◌∙◌}
+use lib.ListN.{length, take, length-replicate}
+use mir.Syntax.{w32}
+use mir.ValLaws.{to_z-of_z}
+use Rattle.grid.specs.Grid.{size}
+use Rattle.grid.specs.Side.{sized}
+use Rattle.grid.proofs.SideLaws.{area}
+use Rattle.host_shades.proofs.ShadedLaws.{shades_long, shades_Told}
+use borrow.Author.Rules.{rules}
+use Rattle.host_shades.proofs.shade_on.Goals as goal
+
+pub returns : goal.returns
+unfolding size
+returns c = shades_Told (sized c.args.h c.args.w) (take (c.args.h * c.args.w) c.args.cells.now) _ _ c.args.output.now _ c.shade_cells.ensures c.write_numbers.ensures
+    (to_z-of_z w32 c.counted.result (record { sfits = c.counted.type_inv }) ∙ c.counted.ensures)

@@ -1,0 +1,58 @@
+-- `kinds::traverse_grid` meets its contract: the cells with no group become fewer with each call, and the walks from the neighbours in the directions passed are done.
+-- Assumes nothing.
+use native.Mathlib.Omega.{arith}
+use mathlib.Core.Logic.{⊎_elim}
+use borrow.Author.Rules.{rules}
+use lib.ListN.{set}
+use mathlib.Core.Path.{refl}
+use mathlib.Core.Bool.{Bool, true, So}
+use Prim.Native.Nat.{◌≤◌, ◌-◌, ℕ, ◌<◌}
+use Rattle.grid.specs.Side.{sized}
+use Rattle.groups.specs.Flood.{free, Only}
+use Rattle.groups.proofs.LabellingLaws.{set_still, Added-Only}
+use Rattle.grid.proofs.ArrayLaws.{fewer_set}
+use Rattle.kinds.proofs.Traversal.{Turn, Walked-not, Turn-none, Turn-more, Turn-all}
+use Rattle.grid.proofs.SideLaws.{in_place, cell_small, some_wide}
+use Rattle.grid.proofs.AroundLaws.{gathered, side_Adjacent, side_cell, side_at, side_off, sides_none, sides_all}
+use Rattle.kinds.proofs.+traverse_grid.Goals as goal
+use Rattle.kinds.proofs.+traverse_grid.Goals.{in-At, in-Off}
+
+pub loop-k-init : goal.loop-k-init
+loop-k-init t c =
+    let named = set c.args.owners.now c.args.i c.args.name in
+    (omega arith, λ p _ _. sides_none (Turn (sized c.args.h c.args.w) p c.args.i c.args.name named named) _ _ (Turn-none c.requires.small))
+
+pub traverse_grid-requires : goal.traverse_grid-requires
+traverse_grid-requires t c =
+    let fall = fewer_set c.args.owners.now c.args.i c.args.name c.if-owners-i-ne-UNNAMED.false (λ e. omega (arith, e, c.requires.small)) (omega arith) in (
+      omega (arith, fall, c.decreases, (c.loop-k.invariant.1 (λ _. true) refl (λ _ _. refl)).fewer),
+      record { cell = side_cell c.requires.cell c.loop-k.k c.toward-side.result c.toward-side.ensures _ c.in-At.is; small = c.requires.small },
+    )
+
+pub loop-k-preserved : goal.loop-k-preserved
+loop-k-preserved t c =
+    let named = set c.args.owners.now c.args.i c.args.name in (
+      omega (arith, c.loop-k-test.true),
+      λ p o only.
+          let T = c.loop-k.invariant.1 p o only in
+          elim c.match-side.branch [
+            | in-At v ↦ side_at c.requires.cell c.loop-k.k c.toward-side.result c.toward-side.ensures (Turn (sized c.args.h c.args.w) p c.args.i c.args.name named c.match-side.owners) _ v.in-At.is
+                (rw v.owners-is (Turn-more c.requires.small o (side_Adjacent c.requires.cell c.loop-k.k c.toward-side.result c.toward-side.ensures _ v.in-At.is) (v.traverse_grid.ensures.by_index p (Added-Only T.added only)) v.traverse_grid.ensures.owners_bound T))
+            | in-Off v ↦ side_off c.requires.cell c.loop-k.k c.toward-side.result c.toward-side.ensures (Turn (sized c.args.h c.args.w) p c.args.i c.args.name named c.match-side.owners) v.in-Off.is
+                (rw v.owners-is T)
+          ],
+    )
+
+pub returns-clause-by_index : goal.returns-clause-by_index
+returns-clause-by_index t c =
+    let u = c.if-owners-i-ne-UNNAMED.false in
+    let fall = fewer_set c.args.owners.now c.args.i c.args.name u (λ e. omega (arith, e, c.requires.small)) (omega arith) in λ p only.
+    let o = only c.args.i u in
+    Turn-all c.requires.small o u
+    (sides_all (Turn (sized c.args.h c.args.w) p c.args.i c.args.name (set c.args.owners.now c.args.i c.args.name) c.loop-k.owners) (sized c.args.h c.args.w) c.args.i c.loop-k.k c.loop-k.invariant.0 c.loop-k-test.false
+    (c.loop-k.invariant.1 p o (λ j x. only j (set_still c.args.owners.now c.args.i c.args.name u j x))))
+
+pub returns-clause-owners_bound : goal.returns-clause-owners_bound
+returns-clause-owners_bound t c =
+    let u = c.if-owners-i-ne-UNNAMED.false in
+    let fall = fewer_set c.args.owners.now c.args.i c.args.name u (λ e. omega (arith, e, c.requires.small)) (omega arith) in omega (arith, fall, (c.loop-k.invariant.1 (λ _. true) refl (λ _ _. refl)).fewer)

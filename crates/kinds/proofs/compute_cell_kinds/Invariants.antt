@@ -1,0 +1,14 @@
+use Prim.Native.Nat.{◌≤◌, ◌<◌, ◌-◌, ◌*◌}
+use mathlib.Core.Path.{◌≡◌, ap, ◌∙◌}
+use native.Mathlib.Omega.{arith}
+use Rattle.grid.specs.Side.{sized}
+use Rattle.grid.proofs.SideLaws.{area}
+use Rattle.kinds.specs.Inside.{codes_in, owners_in}
+use Rattle.kinds.proofs.Filled.{codes_none, codes_more, owners_none, owners_more}
+use Rattle.kinds.proofs.compute_cell_kinds.Given as goal
+
+abbrev pub invariant-loop-i : goal.invariant-loop-i
+invariant-loop-i l = (l.i ≤ l.n) × (l.kinds ≡ codes_in l.blocks l.arrowed (sized l.h l.w) l.cells l.i) × (l.owners ≡ owners_in l.blocks l.arrowed (sized l.h l.w) l.cells l.i)
+
+abbrev pub decreases-loop-i : goal.decreases-loop-i
+decreases-loop-i l = l.n - l.i

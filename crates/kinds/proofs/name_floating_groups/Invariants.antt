@@ -1,0 +1,17 @@
+use Prim.Native.Nat.{ℕ, ◌≤◌, ◌<◌, ◌-◌, ◌*◌}
+use mathlib.Core.Bool.{Bool}
+use mathlib.Core.Logic.{⊎_elim}
+use mathlib.Core.Path.{◌≡◌}
+use native.Mathlib.Omega.{arith}
+use Rattle.grid.specs.Side.{sized}
+use Rattle.grid.proofs.SideLaws.{area}
+use Rattle.groups.specs.Flood.{Unlabelled, Sofar}
+use Rattle.groups.proofs.LabellingLaws.{Sofar-none, Sofar-more}
+use Rattle.kinds.proofs.Traversal.{Walked-not}
+use Rattle.kinds.proofs.name_floating_groups.Given as goal
+
+abbrev pub invariant-loop-i : goal.invariant-loop-i
+invariant-loop-i l = (l.i ≤ l.n) × ((p : ℕ → Bool) → Unlabelled p l.initial.owners → Sofar (sized l.h l.w) p l.initial.owners l.i l.owners)
+
+abbrev pub decreases-loop-i : goal.decreases-loop-i
+decreases-loop-i l = l.n - l.i

@@ -1,0 +1,14 @@
+-- `near::count_cell` meets its contract: a cell with an owner is counted for it.
+-- Assumes nothing.
+use Prim.Native.Nat.{◌%◌}
+use native.Mathlib.Omega.{arith}
+use lib.ListN.{get_or}
+use Rattle.reach.proofs.NearLaws.{Sizes-either, size_few}
+use borrow.Author.Rules.{rules}
+use Rattle.near.proofs.count_cell.Goals as goal
+
+pub overflow_add-size : goal.overflow_add-size
+overflow_add-size c = omega (arith, size_few c.requires.1 (get_or c.args.owners.now c.args.i 0 % 1024) (omega arith), c.requires.0)
+
+pub returns : goal.returns
+returns c = rw c.pick.ensures (Sizes-either c.requires.1)

@@ -1,0 +1,12 @@
+-- `near::count_cells` meets its contract: the cells passed are counted.
+-- Assumes nothing.
+use Prim.Native.Nat.{◌≤◌, ◌-◌}
+use mathlib.Core.Path.{◌≡◌}
+use native.Mathlib.Omega.{arith}
+use borrow.Author.Rules.{rules}
+use Rattle.reach.specs.Near.{Sizes}
+use Rattle.reach.proofs.NearLaws.{Sizes-none}
+use Rattle.near.proofs.count_cells.Goals as goal
+
+pub loop-i-init : goal.loop-i-init
+loop-i-init c = (omega arith, rw c.requires.1 (Sizes-none _ _))

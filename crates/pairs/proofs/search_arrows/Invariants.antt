@@ -1,0 +1,33 @@
+use Prim.Native.Nat.{ℕ, ◌-◌, ◌*◌, ◌≤◌, ◌<◌}
+use native.Mathlib.Omega.{arith}
+use mathlib.Core.Path.{◌≡◌, refl, ap, subst, ◌∙◌}
+use mathlib.Core.List.{List, Memᴰ}
+use lib.ListN.{length, get_or, take}
+use lib.Seq.{slice}
+use Rattle.groups.specs.Arrows.{Pair, pairs}
+use Rattle.groups.specs.Arrays.{lines_of}
+use Rattle.growth.specs.Pairs.{reason_at, view_on, Scene}
+use Rattle.shift.specs.Shift.{Work}
+use Rattle.literals.specs.Literals.{Found, first_found_of}
+use Rattle.literals.specs.Inside.{FoundAs}
+use Rattle.literals.proofs.Findings.{found_same, found_none, nothing_found, not_refused}
+use Rattle.pairs.proofs.PairSearch.{lines_from, rest_of, rest_end, rest_more, rest_found, sub_more, next_Scene, next_Line}
+use borrow.Author.Rules.{rules}
+use Rattle.pairs.proofs.search_arrows.Given as goal
+
+-- the arrows before the a-th, which starts at `from`, give no reason, and the buffer is as it was
+pub record Amid (stage : ℕ) (cells arrows ends : List ℕ) (number : ℕ) (h w : ℕ) (groups rows columns buffer₀ buffer : List ℕ) (from a : ℕ) : Type 0 where
+  pub high : a ≤ number
+  pub rise : a < number → from ≤ get_or ends a 0
+  pub work : Work groups rows columns
+  pub same : buffer ≡ buffer₀
+  pub sub : (l : List ℕ) → Memᴰ l (lines_from arrows ends number from a) → Memᴰ l (lines_of arrows ends number)
+  pub passed : rest_of (reason_at stage (view_on h w (lines_of arrows ends number) cells)) (take (h * w) cells) (lines_of arrows ends number)
+      ≡ rest_of (reason_at stage (view_on h w (lines_of arrows ends number) cells)) (take (h * w) cells) (lines_from arrows ends number from a)
+
+abbrev pub invariant-loop-a : goal.invariant-loop-a
+invariant-loop-a l =
+    Amid l.stage l.cells l.arrows l.ends l.number l.h l.w l.groups l.rows l.columns l.initial.buffer l.buffer l.from l.a
+
+abbrev pub decreases-loop-a : goal.decreases-loop-a
+decreases-loop-a l = l.number - l.a

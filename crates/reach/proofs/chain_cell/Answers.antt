@@ -1,0 +1,9 @@
+-- `reach::chain_cell` meets its contract: a cell with an owner comes in front of its owner's chain.
+-- Assumes nothing.
+use native.Mathlib.Omega.{arith}
+use Rattle.reach.proofs.ChainLaws.{chains_either}
+use borrow.Author.Rules.{rules}
+use Rattle.reach.proofs.chain_cell.Goals as goal
+
+pub returns : goal.returns
+returns c = λ n l C. rw (c.pick.ensures, c.pick-2.ensures) (chains_either c.args.owners.now n c.args.i l C)

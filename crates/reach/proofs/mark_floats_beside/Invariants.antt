@@ -1,0 +1,24 @@
+use Prim.Native.Nat.{ℕ, ◌≤◌, ◌-◌}
+use mathlib.Core.Logic.{⊎_elim}
+use mathlib.Core.Bool.{Bool, ◌||◌}
+use mathlib.Core.List.{List}
+use native.Mathlib.Omega.{arith}
+use borrow.Author.Rules.{rules}
+use borrow.Author.Tests.{ne_eqb}
+use Rattle.reach.specs.Inside.{float_among}
+use Rattle.grid.specs.Marks.{Marks}
+use Rattle.grid.specs.Side.{sized}
+use Rattle.grid.proofs.SideLaws.{in_place, cell_small, some_wide}
+use Rattle.grid.proofs.AroundLaws.{gathered, side_cell, side_at, side_off, sides_none, sides_all}
+use Rattle.reach.proofs.Counting.{near_off, near_none, near_more, near_all}
+use Rattle.reach.proofs.mark_floats_beside.Given as goal
+
+-- the floating groups of the cells js are marked too
+abbrev pub Near : List ℕ → List ℕ → List ℕ → List ℕ → (ℕ → Bool) → List ℕ → Type 0
+Near kinds owners near₀ near t js = Marks near₀ t → Marks near (λ m. t m || float_among kinds owners js m)
+
+abbrev pub invariant-loop-k : goal.invariant-loop-k
+invariant-loop-k l = (l.k ≤ 4) × ((t : ℕ → Bool) → Near l.kinds l.owners l.initial.near l.near t (gathered (sized l.h l.w) l.i l.k))
+
+abbrev pub decreases-loop-k : goal.decreases-loop-k
+decreases-loop-k l = 4 - l.k

@@ -1,0 +1,32 @@
+use Prim.Native.Nat.{ℕ, ◌-◌, ◌*◌, ◌/◌, ◌%◌, ◌≤◌, ◌<◌}
+use native.Mathlib.Omega.{arith}
+use mathlib.Core.Path.{◌≡◌, sym, ◌∙◌}
+use mathlib.Core.Bool.{Bool, false}
+use mathlib.Core.List.{List}
+use borrow.Author.Count.{below_none, below_more}
+use lib.ListN.{get_or}
+use Rattle.grid.specs.Lists.{any}
+use Rattle.grid.specs.Side.{InPlace}
+use Rattle.grid.proofs.SideLaws.{in_place}
+use Rattle.reach.specs.Chains.{cells_from}
+use Rattle.kinds.specs.Inside.{Limits}
+use Rattle.reach.specs.Inside.{reaches_at}
+use Rattle.shift.specs.Shift.{fits_at}
+use Rattle.shift.proofs.ShiftChains.{fits_own, fits_float, fits_none}
+use borrow.Author.Rules.{rules}
+use Rattle.shift.proofs.fits.Given as goal
+
+-- some shift to a cell of the group m fits
+abbrev pub test : ℕ → ℕ → List ℕ → List ℕ → ℕ → List ℕ → List ℕ → List ℕ → ℕ → ℕ → ℕ → ℕ → Bool
+test h w rows columns count kinds owners near e fy fx m = any (fits_at h w rows columns count (reaches_at kinds owners near e) fy fx) (cells_from owners (h * w) m 0)
+
+-- none to one of the first k groups does
+pub record Amid (total : ℕ) (groups : List ℕ) (test : ℕ → Bool) (k : ℕ) : Type 0 where
+  pub high : k ≤ total
+  pub passed : (j : ℕ) → j < k → test (get_or groups j 0) ≡ false
+
+abbrev pub invariant-loop-k : goal.invariant-loop-k
+invariant-loop-k l = Amid l.total l.groups (test l.h l.w l.rows l.columns l.count l.kinds l.owners l.near l.e l.fy l.fx) l.k
+
+abbrev pub decreases-loop-k : goal.decreases-loop-k
+decreases-loop-k l = l.total - l.k

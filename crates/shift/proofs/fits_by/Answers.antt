@@ -1,0 +1,36 @@
+-- `shift::fits_by` meets its contract: the cells passed all come into the reach.
+-- Assumes nothing.
+use mir.Syntax.{w32}
+use mir.Val.{to_z}
+use mir.ValLaws.{to_z-of_z}
+use Prim.Native.Nat.{ℕ, ◌-◌, ◌≤◌, ◌<◌}
+use native.Mathlib.Omega.{arith}
+use mathlib.Core.Path.{◌≡◌, sym, ◌∙◌}
+use mathlib.Core.Bool.{Bool, true}
+use mathlib.Core.List.{List}
+use borrow.Author.Count.{below_none, below_more}
+use borrow.Author.Rules.{rules}
+use borrow.Author.Tests.{not-true, not-false}
+use lib.IntN.{ℤ}
+use lib.ListN.{get_or}
+use Rattle.grid.specs.Side.{shifted_of}
+use Rattle.reach.specs.Inside.{reaches_at}
+use Rattle.shift.specs.Shift.{lands_in, all_land}
+use Rattle.shift.proofs.Shifts.{all-upto, not_all}
+use Rattle.shift.proofs.fits_by.Goals as goal
+use Rattle.shift.proofs.fits_by.Invariants.{test}
+
+pub returns-then-not-lands_in : goal.returns-then-not-lands_in
+unfolding all_land
+returns-then-not-lands_in c =
+    let k = c.loop-k.k in
+    let out = rw (c.wide-y.ensures.0, c.wide-x.ensures.0, to_z-of_z w32 c.args.dy c.ranges.dy, to_z-of_z w32 c.args.dx c.ranges.dx) at c.lands_in.ensures in
+    sym (not_all (test c.args.h c.args.w c.args.rows.now c.args.columns.now (reaches_at c.args.kinds.now c.args.owners.now c.args.near.now c.args.e) c.args.dy c.args.dx) c.args.count k
+    c.loop-k-test.true (sym out ∙ c.if-not-lands_in.true))
+
+pub returns : goal.returns
+unfolding all_land
+returns c =
+    let e : c.loop-k.k ≡ c.args.count = omega (arith, c.loop-k-test.false, c.loop-k.invariant.high) in
+    sym (all-upto (test c.args.h c.args.w c.args.rows.now c.args.columns.now (reaches_at c.args.kinds.now c.args.owners.now c.args.near.now c.args.e) c.args.dy c.args.dx) c.args.count
+    (λ j h. rw (to_z-of_z w32 c.args.dy c.ranges.dy, to_z-of_z w32 c.args.dx c.ranges.dx) at (c.loop-k.invariant.passed j (omega arith))))

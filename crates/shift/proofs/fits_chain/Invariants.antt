@@ -1,0 +1,26 @@
+use Prim.Native.Nat.{ℕ, ◌-◌, ◌*◌}
+use native.Mathlib.Omega.{arith}
+use mathlib.Core.Path.{◌≡◌, refl, sym, ap, ◌∙◌}
+use mathlib.Core.Bool.{Bool, false}
+use mathlib.Core.List.{List, [], ◌∷◌, ◌++◌}
+use Rattle.grid.specs.Lists.{any}
+use Rattle.grid.proofs.ListLaws.{mem-any}
+use Rattle.grid.proofs.AppendLaws.{none_more}
+use Rattle.reach.specs.Chains.{cells_from}
+use Rattle.reach.specs.Inside.{reaches_at}
+use Rattle.shift.specs.Shift.{fits_at}
+use Rattle.reach.proofs.ChainWalks.{Walk, Walk-start, walk_in, walk_high, walk_mem, Walk-more, walk_less, walk_end}
+use borrow.Author.Rules.{rules}
+use Rattle.shift.proofs.fits_chain.Given as goal
+
+-- no shift to a cell that was passed fits
+pub record Amid (owners : List ℕ) (n m : ℕ) (test : ℕ → Bool) (t : ℕ) : Type 0 where
+  pub passed : List ℕ
+  pub walk : Walk owners n m passed t
+  pub none : any test passed ≡ false
+
+abbrev pub invariant-loop-t : goal.invariant-loop-t
+invariant-loop-t l = Amid l.owners (l.h * l.w) l.m (fits_at l.h l.w l.rows l.columns l.count (reaches_at l.kinds l.owners l.near l.e) l.fy l.fx) l.t
+
+abbrev pub decreases-loop-t : goal.decreases-loop-t
+decreases-loop-t l = 1024 - l.t

@@ -1,0 +1,28 @@
+use Prim.Native.Nat.{ℕ, ◌-◌, ◌≤◌}
+use native.Mathlib.Omega.{arith}
+use mathlib.Core.Path.{◌≡◌, refl, ap, subst, ◌∙◌}
+use mathlib.Core.List.{List}
+use lib.ListN.{length}
+use Rattle.kinds.specs.Kinds.{View}
+use Rattle.growth.specs.Pairs.{view_on}
+use Rattle.literals.specs.Inside.{FoundAs}
+use Rattle.literals.specs.declared.Finding.TheVariants.{Nothing}
+use Rattle.literals.proofs.Findings.{found_same, found_none, nothing_found, not_refused}
+use Rattle.sized.specs.Inside.{reason5_in, Board}
+use Rattle.sized.proofs.SizeLaws.{ahead, ahead_all, ahead_end, ahead_more, ahead_found}
+use borrow.Author.Rules.{rules}
+use Rattle.sized.proofs.check_sizes.Given as goal
+
+-- the cells before i give no reason, and the buffer is as it was
+pub record Amid (h w : ℕ) (lows highs cells kinds owners groups buffer₀ : List ℕ) (n : ℕ) (buffer : List ℕ) (i : ℕ) : Type 0 where
+  pub high : i ≤ n
+  pub long : length groups ≡ 1024
+  pub same : buffer ≡ buffer₀
+  pub passed : (lines : List (List ℕ)) → Board h w lines lows highs cells kinds owners → ahead (view_on h w lines cells) lows highs n 0 ≡ ahead (view_on h w lines cells) lows highs n i
+
+abbrev pub invariant-loop-i : goal.invariant-loop-i
+invariant-loop-i l =
+    Amid l.h l.w l.lowest l.highest l.cells l.kinds l.owners l.groups l.initial.buffer l.n l.buffer l.i
+
+abbrev pub decreases-loop-i : goal.decreases-loop-i
+decreases-loop-i l = l.n - l.i

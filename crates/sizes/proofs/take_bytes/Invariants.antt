@@ -1,0 +1,16 @@
+use Prim.Native.Nat.{ℕ, ◌+◌, ◌-◌, ◌≤◌}
+use native.Mathlib.Omega.{arith}
+use mathlib.Core.Bool.{Bool}
+use lib.ListN.{length, drop}
+use borrow.Author.Rules.{rules}
+use borrow.Author.Tests.{not-true, not-false}
+use Rattle.sizes.specs.Inside.{MarkedAll, ranges_in}
+use Rattle.sizes.proofs.ReadLaws.{Amid, Amid-start, amid_refused, amid_end, Amid-Taken, amid_left, bytes_passed, bytes_refused, bytes_cut, bytes_none}
+use Rattle.sizes.proofs.take_bytes.Given as goal
+
+abbrev pub invariant-loop-at : goal.invariant-loop-at
+invariant-loop-at l =
+    (l.at ≤ length l.bytes) × ((on : ℕ → Bool) → MarkedAll l.marks on → Amid (ranges_in on 0 l.bytes) (ranges_in on l.from (drop l.at l.bytes)) l.from l.lowest l.highest)
+
+abbrev pub decreases-loop-at : goal.decreases-loop-at
+decreases-loop-at l = length l.bytes - l.at

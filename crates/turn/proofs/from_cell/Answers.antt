@@ -1,0 +1,11 @@
+-- `turn::from_cell` meets its contract.
+-- Assumes nothing.
+use Rattle.grid.proofs.SideLaws.{in_place, some_wide}
+use Rattle.turn.proofs.CellLaws.{flip_place, turned_grid, from_place, quarter_from_lem, flip_from}
+use Rattle.turn.proofs.from_cell.Goals as goal
+
+pub returns-then-quarter : goal.returns-then-quarter
+returns-then-quarter c = (quarter_from_lem c.args.quarter c.args.height c.args.width c.args.j c.mirrored.result c.cell_at.result c.if-quarter.true c.mirrored.ensures.0 c.cell_at.ensures.0, c.cell_at.ensures.1)
+
+pub returns : goal.returns
+returns c = (flip_from c.args.quarter c.args.height c.args.width c.args.j c.mirrored-2.result c.cell_at-2.result c.if-quarter.false c.mirrored-2.ensures.0 c.cell_at-2.ensures.0, c.cell_at-2.ensures.1)

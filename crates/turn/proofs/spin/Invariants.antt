@@ -1,0 +1,17 @@
+use Prim.Native.Nat.{ℕ, ◌-◌, ◌≤◌}
+use native.Mathlib.Omega.{arith}
+use mathlib.Core.Path.{◌≡◌, sym, ap, ◌∙◌}
+use borrow.Author.Rules.{rules}
+use Rattle.record.specs.Record.{Puzzle}
+use Rattle.record.specs.Valid.{Valid}
+use Rattle.record.specs.Problem.{problem_of}
+use Rattle.turn.specs.Inside.{spun}
+use Rattle.writer.proofs.BridgeLaws.{one_puzzle}
+use Rattle.turn.proofs.AnswerLaws.{spun-Valid, spun_none, spun_more}
+use Rattle.turn.proofs.spin.Given as goal
+
+abbrev pub invariant-loop-i : goal.invariant-loop-i
+invariant-loop-i l = (l.i ≤ l.times) × ((p : Puzzle) × Valid p × (l.initial.q ≡ problem_of p) × (l.q ≡ problem_of (spun l.i p)))
+
+abbrev pub decreases-loop-i : goal.decreases-loop-i
+decreases-loop-i l = l.times - l.i

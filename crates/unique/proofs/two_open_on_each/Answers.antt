@@ -1,0 +1,43 @@
+-- `unique::two_open_on_each` meets its contract: `good` says of the arrows passed that two cells or more of each are not empty.
+-- Assumes nothing.
+use Prim.Native.Nat.{ℕ, ◌-◌, ◌<◌}
+use native.Mathlib.Omega.{arith}
+use mathlib.Core.Logic.{⊎_elim}
+use mathlib.Core.Path.{◌≡◌, refl, sym, ◌∙◌}
+use mathlib.Core.Bool.{◌&&◌}
+use mathlib.Core.List.{List}
+use lib.ListN.{length, get_or, take, drop}
+use lib.Seq.{length-take-le, get_or-take}
+use borrow.Author.Rules.{rules}
+use Rattle.grid.specs.Lists.{all}
+use Rattle.grid.specs.Cells.{potential}
+use Rattle.grid.proofs.ArrowSquares.{ahead, has_two, lacks_two}
+use Rattle.record.specs.Problem.{arrows_from}
+use Rattle.form.proofs.Steps.{arrows_on, arrows_fail, arrows_end}
+use Rattle.groups.specs.Arrays.{lines_of}
+use Rattle.unique.specs.Unique.{two_open}
+use Rattle.unique.proofs.two_open_on_each.Goals as goal
+use Rattle.unique.proofs.two_open_on_each.Goals.{else-open_on-lt2, then-open_on-lt2}
+
+pub loop-a-preserved : goal.loop-a-preserved
+unfolding two_open
+loop-a-preserved c =
+    let cuts-length : length (take c.args.number c.args.ends.now) ≡ c.args.number = length-take-le c.args.number c.args.ends.now c.requires.1.ends_long in
+    let within = c.loop-a-test.true in
+    let cells = c.args.cells.now in
+    let arrows = c.args.arrows.now in
+    let ends = c.args.ends.now in
+    let end : get_or (take c.args.number c.args.ends.now) c.loop-a.a 0 ≡ c.wide-to.result = get_or-take c.args.number ends c.loop-a.a 0 within ∙ sym c.wide-to.ensures.0 in
+    let counted : c.open_on.result ≡ ahead (potential cells) arrows (get_or ends c.loop-a.a 0) c.loop-a.from = rw c.wide-to.ensures.0 at c.open_on.ensures in
+    let lt : c.loop-a.a < length (take c.args.number c.args.ends.now) = omega (arith, cuts-length, within) in
+    elim c.if-open_on-lt2.branch [
+      | then-open_on-lt2 w ↦ rw w.good-is
+          (arrows_fail (two_open cells) arrows (take c.args.number c.args.ends.now) c.loop-a.good c.loop-a.from c.loop-a.a lt c.loop-a.invariant (lacks_two (potential cells) arrows ends c.args.number c.loop-a.from c.loop-a.a within counted w.if-open_on-lt2.true))
+      | else-open_on-lt2 w ↦ rw (w.good-is, ← end)
+          (arrows_on (two_open cells) arrows (take c.args.number c.args.ends.now) c.loop-a.good c.loop-a.from c.loop-a.a lt c.loop-a.invariant (has_two (potential cells) arrows ends c.args.number c.loop-a.from c.loop-a.a within counted w.if-open_on-lt2.false))
+    ]
+
+pub returns : goal.returns
+returns c =
+    let cuts-length : length (take c.args.number c.args.ends.now) ≡ c.args.number = length-take-le c.args.number c.args.ends.now c.requires.1.ends_long in
+    arrows_end (two_open c.args.cells.now) c.args.arrows.now (take c.args.number c.args.ends.now) c.loop-a.good c.loop-a.from c.loop-a.a (omega (arith, cuts-length, c.loop-a-test.false)) c.loop-a.invariant

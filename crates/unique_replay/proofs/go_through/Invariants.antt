@@ -1,0 +1,10 @@
+use borrow.Author.Rules.{rules}
+use Prim.Native.Nat.{◌-◌}
+use lib.ListN.{length}
+use Rattle.unique_replay.proofs.go_through.Given as goal
+
+abbrev pub invariant-loop-tally : goal.invariant-loop-tally
+invariant-loop-tally l = Unit {0}
+
+abbrev pub decreases-loop-tally : goal.decreases-loop-tally
+decreases-loop-tally l = length l.list - l.tally.at
