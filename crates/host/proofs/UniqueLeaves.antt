@@ -1,6 +1,6 @@
 -- A certificate of one solution for a leaf of two rows of three cells with one arrow along the first row: what the call returns for it and for what is changed in it, as computed theorems.
 -- Assumes nothing.
-use Prim.Native.Nat.{ℕ, ◌+◌, ◌*◌, ◌/◌, ◌%◌}
+use Prim.Native.Nat.{ℕ, ◌+◌, ◌/◌, ◌%◌}
 use mathlib.Core.Path.{◌≡◌, refl}
 use mathlib.Core.List.{List, [], ◌∷◌, ◌++◌, map}
 use lib.IntN.{ℤ, pos, neg_ℤ}

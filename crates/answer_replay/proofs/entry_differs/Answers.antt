@@ -1,6 +1,5 @@
 -- `answer_replay::entry_differs` holds the length of the text and then the whole room against what the list says.
 -- Assumes nothing.
-use borrow.Author.Rules.{rules}
 use native.Mathlib.Omega.{arith}
 use Prim.Native.Nat.{ℕ}
 use mathlib.Core.Bool.{Bool, not}

@@ -1,7 +1,6 @@
 -- `board::fresh` meets its contract.
 -- Assumes nothing.
 use mathlib.Core.Path.{refl}
-use borrow.Author.Rules.{rules}
 use Rattle.board.proofs.fresh.Goals as goal
 
 pub returns : goal.returns

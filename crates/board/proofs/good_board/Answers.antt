@@ -5,8 +5,6 @@ use native.Mathlib.Omega.{arith}
 use mathlib.Core.Path.{◌≡◌, sym, ◌∙◌}
 use mathlib.Core.Bool.{true}
 use mathlib.Core.List.{List}
-use borrow.Author.Rules.{rules}
-use borrow.Author.Tests.{not-true, not-false}
 use Rattle.grid.specs.Grid.{size}
 use Rattle.grid.proofs.GridLaws.{size_most}
 use Rattle.record.specs.Problem.{grid_of, puzzle_of}
@@ -14,7 +12,6 @@ use Rattle.form.specs.Form.{problem_formed}
 use Rattle.form.proofs.ProblemForm.{Formed-is}
 use Rattle.board.specs.Form.{sizes_good}
 use Rattle.board.specs.Inside.{board_in}
-use Rattle.board.specs.declared.Board.{Board}
 use Rattle.board.proofs.Verdicts.{board_problem, board_edition, board_Drawn, board_sizes, sizes_cells, board_decisions}
 use Rattle.board.proofs.good_board.Goals as goal
 

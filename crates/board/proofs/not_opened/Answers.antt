@@ -1,6 +1,5 @@
 -- `board::not_opened` meets its contract.
 -- Assumes nothing.
-use borrow.Author.Rules.{rules}
 use Rattle.board.proofs.OpenLaws.{opened_not}
 use Rattle.board.proofs.not_opened.Goals as goal
 

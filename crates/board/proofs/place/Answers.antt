@@ -1,8 +1,5 @@
 -- `board::place` meets its contract: one way out for each refusal, and one for the decision put.
 -- Assumes nothing.
-use Prim.Native.Nat.{◌<◌}
-use native.Mathlib.Omega.{arith}
-use borrow.Author.Rules.{rules}
 use Rattle.board.specs.Inside.{bits, off, twice, put}
 use Rattle.board.proofs.place.Goals as goal
 

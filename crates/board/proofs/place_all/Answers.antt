@@ -1,12 +1,11 @@
 -- `board::place_all` meets its contract: what is left of the bytes makes of the board what the whole makes of the first.
 -- Assumes nothing.
-use Prim.Native.Nat.{ℕ, ◌+◌, ◌*◌, ◌≤◌, ◌<◌, ◌-◌}
+use Prim.Native.Nat.{◌+◌, ◌*◌, ◌<◌, ◌-◌}
 use native.Mathlib.Omega.{arith}
-use mathlib.Core.Path.{◌≡◌, refl, ap, ◌∙◌}
+use mathlib.Core.Path.{◌≡◌, ap, ◌∙◌}
 use mathlib.Core.Bool.{true}
-use mathlib.Core.List.{List, ◌∷◌}
-use lib.ListN.{length, drop, drop_of_length-le}
-use borrow.Author.Rules.{rules}
+use mathlib.Core.List.{◌∷◌}
+use lib.ListN.{drop, drop_of_length-le}
 use Rattle.grid.specs.Grid.{size}
 use Rattle.record.specs.Problem.{grid_of}
 use Rattle.board.specs.declared.Board.{Board}

@@ -1,17 +1,15 @@
-use Prim.Native.Nat.{ℕ, ◌+◌, ◌*◌, ◌≤◌, ◌<◌, ◌-◌}
-use native.Mathlib.Omega.{arith}
-use mathlib.Core.Path.{◌≡◌, refl, ap, ◌∙◌}
+-- What holds at each turn of the loop of `board::place_all`, and what falls from turn to turn.
+-- Assumes nothing.
+use Prim.Native.Nat.{ℕ, ◌≤◌, ◌-◌}
+use mathlib.Core.Path.{◌≡◌}
 use mathlib.Core.Bool.{true}
-use mathlib.Core.List.{List, ◌∷◌}
-use lib.ListN.{length, drop, drop_of_length-le}
-use borrow.Author.Rules.{rules}
+use mathlib.Core.List.{List}
+use lib.ListN.{length, drop}
 use Rattle.grid.specs.Grid.{size}
 use Rattle.record.specs.Problem.{grid_of}
 use Rattle.board.specs.declared.Board.{Board}
 use Rattle.board.specs.Form.{well_formed}
-use Rattle.board.specs.Decide.{with_decisions, refused_with, placed_from}
-use Rattle.board.proofs.BoardForm.{Whole-is, whole_room, whole_most}
-use Rattle.board.proofs.Fold.{place_refused, place_put, two_left, one_left}
+use Rattle.board.specs.Decide.{with_decisions, placed_from}
 use Rattle.board.proofs.place_all.Given as goal
 
 -- amid the bytes, on any board of n cells that is well formed with the first arrays

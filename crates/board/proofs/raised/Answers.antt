@@ -1,7 +1,6 @@
 -- `board::raised` meets its contract.
 -- Assumes nothing.
 use native.Mathlib.Omega.{arith}
-use borrow.Author.Rules.{rules}
 use Rattle.board.proofs.HintLaws.{raised_top, raised_more}
 use Rattle.board.proofs.raised.Goals as goal
 

@@ -1,4 +1,5 @@
-use borrow.Author.Rules.{rules}
+-- What holds at each turn of the loop of `calls_replay::hints_at`, and what falls from turn to turn.
+-- Assumes nothing.
 use Prim.Native.Nat.{◌-◌}
 use lib.ListN.{length}
 use mathlib.Core.Path.{◌≡◌}

@@ -1,4 +1,5 @@
-use borrow.Author.Rules.{rules}
+-- What holds at each turn of the loop of `calls_replay::run_calls`, and what falls from turn to turn.
+-- Assumes nothing.
 use Prim.Native.Nat.{◌-◌}
 use Rattle.calls_replay.proofs.run_calls.Given as goal
 

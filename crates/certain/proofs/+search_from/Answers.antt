@@ -6,11 +6,8 @@ use mathlib.Core.Path.{◌≡◌, ap, ◌∙◌, subst}
 use mathlib.Core.List.{List}
 use lib.ListN.{length, get_or, set, take}
 use lib.Seq.{set-set}
-use borrow.Author.Rules.{rules}
 use Rattle.grid.specs.Lists.{how_many}
 use Rattle.grid.proofs.ArrayLaws.{fewer_set}
-use Rattle.record.specs.Leaf.{Leaf}
-use Rattle.record.specs.declared.Problem.{Problem}
 use Rattle.form.proofs.ProblemForm.{Formed, Formed-is}
 use Rattle.finished.proofs.VerdictLaws.{few}
 use Rattle.certain.specs.Inside.{cells_by, problem_by, leaf_by, Meets}

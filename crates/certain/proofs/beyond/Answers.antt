@@ -1,7 +1,6 @@
 -- `certain::beyond` meets its contract: an undecided cell is met, or the full board, which is noted where the test passes.
 -- Assumes nothing.
 use mathlib.Core.Path.{refl, sym, ◌∙◌}
-use borrow.Author.Rules.{rules}
 use Rattle.certain.specs.Inside.{undecided, noted, passed}
 use Rattle.certain.proofs.beyond.Goals as goal
 

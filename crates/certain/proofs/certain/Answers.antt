@@ -4,8 +4,6 @@ use native.Mathlib.Omega.{arith}
 use mathlib.Core.Path.{◌≡◌, refl, sym, ◌∙◌}
 use mathlib.Core.Bool.{true}
 use lib.ListN.{take}
-use borrow.Author.Rules.{rules}
-use borrow.Author.Tests.{not-true, not-false}
 use Rattle.grid.specs.Grid.{size}
 use Rattle.record.specs.Problem.{grid_of}
 use Rattle.form.proofs.ProblemForm.{is_Formed}

@@ -1,18 +1,11 @@
 -- `certain::certain_cells` meets its contract: what the search leaves of the budget, and what it gathered, is the answer.
 -- Assumes nothing.
-use Prim.Native.Nat.{ℕ, ◌*◌}
-use native.Mathlib.Omega.{arith}
-use mathlib.Core.List.{List}
-use mathlib.Core.Path.{ap, ◌∙◌}
-use lib.ListN.{length, take, length-replicate}
-use borrow.Author.Rules.{rules}
-use Rattle.record.specs.Leaf.{Range}
+use Prim.Native.Nat.{◌*◌}
+use lib.ListN.{length, take}
 use Rattle.record.specs.Sizes.{GoodSizes, kept_ranges}
 use Rattle.record.specs.Problem.{puzzle_of}
-use Rattle.record.specs.declared.Problem.{Problem}
 use Rattle.sized.proofs.KeptLaws.{kept_good}
 use Rattle.form.proofs.ProblemForm.{Formed, Formed-is}
-use Rattle.reasons.proofs.Room.{room_length}
 use Rattle.finished.specs.Inside.{problem_on}
 use Rattle.certain.proofs.AnswerLaws.{answer_spent, rest_within, answer_none, answer_told}
 use Rattle.certain.proofs.certain_cells.Goals as goal

@@ -1,13 +1,11 @@
 -- `certain::lowest_undecided` meets its contract: no cell passed is undecided.
 -- Assumes nothing.
-use Prim.Native.Nat.{ℕ, ◌+◌, ◌≤◌, ◌<◌, ◌-◌}
+use Prim.Native.Nat.{ℕ, ◌≤◌, ◌<◌, ◌-◌}
 use native.Mathlib.Omega.{arith}
-use native.Mathlib.Decide.{ℕ_discrete}
-use mathlib.Core.Path.{◌≡◌, refl, sym, ◌∙◌}
+use mathlib.Core.Path.{◌≡◌, sym, ◌∙◌}
 use mathlib.Core.List.{List}
 use lib.ListN.{length, get_or, take}
 use lib.Seq.{get_or-take, length-take-le}
-use borrow.Author.Rules.{rules}
 use Rattle.certain.specs.Tree.{lowest}
 use Rattle.certain.proofs.LowestLaws.{lowest_is, lowest_end}
 use Rattle.certain.proofs.lowest_undecided.Goals as goal

@@ -1,13 +1,9 @@
-use Prim.Native.Nat.{ℕ, ◌+◌, ◌≤◌, ◌<◌, ◌-◌}
-use native.Mathlib.Omega.{arith}
-use native.Mathlib.Decide.{ℕ_discrete}
-use mathlib.Core.Path.{◌≡◌, refl, sym, ◌∙◌}
+-- What holds at each turn of the loop of `certain::lowest_undecided`, and what falls from turn to turn.
+-- Assumes nothing.
+use Prim.Native.Nat.{ℕ, ◌≤◌, ◌<◌, ◌-◌}
+use mathlib.Core.Path.{◌≡◌}
 use mathlib.Core.List.{List}
-use lib.ListN.{length, get_or, take}
-use lib.Seq.{get_or-take, length-take-le}
-use borrow.Author.Rules.{rules}
-use Rattle.certain.specs.Tree.{lowest}
-use Rattle.certain.proofs.LowestLaws.{lowest_is, lowest_end}
+use lib.ListN.{get_or}
 use Rattle.certain.proofs.lowest_undecided.Given as goal
 
 -- none of the first k cells is undecided

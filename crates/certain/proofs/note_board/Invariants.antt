@@ -1,11 +1,7 @@
-use Prim.Native.Nat.{ℕ, ◌+◌, ◌≤◌, ◌<◌, ◌-◌}
-use native.Mathlib.Omega.{arith}
-use mathlib.Core.Path.{◌≡◌, refl, sym, ap, ◌∙◌}
-use mathlib.Core.List.{List}
-use lib.ListN.{get_or, set, length-set}
-use borrow.Author.Rules.{rules}
-use Rattle.grid.proofs.ArrayLaws.{Entry, hit, miss, Entry-at}
-use Rattle.certain.specs.Inside.{joined_of, Noted}
+-- What holds at each turn of the loop of `certain::note_board`, and what falls from turn to turn.
+-- Assumes nothing.
+use Prim.Native.Nat.{◌≤◌, ◌-◌}
+use Rattle.certain.specs.Inside.{Noted}
 use Rattle.certain.proofs.note_board.Given as goal
 
 abbrev pub invariant-loop-i : goal.invariant-loop-i

@@ -2,15 +2,10 @@
 -- Assumes nothing.
 use native.Mathlib.Omega.{arith}
 use mathlib.Core.Path.{◌∙◌}
-use mathlib.Core.List.{List}
 use lib.ListN.{take}
-use borrow.Author.Rules.{rules}
 use Rattle.grid.specs.Side.{sized}
-use Rattle.record.specs.Record.{Puzzle}
-use Rattle.record.specs.Leaf.{Range}
 use Rattle.record.specs.Sizes.{GoodSizes}
 use Rattle.record.specs.Problem.{puzzle_of, grid_of}
-use Rattle.record.specs.declared.Problem.{Problem}
 use Rattle.form.proofs.ProblemForm.{Formed, Formed-is}
 use Rattle.groups.specs.Arrays.{lines_of}
 use Rattle.kinds.specs.Inside.{puzzle_with}

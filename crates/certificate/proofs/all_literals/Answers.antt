@@ -1,12 +1,8 @@
 -- `certificate::all_literals` meets its contract.
 -- Assumes nothing.
 use Prim.Native.Nat.{◌-◌}
-use mathlib.Core.Path.{◌≡◌, refl, ◌∙◌}
-use lib.ListN.{drop}
-use borrow.Author.Tests.{not-true, not-false}
-use borrow.Author.Rules.{rules}
-use Rattle.grid.specs.Lists.{all, upto}
-use Rattle.certificate.specs.Certificate.{words_of, head_at}
+use mathlib.Core.Path.{◌∙◌}
+use Rattle.certificate.specs.Certificate.{words_of}
 use Rattle.certificate.proofs.Heads.{heads_no, heads_turn, heads_end}
 use Rattle.certificate.proofs.all_literals.Goals as goal
 

@@ -1,11 +1,10 @@
+-- What holds at each turn of the loop of `certificate::all_literals`, and what falls from turn to turn.
+-- Assumes nothing.
 use Prim.Native.Nat.{◌-◌}
-use mathlib.Core.Path.{◌≡◌, refl, ◌∙◌}
+use mathlib.Core.Path.{◌≡◌}
 use lib.ListN.{drop}
-use borrow.Author.Tests.{not-true, not-false}
-use borrow.Author.Rules.{rules}
 use Rattle.grid.specs.Lists.{all, upto}
 use Rattle.certificate.specs.Certificate.{words_of, head_at}
-use Rattle.certificate.proofs.Heads.{heads_no, heads_turn, heads_end}
 use Rattle.certificate.proofs.all_literals.Given as goal
 
 abbrev pub invariant-loop-i : goal.invariant-loop-i

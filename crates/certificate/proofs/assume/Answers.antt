@@ -1,11 +1,9 @@
 -- `certificate::assume` meets its contract.
 -- Assumes nothing.
 use Prim.Native.Nat.{◌-◌}
-use mathlib.Core.Path.{◌≡◌, refl, ◌∙◌}
-use lib.ListN.{length, length-set}
-use lib.Seq.{slice}
-use borrow.Author.Rules.{rules}
-use Rattle.certificate.specs.Certificate.{words_of, assume_from}
+use mathlib.Core.Path.{◌∙◌}
+use lib.ListN.{length-set}
+use Rattle.certificate.specs.Certificate.{words_of}
 use Rattle.certificate.proofs.Looks.{assume_wide, assume_off, assume_turn, assume_end}
 use Rattle.certificate.proofs.assume.Goals as goal
 

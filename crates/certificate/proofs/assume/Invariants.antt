@@ -1,10 +1,10 @@
+-- What holds at each turn of the loop of `certificate::assume`, and what falls from turn to turn.
+-- Assumes nothing.
 use Prim.Native.Nat.{◌-◌}
-use mathlib.Core.Path.{◌≡◌, refl, ◌∙◌}
-use lib.ListN.{length, length-set}
+use mathlib.Core.Path.{◌≡◌}
+use lib.ListN.{length}
 use lib.Seq.{slice}
-use borrow.Author.Rules.{rules}
 use Rattle.certificate.specs.Certificate.{words_of, assume_from}
-use Rattle.certificate.proofs.Looks.{assume_wide, assume_off, assume_turn, assume_end}
 use Rattle.certificate.proofs.assume.Given as goal
 
 abbrev pub invariant-loop-k : goal.invariant-loop-k

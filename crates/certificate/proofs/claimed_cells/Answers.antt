@@ -1,11 +1,9 @@
 -- `certificate::claimed_cells` meets its contract.
 -- Assumes nothing.
-use Prim.Native.Nat.{ℕ, ◌+◌, ◌-◌, ◌/◌, ◌%◌, ◌≤◌}
+use Prim.Native.Nat.{ℕ, ◌+◌, ◌-◌, ◌/◌, ◌%◌}
 use native.Mathlib.Omega.{arith}
-use mathlib.Core.Path.{◌≡◌, ◌∙◌, ap}
+use mathlib.Core.Path.{◌∙◌, ap}
 use lib.ListN.{length, get_or, set, length-set, length-replicate}
-use borrow.Author.Rules.{rules}
-use Rattle.grid.specs.Lists.{array_of}
 use Rattle.grid.proofs.FilledLaws.{filled_none, filled_more}
 use Rattle.certificate.specs.Certificate.{words_of, value_of, claimed}
 use Rattle.certificate.proofs.Words.{words_length}

@@ -1,12 +1,10 @@
-use Prim.Native.Nat.{ℕ, ◌+◌, ◌-◌, ◌/◌, ◌%◌, ◌≤◌}
-use native.Mathlib.Omega.{arith}
-use mathlib.Core.Path.{◌≡◌, ◌∙◌, ap}
-use lib.ListN.{length, get_or, set, length-set, length-replicate}
-use borrow.Author.Rules.{rules}
+-- What holds at each turn of the loop of `certificate::claimed_cells`, and what falls from turn to turn.
+-- Assumes nothing.
+use Prim.Native.Nat.{◌-◌, ◌≤◌}
+use mathlib.Core.Path.{◌≡◌}
+use lib.ListN.{length}
 use Rattle.grid.specs.Lists.{array_of}
-use Rattle.grid.proofs.FilledLaws.{filled_none, filled_more}
-use Rattle.certificate.specs.Certificate.{words_of, value_of, claimed}
-use Rattle.certificate.proofs.Words.{words_length}
+use Rattle.certificate.specs.Certificate.{words_of, claimed}
 use Rattle.certificate.proofs.claimed_cells.Given as goal
 
 abbrev pub invariant-loop-i : goal.invariant-loop-i

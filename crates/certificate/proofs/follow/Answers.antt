@@ -1,11 +1,9 @@
 -- `certificate::follow` meets its contract.
 -- Assumes nothing.
 use Prim.Native.Nat.{◌-◌}
-use mathlib.Core.Path.{◌≡◌, refl, ◌∙◌}
-use lib.ListN.{length, length-set}
-use lib.Seq.{slice}
-use borrow.Author.Rules.{rules}
-use Rattle.certificate.specs.Certificate.{words_of, follow_from}
+use mathlib.Core.Path.{◌∙◌}
+use lib.ListN.{length-set}
+use Rattle.certificate.specs.Certificate.{words_of}
 use Rattle.certificate.proofs.Looks.{follow_clash, follow_early, follow_stuck, follow_turn, follow_end}
 use Rattle.certificate.proofs.follow.Goals as goal
 

@@ -1,10 +1,10 @@
+-- What holds at each turn of the loop of `certificate::follow`, and what falls from turn to turn.
+-- Assumes nothing.
 use Prim.Native.Nat.{◌-◌}
-use mathlib.Core.Path.{◌≡◌, refl, ◌∙◌}
-use lib.ListN.{length, length-set}
+use mathlib.Core.Path.{◌≡◌}
+use lib.ListN.{length}
 use lib.Seq.{slice}
-use borrow.Author.Rules.{rules}
 use Rattle.certificate.specs.Certificate.{words_of, follow_from}
-use Rattle.certificate.proofs.Looks.{follow_clash, follow_early, follow_stuck, follow_turn, follow_end}
 use Rattle.certificate.proofs.follow.Given as goal
 
 abbrev pub invariant-loop-k : goal.invariant-loop-k

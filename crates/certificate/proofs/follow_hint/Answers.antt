@@ -1,6 +1,5 @@
 -- `certificate::follow_hint` meets its contract.
 -- Assumes nothing.
-use borrow.Author.Rules.{rules}
 use Rattle.certificate.specs.Certificate.{words_of}
 use Rattle.certificate.proofs.Looks.{hint_late, hint_inner, hint_long, hint_clause}
 use Rattle.certificate.proofs.follow_hint.Goals as goal

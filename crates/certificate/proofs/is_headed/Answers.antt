@@ -1,7 +1,6 @@
 -- `certificate::is_headed` meets its contract.
 -- Assumes nothing.
 use mathlib.Core.Path.{◌∙◌}
-use borrow.Author.Rules.{rules}
 use Rattle.certificate.proofs.Heads.{head_short, head_first, head_hinted, head_all}
 use Rattle.certificate.proofs.is_headed.Goals as goal
 

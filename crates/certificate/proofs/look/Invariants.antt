@@ -1,9 +1,9 @@
+-- What holds at each turn of the loop of `certificate::look`, and what falls from turn to turn.
+-- Assumes nothing.
 use Prim.Native.Nat.{◌-◌}
-use mathlib.Core.Path.{◌≡◌, refl, ◌∙◌}
+use mathlib.Core.Path.{◌≡◌}
 use lib.Seq.{slice}
-use borrow.Author.Rules.{rules}
 use Rattle.certificate.specs.Certificate.{words_of, look_from}
-use Rattle.certificate.proofs.Looks.{look_turn, look_end}
 use Rattle.certificate.proofs.look.Given as goal
 
 abbrev pub invariant-loop-k : goal.invariant-loop-k

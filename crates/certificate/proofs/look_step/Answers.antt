@@ -1,6 +1,5 @@
 -- `certificate::look_step` meets its contract: each way out is a case of `look_step`.
 -- Assumes nothing.
-use borrow.Author.Rules.{rules}
 use Rattle.certificate.proofs.Looks.{step_true, step_false, step_first, step_again, step_second}
 use Rattle.certificate.proofs.look_step.Goals as goal
 

@@ -1,6 +1,5 @@
 -- `certificate::step_end` meets its contract.
 -- Assumes nothing.
-use borrow.Author.Rules.{rules}
 use Rattle.certificate.proofs.Steps.{end_past, end_inner, end_short, end_cut, end_whole}
 use Rattle.certificate.proofs.step_end.Goals as goal
 

@@ -4,7 +4,6 @@ use Prim.Native.Nat.{◌+◌, ◌-◌}
 use native.Mathlib.Omega.{arith}
 use mathlib.Core.Path.{◌∙◌}
 use lib.Seq.{slice}
-use borrow.Author.Rules.{rules}
 use Rattle.certificate.specs.Certificate.{words_of, tag}
 use Rattle.certificate.proofs.Steps.{Whole, end_is, assumed_length, step_cut, step_wide, step_refused, step_followed}
 use Rattle.certificate.proofs.take_step.Goals as goal

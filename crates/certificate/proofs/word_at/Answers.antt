@@ -1,7 +1,6 @@
 -- `certificate::word_at` meets its contract.
 -- Assumes nothing.
 use native.Mathlib.Omega.{arith}
-use borrow.Author.Rules.{rules}
 use Rattle.certificate.proofs.Words.{word_is}
 use Rattle.certificate.proofs.word_at.Goals as goal
 

@@ -4,7 +4,6 @@ use Prim.Native.Nat.{◌+◌, ◌*◌}
 use mathlib.Core.Path.{sym, ◌∙◌}
 use Rattle.grid.specs.Side.{sized}
 use Rattle.clauses.proofs.NearLaws.{side_small, side_yes, side_no, side_off}
-use borrow.Author.Rules.{rules}
 use Rattle.clauses.proofs.arrow_toward.Goals as goal
 
 pub bounds-marks-j : goal.bounds-marks-j

@@ -4,14 +4,11 @@ use native.Mathlib.Omega.{arith}
 use mathlib.Core.Path.{subst}
 use Rattle.grid.specs.Lists.{filter}
 use Rattle.grid.specs.Side.{sized}
-use Rattle.grid.proofs.SideLaws.{some_wide, cell_small}
 use Rattle.clauses.proofs.AppendLaws.{Appends-is, Appends-none, Appends-most}
 use Rattle.clauses.specs.Clauses.{around}
 use Rattle.clauses.specs.Inside.{Holds, marked}
-use Rattle.grid.proofs.SideLaws.{in_place}
 use Rattle.clauses.proofs.NearLaws.{between_on, between_off}
 use Rattle.clauses.proofs.NearLaws.{place_is}
-use borrow.Author.Rules.{rules}
 use Rattle.clauses.proofs.between_at.Goals as goal
 
 pub returns-then-marks-i-eq1 : goal.returns-then-marks-i-eq1

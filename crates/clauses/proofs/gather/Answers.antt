@@ -1,9 +1,8 @@
 -- `clauses::gather` meets its contract.
 -- Assumes nothing.
-use Prim.Native.Nat.{◌+◌, ◌-◌, ◌*◌, ◌≤◌}
+use Prim.Native.Nat.{◌+◌, ◌-◌, ◌*◌}
 use native.Mathlib.Omega.{arith}
 use mathlib.Core.Path.{◌≡◌, ap, subst, ◌∙◌}
-use lib.ListN.{length}
 use Rattle.grid.specs.Side.{sized}
 use Rattle.clauses.specs.Inside.{Holds}
 use Rattle.clauses.proofs.NearLaws.{near_from, toward_list, near_none, near_more, near_all}

@@ -1,10 +1,10 @@
+-- What holds at each turn of the loop of `clauses::gather`, and what falls from turn to turn.
+-- Assumes nothing.
 use Prim.Native.Nat.{◌+◌, ◌-◌, ◌*◌, ◌≤◌}
-use native.Mathlib.Omega.{arith}
-use mathlib.Core.Path.{◌≡◌, ap, subst, ◌∙◌}
 use lib.ListN.{length}
 use Rattle.grid.specs.Side.{sized}
 use Rattle.clauses.specs.Inside.{Holds}
-use Rattle.clauses.proofs.NearLaws.{near_from, toward_list, near_none, near_more, near_all}
+use Rattle.clauses.proofs.NearLaws.{near_from}
 use Rattle.clauses.proofs.gather.Given as goal
 
 abbrev pub invariant-loop-k : goal.invariant-loop-k

@@ -1,9 +1,7 @@
 -- `clauses::put` meets its contract.
 -- Assumes nothing.
 use native.Mathlib.Omega.{arith}
-use lib.ListN.{length-set}
 use Rattle.clauses.proofs.AppendLaws.{put_room, put_none}
-use borrow.Author.Rules.{rules}
 use Rattle.clauses.proofs.put.Goals as goal
 
 pub returns-then-out-at : goal.returns-then-out-at

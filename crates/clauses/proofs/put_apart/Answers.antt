@@ -2,7 +2,6 @@
 -- Assumes nothing.
 use Rattle.clauses.proofs.AppendLaws.{Appends-is, Appends-then}
 use Rattle.clauses.proofs.PieceLaws.{apart_bytes}
-use borrow.Author.Rules.{rules}
 use Rattle.clauses.proofs.put_apart.Goals as goal
 
 pub returns : goal.returns

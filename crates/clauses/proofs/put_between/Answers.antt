@@ -2,7 +2,6 @@
 -- Assumes nothing.
 use Rattle.clauses.proofs.AppendLaws.{Appends-is, Appends-then}
 use Rattle.clauses.proofs.NearLaws.{between_bytes}
-use borrow.Author.Rules.{rules}
 use Rattle.clauses.proofs.put_between.Goals as goal
 
 pub returns : goal.returns

@@ -2,7 +2,6 @@
 -- Assumes nothing.
 use Rattle.clauses.proofs.AppendLaws.{Appends-is, Appends-none}
 use Rattle.clauses.proofs.PieceLaws.{given_black, given_square, given_plain}
-use borrow.Author.Rules.{rules}
 use Rattle.clauses.proofs.put_given.Goals as goal
 
 pub returns-then-code-eq1 : goal.returns-then-code-eq1

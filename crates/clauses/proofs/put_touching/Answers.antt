@@ -2,7 +2,6 @@
 -- Assumes nothing.
 use Rattle.clauses.proofs.AppendLaws.{Appends-is, Appends-none}
 use Rattle.clauses.proofs.PieceLaws.{touch_yes, touch_no}
-use borrow.Author.Rules.{rules}
 use Rattle.clauses.proofs.put_touching.Goals as goal
 
 pub returns-then-marks-j-eq1 : goal.returns-then-marks-j-eq1

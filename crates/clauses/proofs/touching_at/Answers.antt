@@ -1,11 +1,8 @@
 -- `clauses::touching_at` meets its contract.
 -- Assumes nothing.
-use native.Mathlib.Omega.{arith}
 use Rattle.grid.specs.Side.{sized}
-use Rattle.grid.proofs.SideLaws.{cell_small}
 use Rattle.clauses.proofs.AppendLaws.{Appends-is, Appends-none, Appends-then}
 use Rattle.clauses.proofs.PieceLaws.{touching_on, touching_off}
-use borrow.Author.Rules.{rules}
 use Rattle.clauses.proofs.touching_at.Goals as goal
 
 pub returns-then-marks-i-ne1 : goal.returns-then-marks-i-ne1

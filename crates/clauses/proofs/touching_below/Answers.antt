@@ -5,12 +5,10 @@ use native.Mathlib.Omega.{arith}
 use mathlib.Core.Path.{ap, ◌∙◌}
 use mathlib.Core.List.{List, map}
 use Rattle.grid.specs.Lists.{filter}
-use Rattle.grid.proofs.SideLaws.{area, cell_small}
 use Rattle.clauses.proofs.AppendLaws.{Appends-is, Appends-none}
 use Rattle.clauses.specs.Clauses.{apart, clauses_bytes}
 use Rattle.clauses.specs.Inside.{marked}
 use Rattle.clauses.proofs.PieceLaws.{touch_none, down_yes, down_no}
-use borrow.Author.Rules.{rules}
 use Rattle.clauses.proofs.touching_below.Goals as goal
 
 pub returns-then-i-w : goal.returns-then-i-w

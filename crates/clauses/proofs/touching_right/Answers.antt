@@ -5,13 +5,10 @@ use native.Mathlib.Omega.{arith}
 use mathlib.Core.Path.{ap, ◌∙◌}
 use mathlib.Core.List.{List, map}
 use Rattle.grid.specs.Lists.{filter}
-use Rattle.grid.proofs.SideLaws.{area, some_wide, cell_small}
 use Rattle.clauses.proofs.AppendLaws.{Appends-is, Appends-none}
 use Rattle.clauses.specs.Clauses.{apart, clauses_bytes}
 use Rattle.clauses.specs.Inside.{marked}
-use native.Mathlib.Nat.{mod-lt}
-use Rattle.clauses.proofs.PieceLaws.{touch_none, right_yes, right_no, next_small}
-use borrow.Author.Rules.{rules}
+use Rattle.clauses.proofs.PieceLaws.{touch_none, right_yes, right_no}
 use Rattle.clauses.proofs.touching_right.Goals as goal
 
 pub returns-then-i-w : goal.returns-then-i-w

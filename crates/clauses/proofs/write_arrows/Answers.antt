@@ -4,12 +4,9 @@ use Prim.Native.Nat.{ℕ, ◌+◌, ◌-◌, ◌*◌, ◌≤◌}
 use native.Mathlib.Omega.{arith}
 use mathlib.Core.Path.{◌≡◌, sym, ap, ◌∙◌}
 use Rattle.grid.specs.Lists.{flat_map, upto}
-use Rattle.grid.proofs.SideLaws.{area}
-use Rattle.clauses.proofs.AppendLaws.{Appends-is, Appends-most, Appends-start, Appends-next, Appends-end, same_line}
-use Rattle.clauses.specs.Inside.{Appends, arrow_piece, line_piece}
-use Rattle.record.specs.Lines.{start_at}
+use Rattle.clauses.proofs.AppendLaws.{Appends-is, Appends-most, Appends-start, Appends-next, same_line}
+use Rattle.clauses.specs.Inside.{arrow_piece, line_piece}
 use Rattle.record.proofs.LinesLaws.{start_next, start_first, start_low}
-use borrow.Author.Rules.{rules}
 use Rattle.clauses.proofs.write_arrows.Goals as goal
 
 pub loop-k-init : goal.loop-k-init

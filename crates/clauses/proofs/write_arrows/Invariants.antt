@@ -1,13 +1,10 @@
-use Prim.Native.Nat.{ℕ, ◌+◌, ◌-◌, ◌*◌, ◌≤◌}
-use native.Mathlib.Omega.{arith}
-use mathlib.Core.Path.{◌≡◌, sym, ap, ◌∙◌}
+-- What holds at each turn of the loop of `clauses::write_arrows`, and what falls from turn to turn.
+-- Assumes nothing.
+use Prim.Native.Nat.{◌-◌, ◌*◌, ◌≤◌}
+use mathlib.Core.Path.{◌≡◌}
 use Rattle.grid.specs.Lists.{flat_map, upto}
-use Rattle.grid.proofs.SideLaws.{area}
-use Rattle.clauses.proofs.AppendLaws.{Appends-is, Appends-most, Appends-start, Appends-next, Appends-end, same_line}
-use Rattle.clauses.specs.Inside.{Appends, arrow_piece, line_piece}
+use Rattle.clauses.specs.Inside.{Appends, line_piece}
 use Rattle.record.specs.Lines.{start_at}
-use Rattle.record.proofs.LinesLaws.{start_next, start_first, start_low}
-use borrow.Author.Rules.{rules}
 use Rattle.clauses.proofs.write_arrows.Given as goal
 
 abbrev pub invariant-loop-k : goal.invariant-loop-k

@@ -11,7 +11,6 @@ use Rattle.record.proofs.RecordLaws.{record_Valid}
 use Rattle.clauses.specs.Clauses.{sheet_for}
 use Rattle.exported.proofs.WrittenLaws.{Told-refused}
 use Rattle.clauses.proofs.AnswerLaws.{sheet_refused, Told-read}
-use borrow.Author.Rules.{rules}
 use Rattle.clauses.proofs.write_clauses.Goals as goal
 
 pub write_problem-requires : goal.write_problem-requires

@@ -1,11 +1,9 @@
 -- `clauses::write_given` meets its contract.
 -- Assumes nothing.
-use Prim.Native.Nat.{◌-◌, ◌*◌, ◌≤◌}
+use Prim.Native.Nat.{◌-◌}
 use native.Mathlib.Omega.{arith}
-use borrow.Author.Rules.{rules}
-use Rattle.grid.specs.Lists.{flat_map, upto}
-use Rattle.clauses.specs.Inside.{Appends, given_piece}
-use Rattle.clauses.proofs.AppendLaws.{Appends-start, Appends-more, Appends-all, Appends-end}
+use Rattle.clauses.specs.Inside.{given_piece}
+use Rattle.clauses.proofs.AppendLaws.{Appends-start, Appends-more}
 use Rattle.clauses.proofs.write_given.Goals as goal
 
 pub loop-i-init : goal.loop-i-init

@@ -1,9 +1,8 @@
+-- What holds at each turn of the loop of `clauses::write_given`, and what falls from turn to turn.
+-- Assumes nothing.
 use Prim.Native.Nat.{◌-◌, ◌*◌, ◌≤◌}
-use native.Mathlib.Omega.{arith}
-use borrow.Author.Rules.{rules}
 use Rattle.grid.specs.Lists.{flat_map, upto}
 use Rattle.clauses.specs.Inside.{Appends, given_piece}
-use Rattle.clauses.proofs.AppendLaws.{Appends-start, Appends-more, Appends-all, Appends-end}
 use Rattle.clauses.proofs.write_given.Given as goal
 
 abbrev pub invariant-loop-i : goal.invariant-loop-i

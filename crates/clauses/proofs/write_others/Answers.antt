@@ -1,11 +1,9 @@
 -- `clauses::write_others` meets its contract.
 -- Assumes nothing.
-use Prim.Native.Nat.{◌-◌, ◌*◌, ◌≤◌}
+use Prim.Native.Nat.{◌-◌}
 use native.Mathlib.Omega.{arith}
-use Rattle.grid.specs.Lists.{flat_map, upto}
-use Rattle.clauses.proofs.AppendLaws.{Appends-start, Appends-more, Appends-all, Appends-end}
-use Rattle.clauses.specs.Inside.{Appends, other_piece}
-use borrow.Author.Rules.{rules}
+use Rattle.clauses.proofs.AppendLaws.{Appends-start, Appends-more}
+use Rattle.clauses.specs.Inside.{other_piece}
 use Rattle.clauses.proofs.write_others.Goals as goal
 
 pub loop-t-init : goal.loop-t-init

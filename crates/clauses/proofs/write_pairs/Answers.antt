@@ -1,11 +1,9 @@
 -- `clauses::write_pairs` meets its contract.
 -- Assumes nothing.
-use Prim.Native.Nat.{◌-◌, ◌*◌, ◌≤◌}
+use Prim.Native.Nat.{◌-◌}
 use native.Mathlib.Omega.{arith}
-use Rattle.grid.specs.Lists.{flat_map, upto}
-use Rattle.clauses.proofs.AppendLaws.{Appends-most, Appends-start, Appends-more, Appends-all, Appends-end}
-use Rattle.clauses.specs.Inside.{Appends, with_piece}
-use borrow.Author.Rules.{rules}
+use Rattle.clauses.proofs.AppendLaws.{Appends-most, Appends-start, Appends-more}
+use Rattle.clauses.specs.Inside.{with_piece}
 use Rattle.clauses.proofs.write_pairs.Goals as goal
 
 pub loop-a-init : goal.loop-a-init

@@ -1,9 +1,8 @@
+-- What holds at each turn of the loop of `clauses::write_pairs`, and what falls from turn to turn.
+-- Assumes nothing.
 use Prim.Native.Nat.{◌-◌, ◌*◌, ◌≤◌}
-use native.Mathlib.Omega.{arith}
 use Rattle.grid.specs.Lists.{flat_map, upto}
-use Rattle.clauses.proofs.AppendLaws.{Appends-most, Appends-start, Appends-more, Appends-all, Appends-end}
 use Rattle.clauses.specs.Inside.{Appends, with_piece}
-use borrow.Author.Rules.{rules}
 use Rattle.clauses.proofs.write_pairs.Given as goal
 
 abbrev pub invariant-loop-a : goal.invariant-loop-a

@@ -6,7 +6,6 @@ use mir.Syntax.{w32}
 use mir.ValLaws.{to_z-of_z}
 use Rattle.clauses.proofs.BytesLaws.{Sheeted, sheeted}
 use Rattle.clauses.proofs.AnswerLaws.{flat_Line, Told-13, Told-written}
-use borrow.Author.Rules.{rules}
 use Rattle.clauses.proofs.write_problem.Goals as goal
 
 pub arrow_total-requires : goal.arrow_total-requires

@@ -1,9 +1,6 @@
 -- `clauses::write_sheet` meets its contract.
 -- Assumes nothing.
-use native.Mathlib.Omega.{arith}
-use Rattle.grid.proofs.SideLaws.{area}
-use Rattle.clauses.proofs.AppendLaws.{Appends-end, sheet_Appends}
-use borrow.Author.Rules.{rules}
+use Rattle.clauses.proofs.AppendLaws.{sheet_Appends}
 use Rattle.clauses.proofs.write_sheet.Goals as goal
 
 pub returns : goal.returns

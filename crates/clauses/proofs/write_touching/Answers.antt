@@ -1,13 +1,10 @@
 -- `clauses::write_touching` meets its contract.
 -- Assumes nothing.
-use Prim.Native.Nat.{◌-◌, ◌*◌, ◌≤◌}
+use Prim.Native.Nat.{◌-◌}
 use native.Mathlib.Omega.{arith}
-use Rattle.grid.specs.Lists.{flat_map, upto}
 use Rattle.grid.specs.Side.{sized}
-use Rattle.grid.proofs.SideLaws.{area}
-use Rattle.clauses.proofs.AppendLaws.{Appends-start, Appends-more, Appends-all, Appends-end}
-use Rattle.clauses.specs.Inside.{Appends, touching_piece}
-use borrow.Author.Rules.{rules}
+use Rattle.clauses.proofs.AppendLaws.{Appends-start, Appends-more}
+use Rattle.clauses.specs.Inside.{touching_piece}
 use Rattle.clauses.proofs.write_touching.Goals as goal
 
 pub loop-i-init : goal.loop-i-init

@@ -1,11 +1,9 @@
+-- What holds at each turn of the loop of `clauses::write_touching`, and what falls from turn to turn.
+-- Assumes nothing.
 use Prim.Native.Nat.{◌-◌, ◌*◌, ◌≤◌}
-use native.Mathlib.Omega.{arith}
 use Rattle.grid.specs.Lists.{flat_map, upto}
 use Rattle.grid.specs.Side.{sized}
-use Rattle.grid.proofs.SideLaws.{area}
-use Rattle.clauses.proofs.AppendLaws.{Appends-start, Appends-more, Appends-all, Appends-end}
 use Rattle.clauses.specs.Inside.{Appends, touching_piece}
-use borrow.Author.Rules.{rules}
 use Rattle.clauses.proofs.write_touching.Given as goal
 
 abbrev pub invariant-loop-i : goal.invariant-loop-i

@@ -1,15 +1,13 @@
 -- `clauses::write_with` meets its contract.
 -- Assumes nothing.
-use Prim.Native.Nat.{◌-◌, ◌*◌, ◌≤◌}
+use Prim.Native.Nat.{◌-◌}
 use native.Mathlib.Omega.{arith}
 use mathlib.Core.Path.{◌≡◌}
 use mathlib.Core.List.{[], ◌∷◌}
-use Rattle.grid.specs.Lists.{flat_map, upto}
-use Rattle.clauses.proofs.AppendLaws.{Appends-is, Appends-start, Appends-more, Appends-all, Appends-end}
+use Rattle.grid.specs.Lists.{upto}
+use Rattle.clauses.proofs.AppendLaws.{Appends-is, Appends-start, Appends-more, Appends-all}
 use Rattle.clauses.specs.Clauses.{between, clause_bytes}
-use Rattle.clauses.specs.Inside.{Appends}
 use Rattle.clauses.proofs.NearLaws.{map_pieces, same_between}
-use borrow.Author.Rules.{rules}
 use Rattle.clauses.proofs.write_with.Goals as goal
 
 pub loop-b-init : goal.loop-b-init

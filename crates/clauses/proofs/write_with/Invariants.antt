@@ -1,13 +1,9 @@
+-- What holds at each turn of the loop of `clauses::write_with`, and what falls from turn to turn.
+-- Assumes nothing.
 use Prim.Native.Nat.{◌-◌, ◌*◌, ◌≤◌}
-use native.Mathlib.Omega.{arith}
-use mathlib.Core.Path.{◌≡◌}
-use mathlib.Core.List.{[], ◌∷◌}
 use Rattle.grid.specs.Lists.{flat_map, upto}
-use Rattle.clauses.proofs.AppendLaws.{Appends-is, Appends-start, Appends-more, Appends-all, Appends-end}
 use Rattle.clauses.specs.Clauses.{between, clause_bytes}
 use Rattle.clauses.specs.Inside.{Appends}
-use Rattle.clauses.proofs.NearLaws.{map_pieces, same_between}
-use borrow.Author.Rules.{rules}
 use Rattle.clauses.proofs.write_with.Given as goal
 
 abbrev pub invariant-loop-b : goal.invariant-loop-b

@@ -1,16 +1,10 @@
 -- `decisions::all_right` meets its contract: `good` says of the cells passed that each has a state that is right.
 -- Assumes nothing.
-use Prim.Native.Nat.{ℕ, ◌<◌, ◌-◌}
+use Prim.Native.Nat.{◌<◌, ◌-◌}
 use native.Mathlib.Omega.{arith}
-use mathlib.Core.Logic.{⊎_elim}
 use mathlib.Core.Path.{◌≡◌, refl, sym, ◌∙◌}
-use mathlib.Core.Bool.{◌&&◌}
-use mathlib.Core.List.{List}
-use borrow.Author.Rules.{rules}
-use borrow.Author.Tests.{not-true, not-false}
-use lib.ListN.{length, get_or, drop}
-use Rattle.grid.specs.Lists.{all, upto, member}
-use Rattle.grid.specs.Marks.{Marks}
+use lib.ListN.{length, get_or}
+use Rattle.grid.specs.Lists.{upto}
 use Rattle.grid.proofs.AppendLaws.{upto_at, upto-length}
 use Rattle.form.specs.Form.{shown}
 use Rattle.form.proofs.Passes.{pass_on, pass_fail, pass_end, right_shown}

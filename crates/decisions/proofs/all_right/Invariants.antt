@@ -1,17 +1,13 @@
-use Prim.Native.Nat.{ℕ, ◌<◌, ◌-◌}
-use native.Mathlib.Omega.{arith}
-use mathlib.Core.Logic.{⊎_elim}
-use mathlib.Core.Path.{◌≡◌, refl, sym, ◌∙◌}
+-- What holds at each turn of the loop of `decisions::all_right`, and what falls from turn to turn.
+-- Assumes nothing.
+use Prim.Native.Nat.{ℕ, ◌-◌}
+use mathlib.Core.Path.{◌≡◌}
 use mathlib.Core.Bool.{◌&&◌}
 use mathlib.Core.List.{List}
-use borrow.Author.Rules.{rules}
-use borrow.Author.Tests.{not-true, not-false}
-use lib.ListN.{length, get_or, drop}
+use lib.ListN.{drop}
 use Rattle.grid.specs.Lists.{all, upto, member}
 use Rattle.grid.specs.Marks.{Marks}
-use Rattle.grid.proofs.AppendLaws.{upto_at, upto-length}
 use Rattle.form.specs.Form.{shown}
-use Rattle.form.proofs.Passes.{pass_on, pass_fail, pass_end, right_shown}
 use Rattle.decisions.proofs.all_right.Given as goal
 
 abbrev pub invariant-loop-i : goal.invariant-loop-i

@@ -5,8 +5,6 @@ use mathlib.Core.Path.{◌≡◌, sym, ◌∙◌}
 use mathlib.Core.Bool.{true}
 use mathlib.Core.List.{[]}
 use lib.ListN.{take}
-use borrow.Author.Rules.{rules}
-use borrow.Author.Tests.{not-true, not-false}
 use Rattle.grid.specs.Lists.{all, upto}
 use Rattle.form.specs.Form.{fresh, shown}
 use Rattle.form.proofs.Verdicts.{Blank-zeros, decisions_many, decisions_twice, decisions_zeros, decisions_shown, decisions_are}

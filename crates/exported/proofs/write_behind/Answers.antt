@@ -1,12 +1,9 @@
 -- `exported::write_behind` meets its contract: the bytes passed stand behind the place, and behind them nothing changed.
 -- Assumes nothing.
-use Prim.Native.Nat.{ℕ, ◌+◌, ◌-◌, ◌≤◌}
+use Prim.Native.Nat.{◌-◌}
 use native.Mathlib.Omega.{arith}
-use mathlib.Core.Path.{◌≡◌, ap, ◌∙◌}
-use mathlib.Core.List.{◌++◌}
 use borrow.Author.Rules.{rules}
-use lib.ListN.{length, take, drop}
-use Rattle.exported.proofs.BehindLaws.{behind_begin, behind_next, behind_length}
+use Rattle.exported.proofs.BehindLaws.{behind_next}
 use Rattle.exported.proofs.write_behind.Goals as goal
 
 pub loop-k-preserved : goal.loop-k-preserved

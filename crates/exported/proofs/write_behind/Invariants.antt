@@ -1,10 +1,9 @@
-use Prim.Native.Nat.{ℕ, ◌+◌, ◌-◌, ◌≤◌}
-use native.Mathlib.Omega.{arith}
-use mathlib.Core.Path.{◌≡◌, ap, ◌∙◌}
+-- What holds at each turn of the loop of `exported::write_behind`, and what falls from turn to turn.
+-- Assumes nothing.
+use Prim.Native.Nat.{◌+◌, ◌-◌, ◌≤◌}
+use mathlib.Core.Path.{◌≡◌}
 use mathlib.Core.List.{◌++◌}
-use borrow.Author.Rules.{rules}
-use lib.ListN.{length, take, drop}
-use Rattle.exported.proofs.BehindLaws.{behind_begin, behind_next, behind_length}
+use lib.ListN.{take, drop}
 use Rattle.exported.proofs.write_behind.Given as goal
 
 abbrev pub invariant-loop-k : goal.invariant-loop-k

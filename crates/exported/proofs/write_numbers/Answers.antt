@@ -1,13 +1,9 @@
 -- `exported::write_numbers` meets its contract: the numbers passed stand as bytes, and behind them nothing changed.
 -- Assumes nothing.
-use Prim.Native.Nat.{ℕ, ◌-◌, ◌*◌, ◌≤◌}
+use Prim.Native.Nat.{◌-◌}
 use native.Mathlib.Omega.{arith}
-use mathlib.Core.Path.{◌≡◌, ap, ◌∙◌}
-use mathlib.Core.List.{◌++◌}
 use borrow.Author.Rules.{rules}
-use lib.ListN.{length, take, drop, length-set}
-use Rattle.exported.specs.Written.{bytes_of}
-use Rattle.exported.proofs.OutputLaws.{write_next, written_length, written_none}
+use Rattle.exported.proofs.OutputLaws.{write_next, written_none}
 use Rattle.exported.proofs.write_numbers.Goals as goal
 
 pub loop-k-init : goal.loop-k-init

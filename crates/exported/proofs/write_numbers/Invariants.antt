@@ -1,11 +1,10 @@
-use Prim.Native.Nat.{ℕ, ◌-◌, ◌*◌, ◌≤◌}
-use native.Mathlib.Omega.{arith}
-use mathlib.Core.Path.{◌≡◌, ap, ◌∙◌}
+-- What holds at each turn of the loop of `exported::write_numbers`, and what falls from turn to turn.
+-- Assumes nothing.
+use Prim.Native.Nat.{◌-◌, ◌*◌, ◌≤◌}
+use mathlib.Core.Path.{◌≡◌}
 use mathlib.Core.List.{◌++◌}
-use borrow.Author.Rules.{rules}
-use lib.ListN.{length, take, drop, length-set}
+use lib.ListN.{take, drop}
 use Rattle.exported.specs.Written.{bytes_of}
-use Rattle.exported.proofs.OutputLaws.{write_next, written_length, written_none}
 use Rattle.exported.proofs.write_numbers.Given as goal
 
 abbrev pub invariant-loop-k : goal.invariant-loop-k

@@ -3,7 +3,6 @@
 use mathlib.Core.Path.{sym}
 use native.Mathlib.Omega.{arith}
 use Rattle.fence.proofs.Fences.{there_not, there_by}
-use borrow.Author.Rules.{rules}
 use Rattle.fence.proofs.contains.Goals as goal
 
 pub returns-then-count-p : goal.returns-then-count-p

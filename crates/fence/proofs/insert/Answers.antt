@@ -1,11 +1,9 @@
 -- `fence::insert` meets its contract: the two ways out of an insertion.
 -- Assumes nothing.
 use mathlib.Core.Path.{refl}
-use mathlib.Core.Logic.{⊎_elim}
 use native.Mathlib.Omega.{arith}
 use Rattle.fence.specs.Inside.{old}
 use Rattle.fence.proofs.Insertion.{Inserted-new}
-use borrow.Author.Rules.{rules}
 use Rattle.fence.proofs.insert.Goals as goal
 use Rattle.fence.proofs.insert.Goals.{else-p-count, then-p-count+else-part-p}
 

@@ -1,13 +1,9 @@
 -- `fence::insert_block` meets its contract: the block's cells among those passed are inserted.
 -- Assumes nothing.
-use Prim.Native.Nat.{ℕ, ◌≤◌, ◌-◌}
-use mathlib.Core.Path.{sym, ◌∙◌}
-use mathlib.Core.Bool.{Bool, ◌||◌}
-use mathlib.Core.List.{List}
+use Prim.Native.Nat.{◌-◌}
 use native.Mathlib.Omega.{arith}
-use Rattle.fence.specs.Inside.{Ordered}
 use Rattle.fence.proofs.Ordering.{ordered_room}
-use Rattle.fence.proofs.Fences.{none_added, up_to, block_none, block_more, block_all}
+use Rattle.fence.proofs.Fences.{block_more, block_all}
 use Rattle.fence.proofs.insert_block.Goals as goal
 
 pub insert_cell-total-requires : goal.insert_cell-total-requires

@@ -1,11 +1,10 @@
+-- What holds at each turn of the loop of `fence::insert_block`, and what falls from turn to turn.
+-- Assumes nothing.
 use Prim.Native.Nat.{ℕ, ◌≤◌, ◌-◌}
-use mathlib.Core.Path.{sym, ◌∙◌}
 use mathlib.Core.Bool.{Bool, ◌||◌}
 use mathlib.Core.List.{List}
-use native.Mathlib.Omega.{arith}
 use Rattle.fence.specs.Inside.{Ordered}
-use Rattle.fence.proofs.Ordering.{ordered_room}
-use Rattle.fence.proofs.Fences.{none_added, up_to, block_none, block_more, block_all}
+use Rattle.fence.proofs.Fences.{up_to}
 use Rattle.fence.proofs.insert_block.Given as goal
 
 abbrev pub invariant-loop-i : goal.invariant-loop-i

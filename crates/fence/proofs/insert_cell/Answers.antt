@@ -1,8 +1,6 @@
 -- `fence::insert_cell` meets its contract: a cell of the arrow block is inserted, another is not.
 -- Assumes nothing.
-use borrow.Author.Tests.{ne_eqb}
-use Rattle.fence.proofs.Fences.{none_added, cell_off, cell_added}
-use borrow.Author.Rules.{rules}
+use Rattle.fence.proofs.Fences.{cell_added}
 use Rattle.fence.proofs.insert_cell.Goals as goal
 
 pub returns : goal.returns

@@ -3,7 +3,6 @@
 use mathlib.Core.Path.{sym, ◌∙◌}
 use Rattle.fence.proofs.Ordering.{ordered_room}
 use Rattle.fence.proofs.Fences.{none_added, disturbing_none, disturbing_own, disturbing_old, disturbing_new}
-use borrow.Author.Rules.{rules}
 use Rattle.fence.proofs.insert_disturbing_block.Goals as goal
 
 pub returns-then-kinds-j-ne1 : goal.returns-then-kinds-j-ne1

@@ -1,17 +1,10 @@
 -- `fence::insert_disturbing_blocks` meets its contract: the other arrow blocks of the neighbours in the directions passed are inserted.
 -- Assumes nothing.
-use Prim.Native.Nat.{ℕ, ◌≤◌, ◌-◌, ◌*◌}
-use mathlib.Core.Path.{sym, ◌∙◌}
-use mathlib.Core.Logic.{⊎_elim}
-use mathlib.Core.Bool.{Bool, ◌||◌}
-use mathlib.Core.List.{List}
+use Prim.Native.Nat.{◌-◌, ◌*◌}
 use native.Mathlib.Omega.{arith}
-use borrow.Author.Rules.{rules}
 use Rattle.grid.specs.Side.{sized}
-use Rattle.grid.proofs.SideLaws.{in_place, some_wide}
-use Rattle.grid.proofs.AroundLaws.{gathered, side_cell, side_at, side_off, sides_none, sides_all}
-use Rattle.fence.specs.Inside.{Ordered, Whole}
-use Rattle.fence.proofs.Fences.{none_added, in_disturbing_among, Whole-disturbing, disturbing_among_none, disturbing_among_more}
+use Rattle.grid.proofs.AroundLaws.{side_cell, side_at, side_off, sides_none, sides_all}
+use Rattle.fence.proofs.Fences.{none_added, Whole-disturbing, disturbing_among_none, disturbing_among_more}
 use Rattle.fence.proofs.insert_disturbing_blocks.Goals as goal
 use Rattle.fence.proofs.insert_disturbing_blocks.Invariants.{Added}
 use Rattle.fence.proofs.insert_disturbing_blocks.Goals.{in-At, in-Off}

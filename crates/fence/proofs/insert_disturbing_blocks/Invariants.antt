@@ -1,15 +1,12 @@
+-- What holds at each turn of the loop of `fence::insert_disturbing_blocks`, and what falls from turn to turn.
+-- Assumes nothing.
 use Prim.Native.Nat.{ℕ, ◌≤◌, ◌-◌, ◌*◌}
-use mathlib.Core.Path.{sym, ◌∙◌}
-use mathlib.Core.Logic.{⊎_elim}
 use mathlib.Core.Bool.{Bool, ◌||◌}
 use mathlib.Core.List.{List}
-use native.Mathlib.Omega.{arith}
-use borrow.Author.Rules.{rules}
 use Rattle.grid.specs.Side.{sized}
-use Rattle.grid.proofs.SideLaws.{in_place, some_wide}
-use Rattle.grid.proofs.AroundLaws.{gathered, side_cell, side_at, side_off, sides_none, sides_all}
+use Rattle.grid.proofs.AroundLaws.{gathered}
 use Rattle.fence.specs.Inside.{Ordered, Whole}
-use Rattle.fence.proofs.Fences.{none_added, in_disturbing_among, Whole-disturbing, disturbing_among_none, disturbing_among_more}
+use Rattle.fence.proofs.Fences.{in_disturbing_among}
 use Rattle.fence.proofs.insert_disturbing_blocks.Given as goal
 
 -- the other arrow blocks of the cells js are inserted too

@@ -3,7 +3,6 @@
 use mathlib.Core.Path.{sym, ◌∙◌}
 use Rattle.fence.proofs.Ordering.{ordered_room}
 use Rattle.fence.proofs.Fences.{none_added, adds_untouched, adds_decided, adds_itself, adds_disturbing}
-use borrow.Author.Rules.{rules}
 use Rattle.fence.proofs.insert_fence_of.Goals as goal
 
 pub insert-requires : goal.insert-requires

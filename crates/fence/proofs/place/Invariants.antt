@@ -1,7 +1,6 @@
-use Prim.Native.Nat.{◌≤◌, ◌<◌, ◌+◌, ◌-◌, ◌/◌}
-use mathlib.Core.Path.{◌≡◌}
-use borrow.Author.Rules.{rules}
-use native.Mathlib.Omega.{arith}
+-- What holds at each turn of the loop of `fence::place`, and what falls from turn to turn.
+-- Assumes nothing.
+use Prim.Native.Nat.{◌≤◌, ◌<◌, ◌-◌}
 use lib.ListN.{get_or}
 use Rattle.fence.specs.Inside.{key}
 use Rattle.fence.proofs.place.Given as goal

@@ -1,12 +1,10 @@
 -- `fence::reason_for_adjacent_floating_boundary` meets its contract: what the cells passed bring into the fence is inserted.
 -- Assumes nothing.
-use Prim.Native.Nat.{◌≤◌, ◌-◌, ◌*◌}
+use Prim.Native.Nat.{◌-◌, ◌*◌}
 use mathlib.Core.Path.{◌≡◌}
 use native.Mathlib.Omega.{arith}
-use Rattle.grid.specs.Side.{sized}
 use Rattle.grid.proofs.SideLaws.{area}
-use Rattle.fence.specs.Inside.{Ordered}
-use Rattle.fence.proofs.Fences.{among_Whole, fence_none, fence_more, adds_among}
+use Rattle.fence.proofs.Fences.{among_Whole, fence_none, fence_more}
 use Rattle.fence.proofs.FenceList.{fence_computed}
 use Rattle.fence.proofs.reason_for_adjacent_floating_boundary.Goals as goal
 

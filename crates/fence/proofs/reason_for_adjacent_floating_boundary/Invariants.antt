@@ -1,11 +1,9 @@
+-- What holds at each turn of the loop of `fence::reason_for_adjacent_floating_boundary`, and what falls from turn to turn.
+-- Assumes nothing.
 use Prim.Native.Nat.{◌≤◌, ◌-◌, ◌*◌}
-use mathlib.Core.Path.{◌≡◌}
-use native.Mathlib.Omega.{arith}
 use Rattle.grid.specs.Side.{sized}
-use Rattle.grid.proofs.SideLaws.{area}
 use Rattle.fence.specs.Inside.{Ordered}
-use Rattle.fence.proofs.Fences.{among_Whole, fence_none, fence_more, adds_among}
-use Rattle.fence.proofs.FenceList.{fence_computed}
+use Rattle.fence.proofs.Fences.{adds_among}
 use Rattle.fence.proofs.reason_for_adjacent_floating_boundary.Given as goal
 
 abbrev pub invariant-loop-i : goal.invariant-loop-i

@@ -1,8 +1,7 @@
-use Prim.Native.Nat.{ℕ, ◌≤◌, ◌-◌}
-use mathlib.Core.Path.{subst}
-use native.Mathlib.Omega.{arith}
+-- What holds at each turn of the loop of `fence::shift`, and what falls from turn to turn.
+-- Assumes nothing.
+use Prim.Native.Nat.{◌≤◌, ◌-◌}
 use Rattle.fence.specs.Inside.{Shifted}
-use Rattle.fence.proofs.Insertion.{shift_none, shift_more}
 use Rattle.fence.proofs.shift.Given as goal
 
 abbrev pub invariant-loop-j : goal.invariant-loop-j

@@ -1,17 +1,14 @@
+-- What holds at each turn of the loop of `fence::touches_marked`, and what falls from turn to turn.
+-- Assumes nothing.
 use Prim.Native.Nat.{ℕ, ◌≤◌, ◌-◌}
 use mathlib.Core.Path.{◌≡◌}
-use mathlib.Core.Logic.{⊎_elim}
 use mathlib.Core.Bool.{false}
 use mathlib.Core.List.{List}
-use native.Mathlib.Omega.{arith}
-use borrow.Author.Rules.{rules}
 use lib.Dec.{eqb}
 use lib.ListN.{get_or}
 use Rattle.grid.specs.Lists.{any}
 use Rattle.grid.specs.Side.{sized}
-use Rattle.grid.proofs.SideLaws.{in_place, cell_small, some_wide}
-use Rattle.grid.proofs.AroundLaws.{gathered, side_Adjacent, side_cell, side_at, side_off, sides_none, sides_all}
-use Rattle.fence.proofs.Fences.{touch_none, touch_more, touch_hit, touch_end}
+use Rattle.grid.proofs.AroundLaws.{gathered}
 use Rattle.fence.proofs.touches_marked.Given as goal
 
 -- none of the cells is marked

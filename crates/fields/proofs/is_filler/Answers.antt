@@ -2,7 +2,6 @@
 -- Assumes nothing.
 use native.Mathlib.Omega.{arith}
 use Rattle.fields.proofs.FieldLaws.{filler_long, filler_none, filler_bits}
-use borrow.Author.Rules.{rules}
 use Rattle.fields.proofs.is_filler.Goals as goal
 
 pub returns-then-at-s : goal.returns-then-at-s

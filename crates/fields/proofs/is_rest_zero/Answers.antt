@@ -1,7 +1,6 @@
 -- `fields::is_rest_zero` meets its contract: its bits are those to the end of the byte.
 -- Assumes nothing.
 use Rattle.fields.proofs.FieldLaws.{rest_bits}
-use borrow.Author.Rules.{rules}
 use Rattle.fields.proofs.is_rest_zero.Goals as goal
 
 pub returns : goal.returns

@@ -2,12 +2,9 @@
 -- Assumes nothing.
 use mathlib.Core.Path.{◌≡◌}
 use Prim.Native.Nat.{◌+◌, ◌-◌, ◌*◌, ◌/◌, ◌%◌, ◌^◌}
-use lib.Pow.{pow_pos, pow_mono}
 use Rattle.fields.specs.Fields.{number}
-use Rattle.fields.proofs.OutcomeLaws.{number-lt}
 use native.Mathlib.Omega.{arith}
-use Rattle.fields.proofs.FieldLaws.{one_shifted, shifted}
-use borrow.Author.Rules.{rules}
+use Rattle.fields.proofs.FieldLaws.{shifted}
 use Rattle.fields.proofs.number_at.Goals as goal
 
 pub returns : goal.returns

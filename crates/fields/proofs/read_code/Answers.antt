@@ -2,7 +2,6 @@
 -- Assumes nothing.
 use Rattle.fields.specs.Fields.{field}
 use Rattle.fields.proofs.ReadLaws.{value_ok, fault_refused, code_value, code_fault}
-use borrow.Author.Rules.{rules}
 use Rattle.fields.proofs.read_code.Goals as goal
 
 pub returns-in-Value : goal.returns-in-Value

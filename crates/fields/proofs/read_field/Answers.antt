@@ -1,7 +1,6 @@
 -- `fields::read_field` meets its contract.
 -- Assumes nothing.
 use Rattle.fields.proofs.FieldLaws.{field_cut, field_there}
-use borrow.Author.Rules.{rules}
 use Rattle.fields.proofs.read_field.Goals as goal
 
 pub returns-then-s-at : goal.returns-then-s-at

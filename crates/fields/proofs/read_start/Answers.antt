@@ -3,10 +3,8 @@
 use Prim.Native.Nat.{◌+◌}
 use mathlib.Core.Path.{◌≡◌}
 use Rattle.fields.specs.Fields.{ok, field}
-use Rattle.grid.specs.Grid.{Grid}
 use Rattle.grid.specs.Side.{sized}
 use Rattle.fields.proofs.ReadLaws.{value_ok, fault_refused, start_cut, start_cut_2, start_cut_3, start_low, start_aside, start_on}
-use borrow.Author.Rules.{rules}
 use Rattle.fields.proofs.read_start.Goals as goal
 use Rattle.fields.proofs.read_start.Goals.{In-Value, In-Value-k, In-Value-x}
 

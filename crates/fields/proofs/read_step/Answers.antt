@@ -6,7 +6,6 @@ use Rattle.fields.specs.Fields.{ok, field}
 use Rattle.grid.specs.Side.{sized}
 use Rattle.fields.proofs.OutcomeLaws.{field-ok}
 use Rattle.fields.proofs.ReadLaws.{value_ok, fault_refused, step_value, step_fault}
-use borrow.Author.Rules.{rules}
 use Rattle.fields.proofs.read_step.Goals as goal
 use Rattle.fields.proofs.read_step.Goals.{In-Value}
 

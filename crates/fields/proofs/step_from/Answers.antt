@@ -1,7 +1,6 @@
 -- `fields::step_from` meets its contract: each direction by its own law.
 -- Assumes nothing.
-use Rattle.fields.proofs.StepLaws.{no_direction, step_up, no_up, step_down, no_down, step_left, no_left, step_right, no_right}
-use borrow.Author.Rules.{rules}
+use Rattle.fields.proofs.StepLaws.{step_up, no_up, step_down, no_down, step_left, no_left, step_right, no_right}
 use Rattle.fields.proofs.step_from.Goals as goal
 
 pub returns-then-row-gt0 : goal.returns-then-row-gt0

@@ -1,6 +1,5 @@
 -- `file::is_tail` meets its contract: each way out by its own law.
 -- Assumes nothing.
-use borrow.Author.Rules.{rules}
 use Rattle.file.proofs.TailLaws.{tail_short, tail_long}
 use Rattle.file.proofs.is_tail.Goals as goal
 

@@ -1,7 +1,6 @@
 -- `file::no_setter` meets its contract.
 -- Assumes nothing.
 use mathlib.Core.Path.{refl}
-use borrow.Author.Rules.{rules}
 use Rattle.file.specs.Answers.{setter_of}
 use Rattle.file.proofs.no_setter.Goals as goal
 

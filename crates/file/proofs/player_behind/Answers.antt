@@ -3,8 +3,6 @@
 use Prim.Native.Nat.{◌≤◌}
 use native.Mathlib.Omega.{arith}
 use mathlib.Core.Path.{◌≡◌, sym, ap, ◌∙◌}
-use borrow.Author.Rules.{rules}
-use borrow.Author.Tests.{not-true, not-false}
 use Rattle.fields.specs.Fields.{ok}
 use Rattle.record.specs.Problem.{problem_of}
 use Rattle.record.specs.Head.{Head, read_head}

@@ -6,7 +6,6 @@ use mathlib.Core.Path.{refl, ◌∙◌}
 use lib.ListN.{length}
 use mir.Syntax.{w32}
 use mir.ValLaws.{to_z-of_z}
-use borrow.Author.Rules.{rules}
 use Rattle.file.proofs.AnswerLaws.{player_refused, player_bounds, player_given_lem}
 use Rattle.file.proofs.player_file.Goals as goal
 

@@ -1,7 +1,6 @@
 -- `file::read_player` meets its contract: there is room for the grade.
 -- Assumes nothing.
 use mathlib.Core.Path.{ap, ◌∙◌}
-use borrow.Author.Rules.{rules}
 use Rattle.file.specs.Answers.{player_of}
 use Rattle.file.proofs.AnswerLaws.{player_room}
 use Rattle.file.proofs.read_player.Goals as goal

@@ -1,7 +1,6 @@
 -- `file::read_setter` meets its contract: there is room for the grade and 1,024 cells.
 -- Assumes nothing.
 use mathlib.Core.Path.{ap, ◌∙◌}
-use borrow.Author.Rules.{rules}
 use Rattle.file.specs.Answers.{setter_of}
 use Rattle.file.proofs.AnswerLaws.{setter_room}
 use Rattle.file.proofs.read_setter.Goals as goal

@@ -1,12 +1,11 @@
 -- `file::read_solution` meets its contract: the first i cells are in the array.
 -- Assumes nothing.
-use Prim.Native.Nat.{ℕ, ◌+◌, ◌-◌, ◌*◌, ◌≤◌}
+use Prim.Native.Nat.{ℕ, ◌+◌, ◌-◌, ◌*◌}
 use native.Mathlib.Omega.{arith}
-use mathlib.Core.Path.{◌≡◌, ap, ◌∙◌}
+use mathlib.Core.Path.{ap, ◌∙◌}
 use mathlib.Core.List.{List}
-use lib.ListN.{drop, set}
-use borrow.Author.Rules.{rules}
-use Rattle.grid.specs.Lists.{upto, range, array_of}
+use lib.ListN.{set}
+use Rattle.grid.specs.Lists.{upto, range}
 use Rattle.fields.proofs.OutcomeLaws.{number-lt}
 use Rattle.file.specs.File.{solution_in}
 use Rattle.file.proofs.AnswerLaws.{solution_more}

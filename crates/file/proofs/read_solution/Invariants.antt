@@ -1,13 +1,10 @@
-use Prim.Native.Nat.{ℕ, ◌+◌, ◌-◌, ◌*◌, ◌≤◌}
-use native.Mathlib.Omega.{arith}
-use mathlib.Core.Path.{◌≡◌, ap, ◌∙◌}
-use mathlib.Core.List.{List}
-use lib.ListN.{drop, set}
-use borrow.Author.Rules.{rules}
-use Rattle.grid.specs.Lists.{upto, range, array_of}
-use Rattle.fields.proofs.OutcomeLaws.{number-lt}
+-- What holds at each turn of the loop of `file::read_solution`, and what falls from turn to turn.
+-- Assumes nothing.
+use Prim.Native.Nat.{◌-◌, ◌≤◌}
+use mathlib.Core.Path.{◌≡◌}
+use lib.ListN.{drop}
+use Rattle.grid.specs.Lists.{array_of}
 use Rattle.file.specs.File.{solution_in}
-use Rattle.file.proofs.AnswerLaws.{solution_more}
 use Rattle.file.proofs.read_solution.Given as goal
 
 abbrev pub invariant-loop-i : goal.invariant-loop-i

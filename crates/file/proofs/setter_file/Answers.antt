@@ -6,7 +6,6 @@ use mathlib.Core.Path.{◌≡◌, ◌∙◌}
 use lib.ListN.{length}
 use mir.Syntax.{w32}
 use mir.ValLaws.{to_z-of_z}
-use borrow.Author.Rules.{rules}
 use Rattle.file.proofs.AnswerLaws.{setter_refused, setter_bounds, setter_given_lem}
 use Rattle.file.proofs.setter_file.Goals as goal
 

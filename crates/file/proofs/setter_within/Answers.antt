@@ -1,7 +1,6 @@
 -- `file::setter_within` meets its contract: a refused record, and one that is read.
 -- Assumes nothing.
 use mathlib.Core.Path.{◌≡◌, sym, ap, ◌∙◌}
-use borrow.Author.Rules.{rules}
 use Rattle.fields.specs.Fields.{ok}
 use Rattle.record.specs.Problem.{problem_of}
 use Rattle.record.specs.Head.{Head, read_head}

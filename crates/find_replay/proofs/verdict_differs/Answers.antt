@@ -1,6 +1,5 @@
 -- `find_replay::verdict_differs` tests the number for each verdict.
 -- Assumes nothing.
-use borrow.Author.Rules.{rules}
 use Rattle.find_replay.proofs.EntryLaws.{yes_told, no_told, refused_told}
 use Rattle.find_replay.proofs.verdict_differs.Goals as goal
 

@@ -1,12 +1,10 @@
 -- `finds::find_differs` holds the answer and then the whole buffer against what the list says.
 -- Assumes nothing.
-use borrow.Author.Rules.{rules}
 use Prim.Native.Nat.{ℕ}
-use mathlib.Core.Path.{◌≡◌, sym, ap, ◌∙◌}
+use mathlib.Core.Path.{◌≡◌, ap, ◌∙◌}
 use mathlib.Core.List.{List, ◌++◌}
 use native.Mathlib.Omega.{arith}
 use lib.ListN.{drop}
-use lib.Seq.{length-take-le}
 use Rattle.board.specs.Hints.{after_find}
 use Rattle.replay.specs.Lists.{number_in, differs}
 use Rattle.replay.proofs.ComparisonLaws.{fails}

@@ -3,7 +3,7 @@
 use borrow.Author.Rules.{rules}
 use Prim.Native.Nat.{◌-◌}
 use lib.ListN.{length}
-use mathlib.Core.Path.{◌≡◌, refl, sym, ap, ◌∙◌}
+use mathlib.Core.Path.{◌≡◌, sym, ap, ◌∙◌}
 use Rattle.reasons.specs.Find.{find_of, buffer_after}
 use Rattle.finds.proofs.FindLaws.{find_again, buffer_again}
 use Rattle.finds.proofs.find_in_rounds.Goals as goal

@@ -1,9 +1,7 @@
-use borrow.Author.Rules.{rules}
+-- What holds at each turn of the loop of `finds::find_in_rounds`, and what falls from turn to turn.
+-- Assumes nothing.
 use Prim.Native.Nat.{◌-◌}
-use lib.ListN.{length}
-use mathlib.Core.Path.{◌≡◌, refl, sym, ap, ◌∙◌}
-use Rattle.reasons.specs.Find.{find_of, buffer_after}
-use Rattle.finds.proofs.FindLaws.{find_again, buffer_again}
+use mathlib.Core.Path.{◌≡◌}
 use Rattle.finds.proofs.find_in_rounds.Given as goal
 
 abbrev pub invariant-loop-i : goal.invariant-loop-i

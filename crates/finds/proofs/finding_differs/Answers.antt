@@ -1,7 +1,6 @@
 -- `finds::finding_differs` tests what each kind of answer has.
 -- Assumes nothing.
-use borrow.Author.Rules.{rules}
-use mathlib.Core.Path.{◌≡◌, refl, sym, ◌∙◌}
+use mathlib.Core.Path.{◌≡◌, refl, ◌∙◌}
 use mathlib.Core.Bool.{true, false, not, ◌||◌}
 use mathlib.Core.Logic.{⊎_elim}
 use lib.Dec.{eqb}

@@ -1,18 +1,13 @@
 -- `finished::all_keep_given` meets its contract: `good` says of the cells passed that each keeps what is given.
 -- Assumes nothing.
-use Prim.Native.Nat.{ℕ, ◌<◌, ◌-◌}
+use Prim.Native.Nat.{◌<◌, ◌-◌}
 use native.Mathlib.Omega.{arith}
-use mathlib.Core.Logic.{⊎_elim}
-use mathlib.Core.Path.{◌≡◌, refl, sym, ◌∙◌, ap}
-use mathlib.Core.Bool.{Bool, ◌&&◌}
-use mathlib.Core.List.{List}
-use borrow.Author.Rules.{rules}
-use borrow.Author.Tests.{not-true, not-false}
-use lib.ListN.{length, get_or, drop}
-use Rattle.grid.specs.Lists.{upto, all}
+use mathlib.Core.Path.{◌≡◌, sym, ◌∙◌, ap}
+use lib.ListN.{length, get_or}
+use Rattle.grid.specs.Lists.{upto}
 use Rattle.grid.proofs.AppendLaws.{upto_at, upto-length}
 use Rattle.form.proofs.Passes.{pass_on, pass_fail, pass_end}
-use Rattle.finished.specs.Finished.{keeps, keeps_all}
+use Rattle.finished.specs.Finished.{keeps_all}
 use Rattle.finished.proofs.all_keep_given.Goals as goal
 use Rattle.finished.proofs.all_keep_given.Invariants.{at}
 use Rattle.finished.proofs.all_keep_given.Goals.{else-not-keeps_given, then-not-keeps_given}

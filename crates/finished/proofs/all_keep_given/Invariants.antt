@@ -1,16 +1,12 @@
-use Prim.Native.Nat.{ℕ, ◌<◌, ◌-◌}
-use native.Mathlib.Omega.{arith}
-use mathlib.Core.Logic.{⊎_elim}
-use mathlib.Core.Path.{◌≡◌, refl, sym, ◌∙◌, ap}
+-- What holds at each turn of the loop of `finished::all_keep_given`, and what falls from turn to turn.
+-- Assumes nothing.
+use Prim.Native.Nat.{ℕ, ◌-◌}
+use mathlib.Core.Path.{◌≡◌}
 use mathlib.Core.Bool.{Bool, ◌&&◌}
 use mathlib.Core.List.{List}
-use borrow.Author.Rules.{rules}
-use borrow.Author.Tests.{not-true, not-false}
-use lib.ListN.{length, get_or, drop}
+use lib.ListN.{get_or, drop}
 use Rattle.grid.specs.Lists.{upto, all}
-use Rattle.grid.proofs.AppendLaws.{upto_at, upto-length}
-use Rattle.form.proofs.Passes.{pass_on, pass_fail, pass_end}
-use Rattle.finished.specs.Finished.{keeps, keeps_all}
+use Rattle.finished.specs.Finished.{keeps}
 use Rattle.finished.proofs.all_keep_given.Given as goal
 
 -- the test of cell i

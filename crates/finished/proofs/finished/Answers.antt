@@ -3,7 +3,6 @@
 use native.Mathlib.Omega.{arith}
 use mathlib.Core.Path.{◌≡◌, sym, ◌∙◌}
 use mathlib.Core.Bool.{Bool, true, false}
-use borrow.Author.Tests.{not-true, not-false}
 use Rattle.form.proofs.ProblemForm.{is_Formed}
 use Rattle.board.specs.Form.{well_formed}
 use Rattle.board.proofs.BoardForm.{Whole-is}
@@ -11,7 +10,6 @@ use Rattle.reasons.specs.Find.{leaf_on}
 use Rattle.reasons.proofs.BoardArrays.{board_edition, Lent, Lent-by, lent_few, board_lent, board_kept}
 use Rattle.finished.specs.Verdicts.{verdict, finished_of}
 use Rattle.finished.proofs.VerdictLaws.{few, finished_ill, finished_by}
-use borrow.Author.Rules.{rules}
 use Rattle.finished.proofs.finished.Goals as goal
 
 pub returns-then-not-well_formed : goal.returns-then-not-well_formed

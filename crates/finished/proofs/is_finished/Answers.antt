@@ -4,14 +4,10 @@ use Prim.Native.Nat.{◌*◌}
 use native.Mathlib.Omega.{arith}
 use mathlib.Core.Path.{◌≡◌, sym, ◌∙◌}
 use mathlib.Core.Bool.{true, ◌&&◌}
-use mathlib.Core.List.{List}
 use lib.ListN.{length}
-use borrow.Author.Tests.{not-true, not-false}
 use Rattle.grid.specs.Lists.{all}
-use Rattle.record.specs.Leaf.{Range}
 use Rattle.record.specs.Sizes.{GoodSizes, kept_ranges}
 use Rattle.record.specs.Problem.{puzzle_of, grid_of}
-use Rattle.record.specs.declared.Problem.{Problem}
 use Rattle.form.proofs.ProblemForm.{Formed, Formed-is}
 use Rattle.groups.specs.Arrays.{lines_of}
 use Rattle.literals.proofs.Findings.{not_refused}
@@ -21,7 +17,6 @@ use Rattle.sized.proofs.KeptLaws.{kept_good}
 use Rattle.finished.specs.Finished.{keeps_all, two_squares}
 use Rattle.finished.specs.Inside.{problem_on}
 use Rattle.finished.proofs.VerdictLaws.{few, fails_before, no_reason, some_reason}
-use borrow.Author.Rules.{rules}
 use Rattle.finished.proofs.is_finished.Goals as goal
 
 pub overflow_mul-h : goal.overflow_mul-h

@@ -1,14 +1,12 @@
 -- `finished::squares_on` meets its contract: the squares counted so far and those from k on are all of them.
 -- Assumes nothing.
-use Prim.Native.Nat.{◌+◌, ◌-◌, ◌≤◌}
+use Prim.Native.Nat.{◌-◌}
 use native.Mathlib.Omega.{arith}
-use mathlib.Core.Logic.{⊎_elim}
 use mathlib.Core.Path.{◌≡◌}
 use lib.ListN.{get_or}
-use borrow.Author.Rules.{rules}
 use borrow.Author.Tests.{eq-eqb, ne_eqb}
 use Rattle.grid.specs.Cells.{square}
-use Rattle.grid.proofs.ArrowSquares.{ahead, none_ahead, one_counted, other_passed}
+use Rattle.grid.proofs.ArrowSquares.{none_ahead, one_counted, other_passed}
 use Rattle.finished.proofs.squares_on.Goals as goal
 use Rattle.finished.proofs.squares_on.Goals.{else-cells-wide-eq1, then-cells-wide-eq1}
 

@@ -1,12 +1,9 @@
+-- What holds at each turn of the loop of `finished::squares_on`, and what falls from turn to turn.
+-- Assumes nothing.
 use Prim.Native.Nat.{◌+◌, ◌-◌, ◌≤◌}
-use native.Mathlib.Omega.{arith}
-use mathlib.Core.Logic.{⊎_elim}
 use mathlib.Core.Path.{◌≡◌}
-use lib.ListN.{get_or}
-use borrow.Author.Rules.{rules}
-use borrow.Author.Tests.{eq-eqb, ne_eqb}
 use Rattle.grid.specs.Cells.{square}
-use Rattle.grid.proofs.ArrowSquares.{ahead, none_ahead, one_counted, other_passed}
+use Rattle.grid.proofs.ArrowSquares.{ahead}
 use Rattle.finished.proofs.squares_on.Given as goal
 
 abbrev pub invariant-loop-k : goal.invariant-loop-k

@@ -1,20 +1,13 @@
 -- `finished::two_on_each` meets its contract: `good` says of the arrows passed that two squares or more stand on each.
 -- Assumes nothing.
-use Prim.Native.Nat.{ℕ, ◌-◌, ◌<◌}
+use Prim.Native.Nat.{◌-◌, ◌<◌}
 use native.Mathlib.Omega.{arith}
-use mathlib.Core.Logic.{⊎_elim}
-use mathlib.Core.Path.{◌≡◌, refl, sym, ◌∙◌}
-use mathlib.Core.Bool.{◌&&◌}
-use mathlib.Core.List.{List}
-use lib.ListN.{length, get_or, take, drop}
+use mathlib.Core.Path.{◌≡◌, sym, ◌∙◌}
+use lib.ListN.{length, get_or, take}
 use lib.Seq.{length-take-le, get_or-take}
-use borrow.Author.Rules.{rules}
-use Rattle.grid.specs.Lists.{all}
 use Rattle.grid.specs.Cells.{square}
 use Rattle.grid.proofs.ArrowSquares.{ahead, has_two, lacks_two}
-use Rattle.record.specs.Problem.{arrows_from}
 use Rattle.form.proofs.Steps.{arrows_on, arrows_fail, arrows_end}
-use Rattle.groups.specs.Arrays.{lines_of}
 use Rattle.finished.specs.Finished.{two_squares}
 use Rattle.finished.proofs.two_on_each.Goals as goal
 use Rattle.finished.proofs.two_on_each.Goals.{else-squares_on-lt2, then-squares_on-lt2}

@@ -1,17 +1,11 @@
-use Prim.Native.Nat.{ℕ, ◌-◌, ◌<◌}
-use native.Mathlib.Omega.{arith}
-use mathlib.Core.Logic.{⊎_elim}
-use mathlib.Core.Path.{◌≡◌, refl, sym, ◌∙◌}
+-- What holds at each turn of the loop of `finished::two_on_each`, and what falls from turn to turn.
+-- Assumes nothing.
+use Prim.Native.Nat.{◌-◌}
+use mathlib.Core.Path.{◌≡◌}
 use mathlib.Core.Bool.{◌&&◌}
-use mathlib.Core.List.{List}
-use lib.ListN.{length, get_or, take, drop}
-use lib.Seq.{length-take-le, get_or-take}
-use borrow.Author.Rules.{rules}
+use lib.ListN.{take, drop}
 use Rattle.grid.specs.Lists.{all}
-use Rattle.grid.specs.Cells.{square}
-use Rattle.grid.proofs.ArrowSquares.{ahead, has_two, lacks_two}
 use Rattle.record.specs.Problem.{arrows_from}
-use Rattle.form.proofs.Steps.{arrows_on, arrows_fail, arrows_end}
 use Rattle.groups.specs.Arrays.{lines_of}
 use Rattle.finished.specs.Finished.{two_squares}
 use Rattle.finished.proofs.two_on_each.Given as goal

@@ -2,19 +2,13 @@
 -- Assumes nothing.
 use Prim.Native.Nat.{ℕ, ◌+◌, ◌≤◌, ◌<◌, ◌-◌}
 use native.Mathlib.Omega.{arith}
-use mathlib.Core.Logic.{⊎_elim}
-use mathlib.Core.Path.{◌≡◌, refl, sym, ◌∙◌}
-use mathlib.Core.Bool.{Bool, true, ◌&&◌}
+use mathlib.Core.Path.{◌≡◌, sym, ◌∙◌}
+use mathlib.Core.Bool.{Bool, true}
 use mathlib.Core.List.{List}
-use borrow.Author.Rules.{rules}
-use borrow.Author.Tests.{not-true, not-false}
 use lib.ListN.{length, get_or, take, drop}
 use lib.Seq.{length-take-le, get_or-take}
-use Rattle.grid.specs.Lists.{all, last}
-use Rattle.grid.specs.Grid.{Grid, size}
-use Rattle.record.specs.Problem.{arrows_from}
+use Rattle.grid.specs.Lists.{last}
 use Rattle.form.specs.Form.{rises, is_path}
-use Rattle.form.specs.Inside.{Suits, Below}
 use Rattle.form.proofs.ProblemForm.{rises-last}
 use Rattle.form.proofs.Passes.{last_on}
 use Rattle.form.proofs.Steps.{arrows_on, arrows_fail, arrows_end, next_rise}

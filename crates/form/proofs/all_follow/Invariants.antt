@@ -1,21 +1,15 @@
-use Prim.Native.Nat.{ℕ, ◌+◌, ◌≤◌, ◌<◌, ◌-◌}
-use native.Mathlib.Omega.{arith}
-use mathlib.Core.Logic.{⊎_elim}
-use mathlib.Core.Path.{◌≡◌, refl, sym, ◌∙◌}
+-- What holds at each turn of the loop of `form::all_follow`, and what falls from turn to turn.
+-- Assumes nothing.
+use Prim.Native.Nat.{ℕ, ◌-◌}
+use mathlib.Core.Path.{◌≡◌}
 use mathlib.Core.Bool.{Bool, true, ◌&&◌}
 use mathlib.Core.List.{List}
-use borrow.Author.Rules.{rules}
-use borrow.Author.Tests.{not-true, not-false}
-use lib.ListN.{length, get_or, take, drop}
-use lib.Seq.{length-take-le, get_or-take}
+use lib.ListN.{take, drop}
 use Rattle.grid.specs.Lists.{all, last}
 use Rattle.grid.specs.Grid.{Grid, size}
 use Rattle.record.specs.Problem.{arrows_from}
 use Rattle.form.specs.Form.{rises, is_path}
 use Rattle.form.specs.Inside.{Suits, Below}
-use Rattle.form.proofs.ProblemForm.{rises-last}
-use Rattle.form.proofs.Passes.{last_on}
-use Rattle.form.proofs.Steps.{arrows_on, arrows_fail, arrows_end, next_rise}
 use Rattle.form.proofs.all_follow.Given as goal
 
 -- amid the arrows: the ends l, of which k are passed

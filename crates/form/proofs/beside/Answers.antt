@@ -1,6 +1,5 @@
 -- `form::beside` meets its contract: one way for each direction, and one for none.
 -- Assumes nothing.
-use borrow.Author.Rules.{rules}
 use Rattle.form.proofs.Steps.{step_up, step_down, step_left, step_right, step_none}
 use Rattle.form.proofs.beside.Goals as goal
 

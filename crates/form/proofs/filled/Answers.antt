@@ -2,14 +2,10 @@
 -- Assumes nothing.
 use Prim.Native.Nat.{◌<◌, ◌-◌}
 use native.Mathlib.Omega.{arith}
-use mathlib.Core.Logic.{⊎_elim}
-use mathlib.Core.Path.{◌≡◌, refl, sym}
-use mathlib.Core.Bool.{◌&&◌}
-use borrow.Author.Rules.{rules}
+use mathlib.Core.Path.{refl, sym}
 use borrow.Author.Tests.{eq-eqb, ne_eqb}
 use lib.Dec.{eqb}
-use lib.ListN.{length, get_or, drop}
-use Rattle.grid.specs.Lists.{all}
+use lib.ListN.{length, get_or}
 use Rattle.form.specs.Form.{behind}
 use Rattle.form.proofs.Passes.{pass_on, pass_fail, pass_end}
 use Rattle.form.proofs.filled.Goals as goal

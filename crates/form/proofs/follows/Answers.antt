@@ -1,18 +1,11 @@
 -- `form::follows` meets its contract: what is left from the cell i says what the whole says.
 -- Assumes nothing.
-use Prim.Native.Nat.{ℕ, ◌≤◌, ◌<◌, ◌-◌}
+use Prim.Native.Nat.{◌≤◌, ◌<◌, ◌-◌}
 use native.Mathlib.Omega.{arith}
-use mathlib.Core.Logic.{⊎_elim}
 use mathlib.Core.Path.{◌≡◌, refl, sym, ◌∙◌}
-use mathlib.Core.Bool.{Bool, ◌&&◌}
-use mathlib.Core.List.{List}
-use borrow.Author.Rules.{rules}
-use borrow.Author.Tests.{not-true, not-false}
-use lib.ListN.{length, get_or, take, drop}
+use lib.ListN.{length, get_or}
 use Rattle.grid.specs.Lists.{member}
-use Rattle.grid.specs.Grid.{Grid, size, neighbours}
-use Rattle.form.specs.Form.{walks, is_path}
-use Rattle.form.specs.Inside.{Suits, Below}
+use Rattle.grid.specs.Grid.{size, neighbours}
 use Rattle.form.proofs.Steps.{walk_start, walk_on, walk_fail, walk_end}
 use Rattle.form.proofs.follows.Goals as goal
 use Rattle.form.proofs.follows.Goals.{else-not-beside, then-not-beside}

@@ -1,17 +1,13 @@
-use Prim.Native.Nat.{ℕ, ◌≤◌, ◌<◌, ◌-◌}
-use native.Mathlib.Omega.{arith}
-use mathlib.Core.Logic.{⊎_elim}
-use mathlib.Core.Path.{◌≡◌, refl, sym, ◌∙◌}
+-- What holds at each turn of the loop of `form::follows`, and what falls from turn to turn.
+-- Assumes nothing.
+use Prim.Native.Nat.{ℕ, ◌<◌, ◌-◌}
+use mathlib.Core.Path.{◌≡◌}
 use mathlib.Core.Bool.{Bool, ◌&&◌}
 use mathlib.Core.List.{List}
-use borrow.Author.Rules.{rules}
-use borrow.Author.Tests.{not-true, not-false}
-use lib.ListN.{length, get_or, take, drop}
-use Rattle.grid.specs.Lists.{member}
-use Rattle.grid.specs.Grid.{Grid, size, neighbours}
+use lib.ListN.{get_or, take, drop}
+use Rattle.grid.specs.Grid.{Grid, size}
 use Rattle.form.specs.Form.{walks, is_path}
 use Rattle.form.specs.Inside.{Suits, Below}
-use Rattle.form.proofs.Steps.{walk_start, walk_on, walk_fail, walk_end}
 use Rattle.form.proofs.follows.Given as goal
 
 -- amid the walk: i is the cell passed last

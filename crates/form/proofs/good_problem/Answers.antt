@@ -5,11 +5,8 @@ use native.Mathlib.Omega.{arith}
 use mathlib.Core.Path.{◌≡◌, refl, sym, ◌∙◌}
 use mathlib.Core.Bool.{true}
 use lib.ListN.{take}
-use borrow.Author.Rules.{rules}
-use borrow.Author.Tests.{not-true, not-false}
-use Rattle.grid.specs.Grid.{Grid, size}
+use Rattle.grid.specs.Grid.{size}
 use Rattle.record.specs.Problem.{grid_of}
-use Rattle.record.specs.declared.Problem.{Problem}
 use Rattle.form.specs.Form.{good_size, rises, drawn}
 use Rattle.form.proofs.Verdicts.{problem_size, problem_count, problem_rise, problem_drawn, problem_codes, problem_behind, problem_is, area_of}
 use Rattle.form.proofs.good_problem.Goals as goal

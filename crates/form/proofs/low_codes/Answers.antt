@@ -1,16 +1,11 @@
 -- `form::low_codes` meets its contract: `good` says of the places passed that each holds a code below 3.
 -- Assumes nothing.
-use Prim.Native.Nat.{ℕ, ◌<◌, ◌-◌}
+use Prim.Native.Nat.{◌<◌, ◌-◌}
 use native.Mathlib.Omega.{arith}
-use mathlib.Core.Logic.{⊎_elim}
-use mathlib.Core.Path.{◌≡◌, refl, ◌∙◌, ap}
-use mathlib.Core.Bool.{◌&&◌, Bool}
-use borrow.Author.Rules.{rules}
+use mathlib.Core.Path.{◌≡◌, ◌∙◌, ap}
 use borrow.Author.Tests.{lt-ltb, le-ltb}
-use lib.Dec.{ltb}
-use lib.ListN.{length, get_or, take, drop}
+use lib.ListN.{length, get_or, take}
 use lib.Seq.{length-take-le, get_or-take}
-use Rattle.grid.specs.Lists.{all}
 use Rattle.form.proofs.Passes.{pass_on, pass_fail, pass_end}
 use Rattle.form.proofs.low_codes.Goals as goal
 use Rattle.form.proofs.low_codes.Invariants.{low}

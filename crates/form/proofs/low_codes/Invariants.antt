@@ -1,15 +1,11 @@
-use Prim.Native.Nat.{ℕ, ◌<◌, ◌-◌}
-use native.Mathlib.Omega.{arith}
-use mathlib.Core.Logic.{⊎_elim}
-use mathlib.Core.Path.{◌≡◌, refl, ◌∙◌, ap}
+-- What holds at each turn of the loop of `form::low_codes`, and what falls from turn to turn.
+-- Assumes nothing.
+use Prim.Native.Nat.{ℕ, ◌-◌}
+use mathlib.Core.Path.{◌≡◌}
 use mathlib.Core.Bool.{◌&&◌, Bool}
-use borrow.Author.Rules.{rules}
-use borrow.Author.Tests.{lt-ltb, le-ltb}
 use lib.Dec.{ltb}
-use lib.ListN.{length, get_or, take, drop}
-use lib.Seq.{length-take-le, get_or-take}
+use lib.ListN.{take, drop}
 use Rattle.grid.specs.Lists.{all}
-use Rattle.form.proofs.Passes.{pass_on, pass_fail, pass_end}
 use Rattle.form.proofs.low_codes.Given as goal
 
 -- the test of a code

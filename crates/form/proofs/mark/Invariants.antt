@@ -1,12 +1,8 @@
-use Prim.Native.Nat.{ℕ, ◌<◌, ◌-◌}
-use native.Mathlib.Omega.{arith}
-use mathlib.Core.Path.{◌≡◌, sym, ◌∙◌}
-use mathlib.Core.Bool.{false≢true}
-use mathlib.Core.List.{List}
-use borrow.Author.Rules.{rules}
-use lib.ListN.{length, get_or, take}
-use lib.Seq.{length-take-le, get_or-take}
-use Rattle.form.proofs.Marking.{Marking, Marking-none, marking_off, marking_twice, Marking-more, Marking-end}
+-- What holds at each turn of the loop of `form::mark`, and what falls from turn to turn.
+-- Assumes nothing.
+use Prim.Native.Nat.{◌-◌}
+use lib.ListN.{take}
+use Rattle.form.proofs.Marking.{Marking}
 use Rattle.form.proofs.mark.Given as goal
 
 abbrev pub invariant-loop-k : goal.invariant-loop-k

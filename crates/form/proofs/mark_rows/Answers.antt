@@ -2,8 +2,7 @@
 -- Assumes nothing.
 use Prim.Native.Nat.{◌-◌}
 use native.Mathlib.Omega.{arith}
-use borrow.Author.Rules.{rules}
-use Rattle.form.proofs.Marking.{Rows, Rows-none, Rows-more, Rows-end}
+use Rattle.form.proofs.Marking.{Rows-more}
 use Rattle.form.proofs.mark_rows.Goals as goal
 
 pub loop-at-preserved : goal.loop-at-preserved

@@ -1,7 +1,7 @@
+-- What holds at each turn of the loop of `form::mark_rows`, and what falls from turn to turn.
+-- Assumes nothing.
 use Prim.Native.Nat.{◌-◌}
-use native.Mathlib.Omega.{arith}
-use borrow.Author.Rules.{rules}
-use Rattle.form.proofs.Marking.{Rows, Rows-none, Rows-more, Rows-end}
+use Rattle.form.proofs.Marking.{Rows}
 use Rattle.form.proofs.mark_rows.Given as goal
 
 abbrev pub invariant-loop-at : goal.invariant-loop-at

@@ -2,14 +2,9 @@
 -- Assumes nothing.
 use Prim.Native.Nat.{◌<◌, ◌-◌}
 use native.Mathlib.Omega.{arith}
-use mathlib.Core.Logic.{⊎_elim}
-use mathlib.Core.Path.{◌≡◌, refl, sym, ◌∙◌}
-use mathlib.Core.Bool.{◌&&◌}
-use borrow.Author.Rules.{rules}
-use lib.ListN.{length, get_or, take, drop}
+use mathlib.Core.Path.{◌≡◌, sym, ◌∙◌}
+use lib.ListN.{length, get_or, take}
 use lib.Seq.{length-take-le, get_or-take}
-use Rattle.grid.specs.Lists as Lists
-use Rattle.form.specs.Form.{rises}
 use Rattle.form.proofs.Passes.{rise_on, rise_fail, rise_end, last_on, last_end}
 use Rattle.form.proofs.rising.Goals as goal
 use Rattle.form.proofs.rising.Goals.{else-end-last, then-end-last}

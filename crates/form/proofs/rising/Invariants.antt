@@ -1,14 +1,11 @@
-use Prim.Native.Nat.{◌<◌, ◌-◌}
-use native.Mathlib.Omega.{arith}
-use mathlib.Core.Logic.{⊎_elim}
-use mathlib.Core.Path.{◌≡◌, refl, sym, ◌∙◌}
+-- What holds at each turn of the loop of `form::rising`, and what falls from turn to turn.
+-- Assumes nothing.
+use Prim.Native.Nat.{◌-◌}
+use mathlib.Core.Path.{◌≡◌}
 use mathlib.Core.Bool.{◌&&◌}
-use borrow.Author.Rules.{rules}
-use lib.ListN.{length, get_or, take, drop}
-use lib.Seq.{length-take-le, get_or-take}
+use lib.ListN.{take, drop}
 use Rattle.grid.specs.Lists as Lists
 use Rattle.form.specs.Form.{rises}
-use Rattle.form.proofs.Passes.{rise_on, rise_fail, rise_end, last_on, last_end}
 use Rattle.form.proofs.rising.Given as goal
 
 abbrev pub invariant-loop-k : goal.invariant-loop-k

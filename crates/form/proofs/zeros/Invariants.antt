@@ -1,15 +1,12 @@
-use Prim.Native.Nat.{◌<◌, ◌-◌}
-use native.Mathlib.Omega.{arith}
-use mathlib.Core.Logic.{⊎_elim}
-use mathlib.Core.Path.{◌≡◌, refl, sym}
+-- What holds at each turn of the loop of `form::zeros`, and what falls from turn to turn.
+-- Assumes nothing.
+use Prim.Native.Nat.{◌-◌}
+use mathlib.Core.Path.{◌≡◌}
 use mathlib.Core.Bool.{◌&&◌}
-use borrow.Author.Rules.{rules}
-use borrow.Author.Tests.{eq-eqb, ne_eqb}
 use lib.Dec.{eqb}
-use lib.ListN.{length, get_or, drop}
+use lib.ListN.{drop}
 use Rattle.grid.specs.Lists.{all}
 use Rattle.form.specs.Form.{behind}
-use Rattle.form.proofs.Passes.{pass_on, pass_fail, pass_end}
 use Rattle.form.proofs.zeros.Given as goal
 
 abbrev pub invariant-loop-i : goal.invariant-loop-i

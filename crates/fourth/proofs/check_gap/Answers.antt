@@ -5,22 +5,14 @@ use native.Mathlib.Omega.{arith}
 use mathlib.Core.Path.{◌≡◌, refl, sym, ap, subst, ◌∙◌}
 use mathlib.Core.List.{List}
 use lib.ListN.{length, get_or, take, length-take, length-drop}
-use lib.Seq.{slice}
-use Rattle.grid.specs.Lists.{filter}
-use Rattle.grid.proofs.ListLaws.{filter-length}
-use Rattle.grid.proofs.SliceLaws.{slice_short}
 use Rattle.grid.proofs.SideLaws.{area}
-use Rattle.grid.specs.Cells.{empty}
-use Rattle.kinds.specs.Kinds.{View, block, reach}
+use Rattle.kinds.specs.Kinds.{block, reach}
 use Rattle.growth.specs.Pairs.{view_on, Scene}
-use Rattle.literals.proofs.BufferLaws.{wrote_length}
 use Rattle.literals.proofs.Findings.{lent, Wrote-part}
 use Rattle.growth.proofs.PairChecks.{block_in_lem}
 use Rattle.growth.proofs.PairFinds.{no_gap, gap_found}
-use Rattle.growth.proofs.PairNames.{scene_kind, last_cell, cur_cell, last_name, cur_name}
+use Rattle.growth.proofs.PairNames.{scene_kind, last_name, cur_name}
 use Rattle.growth.proofs.PairSizes.{reach_few, parts_few, most_low}
-use Rattle.literals.proofs.Pass.{each-length}
-use borrow.Author.Rules.{rules}
 use Rattle.fourth.proofs.check_gap.Goals as goal
 
 pub count_reach-reach-requires : goal.count_reach-reach-requires

@@ -1,15 +1,14 @@
 -- `fourth::check_growth` meets its contract: the sizes are compared, and the reason is the three parts.
 -- Assumes nothing.
-use Prim.Native.Nat.{ℕ, ◌*◌, ◌≤◌}
+use Prim.Native.Nat.{◌*◌, ◌≤◌}
 use native.Mathlib.Omega.{arith}
 use mathlib.Core.Path.{◌≡◌, refl, ap, ◌∙◌}
 use lib.ListN.{length, get_or, take}
 use Rattle.grid.proofs.SideLaws.{area}
 use Rattle.growth.proofs.PairChecks.{block_in_lem}
 use Rattle.growth.proofs.PairFinds.{no_growth, growth_found}
-use Rattle.growth.proofs.PairNames.{scene_kind, last_cell, cur_cell, last_name, cur_name}
+use Rattle.growth.proofs.PairNames.{scene_kind, last_name, cur_name}
 use Rattle.shift.proofs.Shifts.{in_few}
-use borrow.Author.Rules.{rules}
 use Rattle.fourth.proofs.check_growth.Goals as goal
 
 pub count_reach-reach-requires : goal.count_reach-reach-requires

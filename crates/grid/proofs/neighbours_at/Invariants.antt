@@ -1,3 +1,5 @@
+-- What holds at each turn of the loop of `grid::neighbours_at`, and what falls from turn to turn.
+-- Assumes nothing.
 use Prim.Native.Nat.{◌+◌, ◌*◌, ◌-◌, ◌≤◌}
 use Rattle.grid.specs.Side.{sized}
 use Rattle.grid.proofs.AroundLaws.{Gathered}

@@ -2,15 +2,15 @@
 -- Assumes nothing.
 use Prim.Native.Nat.{ℕ, ◌≤◌, ◌<◌, ◌-◌, ◌*◌}
 use native.Mathlib.Omega.{arith}
-use mathlib.Core.Path.{◌≡◌, refl, ◌∙◌}
+use mathlib.Core.Path.{◌≡◌, ◌∙◌}
 use mathlib.Core.Bool.{Bool}
 use mathlib.Core.List.{List}
-use lib.ListN.{length, length-replicate, take}
+use lib.ListN.{length-replicate, take}
 use Rattle.grid.specs.Grid.{size}
 use Rattle.grid.specs.Side.{sized}
 use Rattle.groups.specs.Arrays.{counts}
-use Rattle.groups.specs.Flood.{Marked, Sofar}
-use Rattle.groups.specs.Table.{Unused, Tabled}
+use Rattle.groups.specs.Flood.{Marked}
+use Rattle.groups.specs.Table.{Unused}
 use Rattle.grid.proofs.SideLaws.{area}
 use Rattle.groups.proofs.FloodLaws.{marked_yet, unused, flooded}
 use Rattle.groups.proofs.LabelLaws.{counts-take, counts_below}

@@ -1,19 +1,12 @@
-use Prim.Native.Nat.{ℕ, ◌≤◌, ◌<◌, ◌-◌, ◌*◌}
-use native.Mathlib.Omega.{arith}
-use mathlib.Core.Path.{◌≡◌, refl, ◌∙◌}
-use mathlib.Core.Bool.{Bool}
-use mathlib.Core.List.{List}
-use lib.ListN.{length, length-replicate, take}
-use Rattle.grid.specs.Grid.{size}
+-- What holds at each turn of the loop of `groups::compute_connected_components`, and what falls from turn to turn.
+-- Assumes nothing.
+use Prim.Native.Nat.{◌≤◌, ◌-◌}
+use mathlib.Core.Path.{◌≡◌}
+use lib.ListN.{length, take}
 use Rattle.grid.specs.Side.{sized}
 use Rattle.groups.specs.Arrays.{counts}
-use Rattle.groups.specs.Flood.{Marked, Sofar}
-use Rattle.groups.specs.Table.{Unused, Tabled}
-use Rattle.grid.proofs.SideLaws.{area}
-use Rattle.groups.proofs.FloodLaws.{marked_yet, unused, flooded}
-use Rattle.groups.proofs.LabelLaws.{counts-take, counts_below}
-use Rattle.groups.proofs.LabellingLaws.{Sofar-none, Sofar-more}
-use Rattle.groups.proofs.TableLaws.{named_few, Tabled-none, Tabled-more, tabled}
+use Rattle.groups.specs.Flood.{Sofar}
+use Rattle.groups.specs.Table.{Tabled}
 use Rattle.groups.proofs.compute_connected_components.Given as goal
 
 abbrev pub invariant-loop-s : goal.invariant-loop-s

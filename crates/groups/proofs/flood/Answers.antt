@@ -5,19 +5,16 @@ use Prim.Native.Nat.{ℕ, ◌+◌, ◌-◌, ◌*◌, ◌≤◌, ◌<◌}
 use native.Mathlib.Omega.{arith}
 use mathlib.Core.Path.{◌≡◌, refl, ap}
 use mathlib.Core.Bool.{Bool, true}
-use mathlib.Core.List.{List}
 use lib.ListN.{get_or, set}
-use Rattle.grid.specs.Grid.{Grid, size}
+use Rattle.grid.specs.Grid.{size}
 use Rattle.grid.specs.Side.{sized}
 use Rattle.grid.proofs.SideLaws.{area}
 use Rattle.grid.proofs.ArrayLaws.{how_many-le}
 use Rattle.groups.specs.Arrays.{marked}
 use Rattle.groups.specs.Flood.{unlabelled, free, Only, Flooding}
-use Rattle.groups.specs.Table.{Counting}
 use Rattle.groups.proofs.GroupLaws.{linked_size}
 use Rattle.groups.proofs.CountLaws.{Offered-counts, counted, labelled_none, Counting-none, Counting-all, Counting-few}
-use Rattle.groups.proofs.FloodLaws.{Offered-labelled, flood_starts, flood_ends, Walked-none}
-use borrow.Author.Rules.{rules}
+use Rattle.groups.proofs.FloodLaws.{Offered-labelled, flood_starts, flood_ends}
 use Rattle.groups.proofs.flood.Goals as goal
 use Rattle.groups.proofs.flood.Goals.{After-way_told-2-1, After-wide-i, Else-labels-s-ne-UNLABELLED}
 

@@ -1,20 +1,15 @@
-use Prim.Native.Nat.{ℕ, ◌+◌, ◌-◌, ◌*◌, ◌≤◌, ◌<◌}
-use native.Mathlib.Omega.{arith}
-use mathlib.Core.Path.{◌≡◌, refl, ap}
-use mathlib.Core.Bool.{Bool, true}
+-- What holds at each turn of the loop of `groups::flood`, and what falls from turn to turn.
+-- Assumes nothing.
+use Prim.Native.Nat.{ℕ, ◌+◌, ◌-◌, ◌*◌}
+use mathlib.Core.Path.{◌≡◌}
+use mathlib.Core.Bool.{Bool}
 use mathlib.Core.List.{List}
-use lib.ListN.{get_or, set}
-use Rattle.grid.specs.Grid.{Grid, size}
+use lib.ListN.{get_or}
+use Rattle.grid.specs.Grid.{Grid}
 use Rattle.grid.specs.Side.{sized}
-use Rattle.grid.proofs.SideLaws.{area}
-use Rattle.grid.proofs.ArrayLaws.{how_many-le}
 use Rattle.groups.specs.Arrays.{marked}
-use Rattle.groups.specs.Flood.{unlabelled, free, Only, Flooding}
+use Rattle.groups.specs.Flood.{unlabelled, free, Flooding}
 use Rattle.groups.specs.Table.{Counting}
-use Rattle.groups.proofs.GroupLaws.{linked_size}
-use Rattle.groups.proofs.CountLaws.{Offered-counts, counted, labelled_none, Counting-none, Counting-all, Counting-few}
-use Rattle.groups.proofs.FloodLaws.{Offered-labelled, flood_starts, flood_ends, Walked-none}
-use borrow.Author.Rules.{rules}
 use Rattle.groups.proofs.flood.Given as goal
 
 pub record Amid (g : Grid) (s : ℕ) (cells onarrow L₁ st₁ : List ℕ) (c₁ : ℕ) (L st : List ℕ) (c ones crossed : ℕ) : Type 0 where

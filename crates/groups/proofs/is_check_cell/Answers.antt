@@ -2,7 +2,6 @@
 -- Assumes nothing.
 use Rattle.grid.specs.Cells.{square, empty, potential}
 use Rattle.groups.specs.Arrays.{counts}
-use borrow.Author.Rules.{rules}
 use Rattle.groups.proofs.is_check_cell.Goals as goal
 
 pub returns-then-is_potential : goal.returns-then-is_potential

@@ -1,12 +1,8 @@
 -- `groups::mark_arrow_cells` meets its contract: the cells passed are marked.
 -- Assumes nothing.
-use Prim.Native.Nat.{◌≤◌, ◌-◌}
+use Prim.Native.Nat.{◌-◌}
 use native.Mathlib.Omega.{arith}
-use mathlib.Core.Path.{◌≡◌}
-use lib.ListN.{take}
-use borrow.Author.Rules.{rules}
 use Rattle.grid.specs.Lists.{any, member}
-use Rattle.grid.specs.Marks.{Marks}
 use Rattle.grid.proofs.MarkLaws.{Marks-none, Marks-next}
 use Rattle.groups.proofs.mark_arrow_cells.Goals as goal
 

@@ -1,11 +1,9 @@
+-- What holds at each turn of the loop of `groups::mark_arrow_cells`, and what falls from turn to turn.
+-- Assumes nothing.
 use Prim.Native.Nat.{◌≤◌, ◌-◌}
-use native.Mathlib.Omega.{arith}
-use mathlib.Core.Path.{◌≡◌}
 use lib.ListN.{take}
-use borrow.Author.Rules.{rules}
-use Rattle.grid.specs.Lists.{any, member}
+use Rattle.grid.specs.Lists.{member}
 use Rattle.grid.specs.Marks.{Marks}
-use Rattle.grid.proofs.MarkLaws.{Marks-none, Marks-next}
 use Rattle.groups.proofs.mark_arrow_cells.Given as goal
 
 abbrev pub invariant-loop-k : goal.invariant-loop-k

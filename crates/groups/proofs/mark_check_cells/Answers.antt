@@ -1,11 +1,8 @@
 -- `groups::mark_check_cells` meets its contract: the cells passed are told.
 -- Assumes nothing.
-use Prim.Native.Nat.{◌≤◌, ◌-◌}
-use mathlib.Core.Path.{◌≡◌}
+use Prim.Native.Nat.{◌-◌}
 use native.Mathlib.Omega.{arith}
-use Rattle.groups.specs.Arrays.{counts}
-use Rattle.groups.specs.Flood.{Marked}
-use Rattle.groups.proofs.FloodLaws.{Marked-none, Marked-more}
+use Rattle.groups.proofs.FloodLaws.{Marked-none}
 use Rattle.groups.proofs.mark_check_cells.Goals as goal
 
 pub loop-i-init : goal.loop-i-init

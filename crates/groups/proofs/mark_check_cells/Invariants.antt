@@ -1,9 +1,8 @@
+-- What holds at each turn of the loop of `groups::mark_check_cells`, and what falls from turn to turn.
+-- Assumes nothing.
 use Prim.Native.Nat.{◌≤◌, ◌-◌}
-use mathlib.Core.Path.{◌≡◌}
-use native.Mathlib.Omega.{arith}
 use Rattle.groups.specs.Arrays.{counts}
 use Rattle.groups.specs.Flood.{Marked}
-use Rattle.groups.proofs.FloodLaws.{Marked-none, Marked-more}
 use Rattle.groups.proofs.mark_check_cells.Given as goal
 
 abbrev pub invariant-loop-i : goal.invariant-loop-i

@@ -1,9 +1,8 @@
 -- `groups::offer_toward` meets its contract.
 -- Assumes nothing.
-use mathlib.Core.Path.{refl, sym, ◌∙◌}
-use Rattle.groups.specs.Flood.{beyond, within}
+use mathlib.Core.Path.{sym, ◌∙◌}
+use Rattle.groups.specs.Flood.{within}
 use Rattle.groups.proofs.FloodLaws.{beside_small}
-use borrow.Author.Rules.{rules}
 use Rattle.groups.proofs.offer_toward.Goals as goal
 
 pub offer-requires : goal.offer-requires

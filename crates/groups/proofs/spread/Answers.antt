@@ -1,12 +1,11 @@
 -- `groups::spread` meets its contract: the neighbours in the directions before k have been offered.
 -- Assumes nothing.
-use Prim.Native.Nat.{ℕ, ◌+◌, ◌-◌, ◌*◌, ◌/◌, ◌%◌, ◌≤◌}
+use Prim.Native.Nat.{◌-◌, ◌/◌, ◌%◌}
 use mathlib.Core.Path.{◌≡◌}
-use mathlib.Core.Bool.{Bool, true}
+use mathlib.Core.Bool.{true}
 use native.Mathlib.Omega.{arith}
-use borrow.Author.Rules.{rules}
-use Rattle.grid.specs.Side.{sized, InPlace}
-use Rattle.groups.proofs.FloodLaws.{Offers, Offers-none, Offers-more, top, Spread-does}
+use Rattle.grid.specs.Side.{InPlace}
+use Rattle.groups.proofs.FloodLaws.{Offers-none, Offers-more, top, Spread-does}
 use Rattle.groups.proofs.spread.Goals as goal
 
 pub loop-k-init : goal.loop-k-init

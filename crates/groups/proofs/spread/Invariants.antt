@@ -1,10 +1,9 @@
-use Prim.Native.Nat.{ℕ, ◌+◌, ◌-◌, ◌*◌, ◌/◌, ◌%◌, ◌≤◌}
-use mathlib.Core.Path.{◌≡◌}
-use mathlib.Core.Bool.{Bool, true}
-use native.Mathlib.Omega.{arith}
-use borrow.Author.Rules.{rules}
-use Rattle.grid.specs.Side.{sized, InPlace}
-use Rattle.groups.proofs.FloodLaws.{Offers, Offers-none, Offers-more, top, Spread-does}
+-- What holds at each turn of the loop of `groups::spread`, and what falls from turn to turn.
+-- Assumes nothing.
+use Prim.Native.Nat.{ℕ, ◌+◌, ◌-◌, ◌*◌, ◌≤◌}
+use mathlib.Core.Bool.{Bool}
+use Rattle.grid.specs.Side.{sized}
+use Rattle.groups.proofs.FloodLaws.{Offers}
 use Rattle.groups.proofs.spread.Given as goal
 
 abbrev pub invariant-loop-k : goal.invariant-loop-k

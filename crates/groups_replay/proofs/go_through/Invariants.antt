@@ -1,4 +1,5 @@
-use borrow.Author.Rules.{rules}
+-- What holds at each turn of the loop of `groups_replay::go_through`, and what falls from turn to turn.
+-- Assumes nothing.
 use Prim.Native.Nat.{◌-◌}
 use lib.ListN.{length}
 use Rattle.groups_replay.proofs.go_through.Given as goal

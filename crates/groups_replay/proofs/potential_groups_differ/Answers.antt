@@ -1,19 +1,15 @@
 -- `groups_replay::potential_groups_differ` tests that something was computed, and then holds the groups against what the list says.
 -- Assumes nothing.
-use borrow.Author.Rules.{rules}
-use Prim.Native.Nat.{ℕ, ◌*◌, ◌≤◌, ◌<◌}
+use Prim.Native.Nat.{◌*◌, ◌≤◌, ◌<◌}
 use native.Mathlib.Omega.{arith}
-use mathlib.Core.Path.{sym}
 use mathlib.Core.Bool.{true}
-use mathlib.Core.List.{List}
-use lib.ListN.{length, take}
-use lib.Seq.{length-take-le}
+use lib.ListN.{take}
 use Rattle.grid.specs.Cells.{square}
 use Rattle.grid.specs.Grid.{size}
 use Rattle.grid.specs.Side.{sized}
 use Rattle.grid.proofs.SideLaws.{area}
 use Rattle.groups.specs.Arrays.{counts, marked}
-use Rattle.replay.proofs.ComparisonLaws.{fails, same_differs}
+use Rattle.replay.proofs.ComparisonLaws.{same_differs}
 use Rattle.groups_replay.proofs.BlockLaws.{groups_told}
 use Rattle.groups_replay.proofs.potential_groups_differ.Goals as goal
 

@@ -3,8 +3,6 @@
 use borrow.Author.Rules.{rules}
 use Prim.Native.Nat.{◌*◌, ◌≤◌}
 use native.Mathlib.Omega.{arith}
-use mathlib.Core.Path.{◌≡◌}
-use lib.ListN.{length}
 use Rattle.groups_replay.proofs.BlockLaws.{area_low}
 use Rattle.groups_replay.proofs.run_board.Goals as goal
 

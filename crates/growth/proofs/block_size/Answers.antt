@@ -2,7 +2,6 @@
 -- Assumes nothing.
 use mathlib.Core.Path.{◌∙◌}
 use Rattle.shift.specs.Shift.{block_in}
-use borrow.Author.Rules.{rules}
 use Rattle.growth.proofs.block_size.Goals as goal
 
 pub returns : goal.returns

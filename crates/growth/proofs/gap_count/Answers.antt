@@ -2,12 +2,11 @@
 -- Assumes nothing.
 use mathlib.Core.Path.{◌≡◌, ap}
 use mathlib.Core.Bool.{false}
-use Prim.Native.Nat.{ℕ, ◌+◌, ◌-◌, ◌≤◌}
+use Prim.Native.Nat.{ℕ, ◌-◌}
 use native.Mathlib.Omega.{arith}
 use native.Mathlib.Numerals.{add-one}
 use lib.ListN.{get_or}
 use lib.Seq.{slice}
-use borrow.Author.Rules.{rules}
 use Rattle.growth.specs.Growth.{most_apart}
 use Rattle.growth.proofs.Gap.{part_done, part_taken, part_passed}
 use Rattle.growth.proofs.gap_count.Goals as goal

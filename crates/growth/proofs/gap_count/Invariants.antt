@@ -1,13 +1,10 @@
-use mathlib.Core.Path.{◌≡◌, ap}
+-- What holds at each turn of the loop of `growth::gap_count`, and what falls from turn to turn.
+-- Assumes nothing.
+use mathlib.Core.Path.{◌≡◌}
 use mathlib.Core.Bool.{false}
-use Prim.Native.Nat.{ℕ, ◌+◌, ◌-◌, ◌≤◌}
-use native.Mathlib.Omega.{arith}
-use native.Mathlib.Numerals.{add-one}
-use lib.ListN.{get_or}
+use Prim.Native.Nat.{◌+◌, ◌-◌, ◌≤◌}
 use lib.Seq.{slice}
-use borrow.Author.Rules.{rules}
 use Rattle.growth.specs.Growth.{most_apart}
-use Rattle.growth.proofs.Gap.{part_done, part_taken, part_passed}
 use Rattle.growth.proofs.gap_count.Given as goal
 
 abbrev pub invariant-loop-k : goal.invariant-loop-k

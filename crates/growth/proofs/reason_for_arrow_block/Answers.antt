@@ -2,10 +2,8 @@
 -- Assumes nothing.
 use mathlib.Core.Path.{◌≡◌, subst, ◌∙◌}
 use mathlib.Core.List.{List}
-use Prim.Native.Nat.{ℕ, ◌-◌, ◌≤◌}
+use Prim.Native.Nat.{ℕ, ◌-◌}
 use native.Mathlib.Omega.{arith}
-use borrow.Author.Rules.{rules}
-use Rattle.grid.specs.Lists.{filter, upto}
 use Rattle.literals.specs.Literals.{each}
 use Rattle.literals.specs.Inside.{Wrote}
 use Rattle.literals.proofs.BufferLaws.{wrote_length}

@@ -1,14 +1,10 @@
-use mathlib.Core.Path.{◌≡◌, subst, ◌∙◌}
+-- What holds at each turn of the loop of `growth::reason_for_arrow_block`, and what falls from turn to turn.
+-- Assumes nothing.
 use mathlib.Core.List.{List}
 use Prim.Native.Nat.{ℕ, ◌-◌, ◌≤◌}
-use native.Mathlib.Omega.{arith}
-use borrow.Author.Rules.{rules}
 use Rattle.grid.specs.Lists.{filter, upto}
 use Rattle.literals.specs.Literals.{each}
 use Rattle.literals.specs.Inside.{Wrote}
-use Rattle.literals.proofs.BufferLaws.{wrote_length}
-use Rattle.literals.proofs.Pass.{cells_none, cells_count, cells_more}
-use Rattle.kinds.proofs.BlockArrays.{block_by}
 use Rattle.kinds.specs.Inside.{of_block}
 use Rattle.growth.proofs.reason_for_arrow_block.Given as goal
 

@@ -4,14 +4,11 @@ use Prim.Native.Nat.{◌*◌, ◌≤◌}
 use native.Mathlib.Omega.{arith}
 use mathlib.Core.List.{[], ◌∷◌}
 use lib.ListN.{length, take}
-use Rattle.grid.proofs.SideLaws.{area}
 use Rattle.literals.specs.Inside.{Wrote}
 use Rattle.literals.specs.Literals.{each}
 use Rattle.literals.proofs.BufferLaws.{Wrote-none}
 use Rattle.literals.proofs.Findings.{lent, Wrote-part}
 use Rattle.growth.proofs.PairChecks.{fence-Wrote, cell_Wrote}
-use Rattle.growth.proofs.PairSizes.{fence_few}
-use borrow.Author.Rules.{rules}
 use Rattle.growth.proofs.reason_for_cell.Goals as goal
 
 pub returns : goal.returns

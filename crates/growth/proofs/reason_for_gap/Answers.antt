@@ -1,17 +1,13 @@
 -- `growth::reason_for_gap` meets its contract: the empty cells at the places passed are written.
 -- Assumes nothing.
 use mathlib.Core.Path.{refl}
-use Prim.Native.Nat.{ℕ, ◌-◌, ◌≤◌, max}
+use Prim.Native.Nat.{ℕ, ◌-◌, ◌≤◌}
 use native.Mathlib.Omega.{arith}
 use mathlib.Core.List.{List}
 use lib.ListN.{get_or}
 use lib.Seq.{slice}
-use borrow.Author.Rules.{rules}
-use Rattle.grid.specs.Lists.{filter}
-use Rattle.grid.proofs.SliceLaws.{slice_more, slice_none, slice_all, slice_short}
+use Rattle.grid.proofs.SliceLaws.{slice_more, slice_none, slice_short}
 use Rattle.grid.specs.Cells.{empty}
-use Rattle.literals.specs.Literals.{each}
-use Rattle.literals.specs.Inside.{Wrote}
 use Rattle.literals.proofs.BufferLaws.{wrote_length}
 use Rattle.literals.proofs.Pass.{pass_none, pass_count, pass_more}
 use Rattle.growth.proofs.reason_for_gap.Goals as goal

@@ -1,17 +1,12 @@
-use mathlib.Core.Path.{refl}
+-- What holds at each turn of the loop of `growth::reason_for_gap`, and what falls from turn to turn.
+-- Assumes nothing.
 use Prim.Native.Nat.{ℕ, ◌-◌, ◌≤◌, max}
-use native.Mathlib.Omega.{arith}
 use mathlib.Core.List.{List}
-use lib.ListN.{get_or}
 use lib.Seq.{slice}
-use borrow.Author.Rules.{rules}
 use Rattle.grid.specs.Lists.{filter}
-use Rattle.grid.proofs.SliceLaws.{slice_more, slice_none, slice_all, slice_short}
 use Rattle.grid.specs.Cells.{empty}
 use Rattle.literals.specs.Literals.{each}
 use Rattle.literals.specs.Inside.{Wrote}
-use Rattle.literals.proofs.BufferLaws.{wrote_length}
-use Rattle.literals.proofs.Pass.{pass_none, pass_count, pass_more}
 use Rattle.growth.proofs.reason_for_gap.Given as goal
 
 -- the empty cells at the places up to k are written

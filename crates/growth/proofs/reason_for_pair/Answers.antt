@@ -14,8 +14,7 @@ use Rattle.literals.proofs.BufferLaws.{wrote_length}
 use Rattle.literals.proofs.Findings.{lent, Wrote-part}
 use Rattle.literals.proofs.Pass.{each-length}
 use Rattle.growth.specs.Pairs.{view_on}
-use Rattle.growth.proofs.PairSizes.{view_size, block_few, cell_few}
-use borrow.Author.Rules.{rules}
+use Rattle.growth.proofs.PairSizes.{view_size, block_few}
 use Rattle.growth.proofs.reason_for_pair.Goals as goal
 
 pub offset_bounds-buffer-count : goal.offset_bounds-buffer-count

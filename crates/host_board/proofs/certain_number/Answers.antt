@@ -7,8 +7,6 @@ use mathlib.Core.Bool.{true}
 use lib.ListN.{length}
 use mir.Syntax.{w32}
 use mir.ValLaws.{to_z-of_z}
-use borrow.Author.Rules.{rules}
-use borrow.Author.Tests.{not-true, not-false}
 use Rattle.board.specs.Form.{well_formed}
 use Rattle.host_certain.proofs.ToldLaws.{Tells-refused, Tells-said}
 use Rattle.host_board.proofs.LentLaws.{cells_few, certain_ill, certain_short, certain_said}

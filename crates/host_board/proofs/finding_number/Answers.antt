@@ -3,7 +3,6 @@
 use mathlib.Core.Path.{sym, ap, ◌∙◌}
 use mir.Syntax.{w32}
 use mir.ValLaws.{to_z-of_z}
-use borrow.Author.Rules.{rules}
 use Rattle.host_board.specs.Lent.{finding_number}
 use Rattle.host_board.proofs.finding_number.Goals as goal
 

@@ -1,15 +1,5 @@
 -- `host_board::hints_number` meets its contract: 6, then 17, then the count.
 -- Assumes nothing.
-use Prim.Native.Nat.{ℕ}
-use mathlib.Core.Path.{◌≡◌, sym, ap, ◌∙◌}
-use mathlib.Core.Bool.{true}
-use lib.IntN.{pos}
-use mir.Syntax.{w32}
-use mir.ValLaws.{to_z-of_z}
-use borrow.Author.Rules.{rules}
-use borrow.Author.Tests.{not-true, not-false}
-use Rattle.board.specs.Form.{well_formed}
-use Rattle.board.specs.Hints.{count_of}
 use Rattle.host_board.specs.Lent.{count_number}
 use Rattle.host_board.proofs.LentLaws.{hints_ill, hints_stranger, hints_told}
 use Rattle.host_board.proofs.hints_number.Goals as goal

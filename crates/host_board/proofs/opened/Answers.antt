@@ -4,7 +4,6 @@ use Prim.Native.Nat.{ℕ}
 use mathlib.Core.Path.{◌≡◌, ap, ◌∙◌}
 use mir.Syntax.{w32}
 use mir.ValLaws.{to_z-of_z}
-use borrow.Author.Rules.{rules}
 use Rattle.board.specs.Kept.{open_of}
 use Rattle.host_board.proofs.LentLaws.{narrowed, opened_done, opened_refused}
 use Rattle.host_board.proofs.opened.Goals as goal

@@ -15,7 +15,6 @@ use Rattle.call.proofs.Holding.{reads_codes, opened_bare, opened_none}
 use Rattle.host_certain.specs.Told.{host_certain_with}
 use Rattle.host_certain.specs.Inside.{leaf_certain}
 use Rattle.host_certain.proofs.ToldLaws.{Tells-refused, Tells-as, certain_plain}
-use borrow.Author.Rules.{rules}
 use Rattle.host_certain.proofs.certain.Goals as goal
 
 pub returns-in-Refused : goal.returns-in-Refused

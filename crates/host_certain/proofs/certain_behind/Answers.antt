@@ -1,7 +1,6 @@
 -- `host_certain::certain_behind` meets its contract: 11 comes first, then the refusals of the decisions, then the answer.
 -- Assumes nothing.
-use Prim.Native.Nat.{◌*◌, ◌≤◌}
-use native.Mathlib.Omega.{arith}
+use Prim.Native.Nat.{◌*◌}
 use mathlib.Core.Path.{refl, sym, ap, ◌∙◌}
 use lib.ListN.{length, take}
 use mir.Syntax.{w32}
@@ -10,9 +9,8 @@ use Rattle.record.specs.Leaf.{Leaf}
 use Rattle.certain.specs.Tree as tree
 use Rattle.certain.specs.Facts.{certain_by}
 use Rattle.call.specs.Inside.{Decides, Holds}
-use Rattle.call.proofs.Holding.{holds_size, holds_few, holds_on, holds_formed, holds_leaf, edition_not_0}
+use Rattle.call.proofs.Holding.{holds_size, holds_on, holds_formed, holds_leaf, edition_not_0}
 use Rattle.host_certain.proofs.ToldLaws.{Tells-refused, Tells-said, certain_short, left_States, certain_refused, certain_done}
-use borrow.Author.Rules.{rules}
 use Rattle.host_certain.proofs.certain_behind.Goals as goal
 
 pub returns-then-output-h : goal.returns-then-output-h

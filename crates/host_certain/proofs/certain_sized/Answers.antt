@@ -1,8 +1,7 @@
 -- `host_certain::certain_sized` meets its contract: the refusal of the sizes comes first, and then the answer with them.
 -- Assumes nothing.
 use Prim.Native.Nat.{◌*◌, ◌≤◌}
-use native.Mathlib.Omega.{arith}
-use mathlib.Core.Path.{refl, ◌∙◌}
+use mathlib.Core.Path.{◌∙◌}
 use lib.ListN.{length}
 use mir.Syntax.{w32}
 use mir.ValLaws.{to_z-of_z}
@@ -11,7 +10,6 @@ use Rattle.sizes.specs.Inside.{SizesRead}
 use Rattle.call.proofs.Holding.{Holds-bare, holds_few, sized_refused, sized_leaf, sized_asked, sized_Holds}
 use Rattle.host_certain.specs.Inside.{leaf_certain}
 use Rattle.host_certain.proofs.ToldLaws.{Tells-refused, Tells-as}
-use borrow.Author.Rules.{rules}
 use Rattle.host_certain.proofs.certain_sized.Goals as goal
 
 pub returns-in-Refused : goal.returns-in-Refused

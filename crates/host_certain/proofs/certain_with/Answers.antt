@@ -14,7 +14,6 @@ use Rattle.call.proofs.Holding.{reads_Drawn, reads_grid, reads_codes, opened_one
 use Rattle.host_certain.specs.Told.{host_certain_with}
 use Rattle.host_certain.specs.Inside.{leaf_certain}
 use Rattle.host_certain.proofs.ToldLaws.{Tells-refused, Tells-as}
-use borrow.Author.Rules.{rules}
 use Rattle.host_certain.proofs.certain_with.Goals as goal
 
 pub returns-in-Refused : goal.returns-in-Refused

@@ -16,7 +16,6 @@ use Rattle.host_find.specs.Host.{host_finds_with}
 use Rattle.host_find.specs.Inside.{leaf_finds}
 use Rattle.host_find.proofs.HostLaws.{finds_plain}
 use Rattle.host_find.proofs.FoundLaws.{refused_told, told_as}
-use borrow.Author.Rules.{rules}
 use Rattle.host_find.proofs.find.Goals as goal
 
 pub returns-in-Refused : goal.returns-in-Refused

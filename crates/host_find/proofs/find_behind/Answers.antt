@@ -1,17 +1,14 @@
 -- `host_find::find_behind` meets its contract: 11 comes first, then the refusals of the decisions, then what find tells.
 -- Assumes nothing.
-use Prim.Native.Nat.{◌*◌, ◌≤◌}
-use native.Mathlib.Omega.{arith}
 use mathlib.Core.Path.{refl, sym, ◌∙◌}
 use lib.ListN.{length}
 use mir.Syntax.{w32}
 use mir.ValLaws.{to_z-of_z}
 use Rattle.record.specs.Leaf.{Leaf}
 use Rattle.call.specs.Inside.{Decides, Holds}
-use Rattle.call.proofs.Holding.{holds_size, holds_few, holds_small, holds_on, holds_arrays, edition_not_0}
+use Rattle.call.proofs.Holding.{holds_size, holds_small, holds_on, holds_arrays, edition_not_0}
 use Rattle.host_find.proofs.HostLaws.{output_short, decisions_refused, decisions_done}
 use Rattle.host_find.proofs.FoundLaws.{refused_told, told_as}
-use borrow.Author.Rules.{rules}
 use Rattle.host_find.proofs.find_behind.Goals as goal
 
 pub returns-then-output-h : goal.returns-then-output-h

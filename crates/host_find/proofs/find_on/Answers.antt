@@ -3,22 +3,19 @@
 use Prim.Native.Nat.{◌+◌, ◌*◌, ◌≤◌}
 use native.Mathlib.Omega.{arith}
 use mathlib.Core.Path.{◌∙◌}
-use mathlib.Core.List.{List}
 use lib.ListN.{length, take}
 use mir.Syntax.{w32}
 use mir.ValLaws.{to_z_pos}
 use Rattle.grid.specs.Side.{sized}
 use Rattle.grid.proofs.SideLaws.{area}
-use Rattle.record.specs.Leaf.{Range, leaf_with}
+use Rattle.record.specs.Leaf.{leaf_with}
 use Rattle.record.specs.Sizes.{kept_ranges}
 use Rattle.kinds.specs.Inside.{puzzle_with}
-use Rattle.literals.specs.Literals.{Found}
 use Rattle.reasons.specs.Reasons.{find_reason}
 use Rattle.reasons.proofs.Room.{room_length}
 use Rattle.groups.specs.Arrays.{lines_of}
 use Rattle.literals.proofs.Findings.{nothing_found, not_refused}
 use Rattle.host_find.proofs.FoundLaws.{Literals, found_Literals, few_Literals, none_told, Literals-told}
-use borrow.Author.Rules.{rules}
 use Rattle.host_find.proofs.find_on.Goals as goal
 
 pub find_inconsistency-found-requires : goal.find_inconsistency-found-requires

@@ -1,16 +1,14 @@
 -- `host_find::find_sized` meets its contract: the refusal of the sizes comes first, and then what is found with them.
 -- Assumes nothing.
-use native.Mathlib.Omega.{arith}
-use mathlib.Core.Path.{refl, ◌∙◌}
+use mathlib.Core.Path.{◌∙◌}
 use lib.ListN.{length}
 use mir.Syntax.{w32}
 use mir.ValLaws.{to_z-of_z}
 use Rattle.sizes.specs.Bytes.{sizes_in}
 use Rattle.sizes.specs.Inside.{SizesRead}
-use Rattle.call.proofs.Holding.{Holds-bare, holds_few, sized_refused, sized_leaf, sized_asked, sized_long, sized_taken, sized_Holds}
+use Rattle.call.proofs.Holding.{sized_refused, sized_leaf, sized_asked, sized_Holds}
 use Rattle.host_find.specs.Inside.{leaf_finds}
 use Rattle.host_find.proofs.FoundLaws.{refused_told, told_as}
-use borrow.Author.Rules.{rules}
 use Rattle.host_find.proofs.find_sized.Goals as goal
 
 pub returns-in-Refused : goal.returns-in-Refused

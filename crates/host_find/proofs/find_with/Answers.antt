@@ -13,7 +13,6 @@ use Rattle.call.proofs.Holding.{reads_Drawn, reads_grid, opened_one, opened_bare
 use Rattle.host_find.specs.Host.{host_finds_with}
 use Rattle.host_find.specs.Inside.{leaf_finds}
 use Rattle.host_find.proofs.FoundLaws.{refused_told, told_as}
-use borrow.Author.Rules.{rules}
 use Rattle.host_find.proofs.find_with.Goals as goal
 
 pub returns-in-Refused : goal.returns-in-Refused

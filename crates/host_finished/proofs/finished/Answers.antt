@@ -13,7 +13,6 @@ use Rattle.call.proofs.Steps.{Reads, Reads-done}
 use Rattle.call.proofs.Holding.{reads_codes, opened_bare, opened_none}
 use Rattle.host_finished.specs.Judged.{judge_on, host_finished_with, judged}
 use Rattle.host_finished.proofs.JudgedLaws.{finished_plain, judged_not}
-use borrow.Author.Rules.{rules}
 use Rattle.host_finished.proofs.finished.Goals as goal
 
 pub returns-in-Refused : goal.returns-in-Refused

@@ -11,7 +11,6 @@ use Rattle.call.proofs.Steps.{Reads, Reads-done}
 use Rattle.call.proofs.Holding.{reads_Drawn, reads_grid, reads_codes, opened_one, opened_bare, opened_sized, opened_none}
 use Rattle.host_finished.specs.Judged.{judge_on, host_finished_with, judged}
 use Rattle.host_finished.proofs.JudgedLaws.{judged_not}
-use borrow.Author.Rules.{rules}
 use Rattle.host_finished.proofs.finished_with.Goals as goal
 
 pub returns-in-Refused : goal.returns-in-Refused

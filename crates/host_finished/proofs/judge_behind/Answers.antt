@@ -1,7 +1,6 @@
 -- `host_finished::judge_behind` meets its contract: the refusals of the decisions come first, then the verdict.
 -- Assumes nothing.
 use Prim.Native.Nat.{◌*◌}
-use native.Mathlib.Omega.{arith}
 use mathlib.Core.Path.{refl, sym, ap, ◌∙◌}
 use mathlib.Core.Bool.{Bool}
 use lib.ListN.{take}
@@ -11,10 +10,9 @@ use Rattle.record.specs.Record.{ok}
 use Rattle.record.specs.Leaf.{Leaf}
 use Rattle.finished.specs.Finished.{finished_test}
 use Rattle.call.specs.Inside.{Decides, Holds}
-use Rattle.call.proofs.Holding.{holds_size, holds_few, holds_on, holds_formed, holds_leaf, edition_not_0}
+use Rattle.call.proofs.Holding.{holds_size, holds_on, holds_formed, holds_leaf, edition_not_0}
 use Rattle.host_finished.specs.Judged.{judged}
 use Rattle.host_finished.proofs.JudgedLaws.{judged_refused, left_long, judged_done}
-use borrow.Author.Rules.{rules}
 use Rattle.host_finished.proofs.judge_behind.Goals as goal
 
 pub decide_in_order-answer-requires : goal.decide_in_order-answer-requires

@@ -1,15 +1,13 @@
 -- `host_finished::judge_sized` meets its contract: the refusal of the sizes comes first, and then the verdict with them.
 -- Assumes nothing.
-use native.Mathlib.Omega.{arith}
-use mathlib.Core.Path.{refl, sym, ap, ◌∙◌}
+use mathlib.Core.Path.{sym, ap, ◌∙◌}
 use mir.Syntax.{w32}
 use mir.ValLaws.{to_z-of_z}
 use Rattle.sizes.specs.Bytes.{sizes_in}
 use Rattle.sizes.specs.Inside.{SizesRead}
-use Rattle.call.proofs.Holding.{Holds-bare, holds_few, sized_refused, sized_leaf, sized_asked, sized_long, sized_taken, sized_Holds}
+use Rattle.call.proofs.Holding.{sized_refused, sized_leaf, sized_asked, sized_Holds}
 use Rattle.host_finished.specs.Judged.{judge_on, judged}
 use Rattle.host_finished.proofs.JudgedLaws.{judged_not}
-use borrow.Author.Rules.{rules}
 use Rattle.host_finished.proofs.judge_sized.Goals as goal
 
 pub returns-in-Refused : goal.returns-in-Refused

@@ -1,8 +1,7 @@
 -- `host_replay::call_differs` holds the number that is returned and then the whole array against what the list says.
 -- Assumes nothing.
-use borrow.Author.Rules.{rules}
 use Rattle.replay.specs.Lists.{byte_in}
-use Rattle.host_replay.proofs.HostCallLaws.{other_number, this_number}
+use Rattle.host_replay.proofs.HostCallLaws.{this_number}
 use Rattle.host_replay.proofs.call_differs.Goals as goal
 
 pub returns-else-returned-expected : goal.returns-else-returned-expected

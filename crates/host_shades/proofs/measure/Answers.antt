@@ -2,7 +2,6 @@
 -- Assumes nothing.
 use mathlib.Core.Path.{ap}
 use Rattle.host_shades.specs.Inside.{measured_of}
-use borrow.Author.Rules.{rules}
 use Rattle.host_shades.proofs.measure.Goals as goal
 
 pub returns : goal.returns

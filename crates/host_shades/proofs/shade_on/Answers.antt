@@ -1,16 +1,13 @@
 -- `host_shades::shade_on` meets its contract: the shades are written number by number.
 -- Assumes nothing.
-use Prim.Native.Nat.{ℕ, ◌*◌, ◌≤◌}
-use native.Mathlib.Omega.{arith}
-use mathlib.Core.Path.{◌≡◌, sym, ap, ◌∙◌}
-use lib.ListN.{length, take, length-replicate}
+use Prim.Native.Nat.{◌*◌}
+use mathlib.Core.Path.{◌∙◌}
+use lib.ListN.{take}
 use mir.Syntax.{w32}
 use mir.ValLaws.{to_z-of_z}
 use Rattle.grid.specs.Grid.{size}
 use Rattle.grid.specs.Side.{sized}
-use Rattle.grid.proofs.SideLaws.{area}
-use Rattle.host_shades.proofs.ShadedLaws.{shades_long, shades_Told}
-use borrow.Author.Rules.{rules}
+use Rattle.host_shades.proofs.ShadedLaws.{shades_Told}
 use Rattle.host_shades.proofs.shade_on.Goals as goal
 
 pub returns : goal.returns

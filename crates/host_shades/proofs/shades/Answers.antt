@@ -9,7 +9,6 @@ use mir.ValLaws.{to_z-of_z}
 use Rattle.exported.proofs.WrittenLaws.{Told-refused, Told-as}
 use Rattle.call.specs.Inside.{Decides}
 use Rattle.host_shades.proofs.ShadedLaws.{Measures, measures_refused, Measures-done, measures_Valid, measures_size, measures_few, measures_small, shades_unread, shades_short, shades_refused, shades_done}
-use borrow.Author.Rules.{rules}
 use Rattle.host_shades.proofs.shades.Goals as goal
 
 pub returns-in-Refused : goal.returns-in-Refused

@@ -1,13 +1,10 @@
 -- `inconsistency::check_arrows` meets its contract: the kinds are those of the board, the cells of each owner are linked and counted, and the searches go on from there.
 -- Assumes nothing.
-use Prim.Native.Nat.{◌*◌, ◌≤◌}
-use mathlib.Core.Path.{refl, subst}
+use Prim.Native.Nat.{◌*◌}
+use mathlib.Core.Path.{subst}
 use lib.ListN.{length}
-use Rattle.grid.proofs.SideLaws.{area}
 use Rattle.groups.specs.Arrays.{lines_of}
-use Rattle.kinds.specs.Kinds.{View}
 use Rattle.kinds.specs.Inside.{Held}
-use Rattle.literals.specs.Literals.{Found}
 use Rattle.literals.specs.Inside.{FoundAs}
 use Rattle.literals.proofs.Findings.{found_first, found_next, not_refused}
 use Rattle.growth.specs.Growth.{reason34}
@@ -15,7 +12,6 @@ use Rattle.growth.specs.Pairs.{view_on, Grouped}
 use Rattle.record.specs.Sizes.{kept_ranges}
 use Rattle.sized.specs.Sized.{reason5}
 use Rattle.inconsistency.proofs.Checks.{Blocks-Counted, Fit-after, same_after}
-use borrow.Author.Rules.{rules}
 use Rattle.inconsistency.proofs.check_arrows.Goals as goal
 
 pub search_pairs-finding-requires : goal.search_pairs-finding-requires

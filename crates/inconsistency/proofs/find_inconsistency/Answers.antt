@@ -1,12 +1,9 @@
 -- `inconsistency::find_inconsistency` meets its contract: one search after the other, and the first reason that applies.
 -- Assumes nothing.
-use Prim.Native.Nat.{ℕ, ◌*◌}
+use Prim.Native.Nat.{◌*◌}
 use mathlib.Core.Path.{◌≡◌, ◌∙◌}
-use mathlib.Core.List.{List}
-use lib.ListN.{length, take, length-replicate}
+use lib.ListN.{length, take}
 use Rattle.grid.specs.Side.{sized}
-use Rattle.record.specs.Record.{Puzzle}
-use Rattle.record.specs.Leaf.{Range}
 use Rattle.record.specs.Sizes.{kept_ranges}
 use Rattle.kinds.specs.Inside.{puzzle_with}
 use Rattle.units.specs.Units.{reason1}
@@ -18,8 +15,7 @@ use Rattle.grid.proofs.GridLaws.{size_most}
 use Rattle.groups.proofs.TableLaws.{table_few}
 use Rattle.paths.specs.Ends.{BlockTable}
 use Rattle.inconsistency.specs.Arrays.{ArrowArrays}
-use Rattle.inconsistency.proofs.Checks.{Line-is, table_long, potentials_held, blocks_held, Fit-after, same_after, never_refused, first_found, second_found, rest_found}
-use borrow.Author.Rules.{rules}
+use Rattle.inconsistency.proofs.Checks.{table_long, potentials_held, blocks_held, Fit-after, same_after, never_refused, first_found, second_found, rest_found}
 use Rattle.inconsistency.proofs.find_inconsistency.Goals as goal
 
 pub check_potential_groups-first-requires : goal.check_potential_groups-first-requires

@@ -1,12 +1,8 @@
 -- `join::append_ends` meets its contract: the first t ends stand behind the others.
 -- Assumes nothing.
-use borrow.Author.Rules.{rules}
-use Prim.Native.Nat.{ℕ, ◌+◌, ◌-◌, ◌≤◌}
+use Prim.Native.Nat.{ℕ, ◌+◌, ◌-◌}
 use native.Mathlib.Omega.{arith}
-use mathlib.Core.Path.{◌≡◌, ap, subst}
-use mathlib.Core.List.{List}
-use lib.ListN.{get_or}
-use Rattle.join.specs.Inside.{Behind}
+use mathlib.Core.Path.{ap}
 use Rattle.join.proofs.PieceLaws.{Behind-none, Behind-more}
 use Rattle.join.proofs.append_ends.Goals as goal
 use Rattle.join.proofs.append_ends.Invariants.{later-by}

@@ -1,14 +1,9 @@
 -- `join::append_line` meets its contract: the first t cells stand behind the others.
 -- Assumes nothing.
-use borrow.Author.Rules.{rules}
-use Prim.Native.Nat.{ℕ, ◌-◌, ◌≤◌}
+use Prim.Native.Nat.{◌-◌}
 use native.Mathlib.Omega.{arith}
-use mathlib.Core.Path.{◌≡◌, ap, subst, ◌∙◌}
-use mathlib.Core.List.{List}
-use lib.ListN.{get_or}
+use mathlib.Core.Path.{ap, ◌∙◌}
 use Rattle.join.specs.Join.{placed}
-use Rattle.join.specs.Inside.{Behind}
-use Rattle.join.specs.declared.Stand.{Stand}
 use Rattle.join.proofs.PieceLaws.{Behind-none, Behind-more}
 use Rattle.join.proofs.append_line.Goals as goal
 use Rattle.join.proofs.append_line.Invariants.{to}

@@ -1,13 +1,11 @@
-use borrow.Author.Rules.{rules}
+-- What holds at each turn of the loop of `join::append_line`, and what falls from turn to turn.
+-- Assumes nothing.
 use Prim.Native.Nat.{ℕ, ◌-◌, ◌≤◌}
-use native.Mathlib.Omega.{arith}
-use mathlib.Core.Path.{◌≡◌, ap, subst, ◌∙◌}
 use mathlib.Core.List.{List}
 use lib.ListN.{get_or}
 use Rattle.join.specs.Join.{placed}
 use Rattle.join.specs.Inside.{Behind}
 use Rattle.join.specs.declared.Stand.{Stand}
-use Rattle.join.proofs.PieceLaws.{Behind-none, Behind-more}
 use Rattle.join.proofs.append_line.Given as goal
 
 -- where the arrow cell t comes

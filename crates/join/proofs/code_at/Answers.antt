@@ -1,10 +1,7 @@
 -- `join::code_at` meets its contract: a law for each of the three ways out.
 -- Assumes nothing.
-use native.Mathlib.Omega.{arith}
 use mathlib.Core.Path.{sym}
 use Rattle.join.proofs.JoinLaws.{left_code, between_code, right_code}
-use Rattle.join.proofs.PieceLaws.{left_index, right_index}
-use borrow.Author.Rules.{rules}
 use Rattle.join.proofs.code_at.Goals as goal
 
 pub returns-then-x-left_width : goal.returns-then-x-left_width

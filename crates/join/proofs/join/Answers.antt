@@ -4,7 +4,6 @@ use mathlib.Core.Path.{◌≡◌, ◌∙◌}
 use lib.ListN.{length}
 use mir.Syntax.{w32}
 use mir.ValLaws.{to_z-of_z}
-use borrow.Author.Rules.{rules}
 use Rattle.fields.specs.Fields.{ok}
 use Rattle.record.specs.Record.{Puzzle, read_record}
 use Rattle.record.specs.Problem.{problem_of}

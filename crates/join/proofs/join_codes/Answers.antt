@@ -1,15 +1,13 @@
 -- `join::join_codes` meets its contract: the first j codes are in the array.
 -- Assumes nothing.
-use Prim.Native.Nat.{ℕ, ◌+◌, ◌-◌, ◌*◌, ◌/◌, ◌%◌, ◌≤◌}
+use Prim.Native.Nat.{ℕ, ◌-◌}
 use native.Mathlib.Omega.{arith}
-use mathlib.Core.Path.{◌≡◌, refl, ap, subst, ◌∙◌}
-use mathlib.Core.List.{List, map}
+use mathlib.Core.Path.{ap, ◌∙◌}
+use mathlib.Core.List.{List}
 use lib.ListN.{set}
-use borrow.Author.Rules.{rules}
-use Rattle.grid.specs.Lists.{upto, range, array_of}
+use Rattle.grid.specs.Lists.{upto, range}
 use Rattle.grid.proofs.FilledLaws.{filled_more}
-use Rattle.join.specs.Join.{code_beside}
-use Rattle.join.proofs.PieceLaws.{room, cell_Spot}
+use Rattle.join.proofs.PieceLaws.{room}
 use Rattle.join.proofs.join_codes.Goals as goal
 use Rattle.join.proofs.join_codes.Invariants.{code}
 

@@ -1,13 +1,10 @@
+-- What holds at each turn of the loop of `join::join_codes`, and what falls from turn to turn.
+-- Assumes nothing.
 use Prim.Native.Nat.{ℕ, ◌+◌, ◌-◌, ◌*◌, ◌/◌, ◌%◌, ◌≤◌}
-use native.Mathlib.Omega.{arith}
-use mathlib.Core.Path.{◌≡◌, refl, ap, subst, ◌∙◌}
+use mathlib.Core.Path.{◌≡◌}
 use mathlib.Core.List.{List, map}
-use lib.ListN.{set}
-use borrow.Author.Rules.{rules}
-use Rattle.grid.specs.Lists.{upto, range, array_of}
-use Rattle.grid.proofs.FilledLaws.{filled_more}
+use Rattle.grid.specs.Lists.{upto, array_of}
 use Rattle.join.specs.Join.{code_beside}
-use Rattle.join.proofs.PieceLaws.{room, cell_Spot}
 use Rattle.join.proofs.join_codes.Given as goal
 
 -- the code of the cell j

@@ -1,10 +1,8 @@
 -- `join::place` meets its contract: the place is one of 1,024.
 -- Assumes nothing.
-use native.Mathlib.Omega.{arith}
 use mathlib.Core.Path.{refl}
 use Rattle.join.proofs.PieceLaws.{place_small}
 use Rattle.join.specs.Join.{placed}
-use borrow.Author.Rules.{rules}
 use Rattle.join.proofs.place.Goals as goal
 
 pub returns : goal.returns

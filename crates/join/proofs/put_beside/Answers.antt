@@ -1,7 +1,6 @@
 -- `join::put_beside` meets its contract: there is room for all, and what the loops fill is the joined puzzle.
 -- Assumes nothing.
 use native.Mathlib.Omega.{arith}
-use borrow.Author.Rules.{rules}
 use Rattle.join.proofs.BesideLaws.{Fit, fit, sides, places, built}
 use Rattle.join.proofs.put_beside.Goals as goal
 

@@ -1,19 +1,15 @@
 -- `kinds::traverse_grid` meets its contract: the cells with no group become fewer with each call, and the walks from the neighbours in the directions passed are done.
 -- Assumes nothing.
 use native.Mathlib.Omega.{arith}
-use mathlib.Core.Logic.{⊎_elim}
-use borrow.Author.Rules.{rules}
 use lib.ListN.{set}
 use mathlib.Core.Path.{refl}
-use mathlib.Core.Bool.{Bool, true, So}
-use Prim.Native.Nat.{◌≤◌, ◌-◌, ℕ, ◌<◌}
+use mathlib.Core.Bool.{true}
+use Prim.Native.Nat.{◌-◌}
 use Rattle.grid.specs.Side.{sized}
-use Rattle.groups.specs.Flood.{free, Only}
 use Rattle.groups.proofs.LabellingLaws.{set_still, Added-Only}
 use Rattle.grid.proofs.ArrayLaws.{fewer_set}
-use Rattle.kinds.proofs.Traversal.{Turn, Walked-not, Turn-none, Turn-more, Turn-all}
-use Rattle.grid.proofs.SideLaws.{in_place, cell_small, some_wide}
-use Rattle.grid.proofs.AroundLaws.{gathered, side_Adjacent, side_cell, side_at, side_off, sides_none, sides_all}
+use Rattle.kinds.proofs.Traversal.{Turn, Turn-none, Turn-more, Turn-all}
+use Rattle.grid.proofs.AroundLaws.{side_Adjacent, side_cell, side_at, side_off, sides_none, sides_all}
 use Rattle.kinds.proofs.+traverse_grid.Goals as goal
 use Rattle.kinds.proofs.+traverse_grid.Goals.{in-At, in-Off}
 

@@ -2,7 +2,6 @@
 -- Assumes nothing.
 use borrow.Author.Tests.{le-ltb, lt-ltb, eq-eqb, ne_eqb}
 use Rattle.kinds.specs.Inside.{arrow_block_at}
-use borrow.Author.Rules.{rules}
 use Rattle.kinds.proofs.arrow_block_at.Goals as goal
 
 pub returns-then-f-ge1024 : goal.returns-then-f-ge1024

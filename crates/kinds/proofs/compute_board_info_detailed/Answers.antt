@@ -2,7 +2,6 @@
 -- Assumes nothing.
 use Rattle.grid.proofs.SideLaws.{area}
 use Rattle.kinds.proofs.Views.{none_named, detailed}
-use borrow.Author.Rules.{rules}
 use Rattle.kinds.proofs.compute_board_info_detailed.Goals as goal
 
 pub returns : goal.returns

@@ -1,11 +1,9 @@
 -- `kinds::compute_cell_kinds` meets its contract: the kinds of the cells passed are written.
 -- Assumes nothing.
-use Prim.Native.Nat.{◌≤◌, ◌<◌, ◌-◌, ◌*◌}
-use mathlib.Core.Path.{◌≡◌, ap, ◌∙◌}
+use Prim.Native.Nat.{◌<◌, ◌-◌}
+use mathlib.Core.Path.{◌∙◌}
 use native.Mathlib.Omega.{arith}
-use Rattle.grid.specs.Side.{sized}
 use Rattle.grid.proofs.SideLaws.{area}
-use Rattle.kinds.specs.Inside.{codes_in, owners_in}
 use Rattle.kinds.proofs.Filled.{codes_none, codes_more, owners_none, owners_more}
 use Rattle.kinds.proofs.compute_cell_kinds.Goals as goal
 

@@ -1,10 +1,9 @@
-use Prim.Native.Nat.{◌≤◌, ◌<◌, ◌-◌, ◌*◌}
-use mathlib.Core.Path.{◌≡◌, ap, ◌∙◌}
-use native.Mathlib.Omega.{arith}
+-- What holds at each turn of the loop of `kinds::compute_cell_kinds`, and what falls from turn to turn.
+-- Assumes nothing.
+use Prim.Native.Nat.{◌≤◌, ◌-◌}
+use mathlib.Core.Path.{◌≡◌}
 use Rattle.grid.specs.Side.{sized}
-use Rattle.grid.proofs.SideLaws.{area}
 use Rattle.kinds.specs.Inside.{codes_in, owners_in}
-use Rattle.kinds.proofs.Filled.{codes_none, codes_more, owners_none, owners_more}
 use Rattle.kinds.proofs.compute_cell_kinds.Given as goal
 
 abbrev pub invariant-loop-i : goal.invariant-loop-i

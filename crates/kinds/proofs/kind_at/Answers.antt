@@ -1,9 +1,7 @@
 -- `kinds::kind_at` meets its contract: the kind of a cell, by its value and its neighbours.
 -- Assumes nothing.
-use Rattle.grid.proofs.SideLaws.{cell_small}
 use Rattle.kinds.specs.Inside.{kind_from}
 use Rattle.kinds.proofs.Owners.{kind_nobody, kind_one, kind_many, kind_empty, kind_arrow, kind_alone, kind_open}
-use borrow.Author.Rules.{rules}
 use Rattle.kinds.proofs.kind_at.Goals as goal
 
 pub returns-then-cell-eq0 : goal.returns-then-cell-eq0

@@ -2,7 +2,6 @@
 -- Assumes nothing.
 use Rattle.kinds.specs.Arrays.{kind_code}
 use Rattle.kinds.specs.Inside.{kind_from}
-use borrow.Author.Rules.{rules}
 use Rattle.kinds.proofs.kind_code.Goals as goal
 
 pub returns-in-Empty : goal.returns-in-Empty

@@ -2,7 +2,6 @@
 -- Assumes nothing.
 use Rattle.kinds.specs.Arrays.{owner_by}
 use Rattle.kinds.specs.Inside.{kind_from}
-use borrow.Author.Rules.{rules}
 use Rattle.kinds.proofs.kind_owner.Goals as goal
 
 pub returns-in-Empty : goal.returns-in-Empty

@@ -1,13 +1,11 @@
 -- `kinds::look_around` meets its contract: the arrow blocks of the neighbours in the directions passed are met.
 -- Assumes nothing.
-use Prim.Native.Nat.{ℕ, ◌≤◌, ◌-◌}
-use mathlib.Core.Logic.{⊎_elim}
+use Prim.Native.Nat.{ℕ, ◌-◌}
 use mathlib.Core.List.{List}
-use borrow.Author.Rules.{rules}
 use native.Mathlib.Omega.{arith}
 use Rattle.grid.specs.Side.{sized}
-use Rattle.grid.proofs.SideLaws.{in_place, cell_small, some_wide}
-use Rattle.grid.proofs.AroundLaws.{gathered, side_cell, side_at, side_off, sides_none, sides_all}
+use Rattle.grid.proofs.SideLaws.{cell_small}
+use Rattle.grid.proofs.AroundLaws.{side_cell, side_at, side_off, sides_none, sides_all}
 use Rattle.kinds.specs.Inside.{Owned, arrow_blocks_at}
 use Rattle.kinds.specs.declared.Owner.TheVariants.{Nobody}
 use Rattle.kinds.proofs.Owners.{Owned-none}

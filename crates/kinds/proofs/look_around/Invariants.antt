@@ -1,14 +1,9 @@
-use Prim.Native.Nat.{ℕ, ◌≤◌, ◌-◌}
-use mathlib.Core.Logic.{⊎_elim}
-use mathlib.Core.List.{List}
-use borrow.Author.Rules.{rules}
-use native.Mathlib.Omega.{arith}
+-- What holds at each turn of the loop of `kinds::look_around`, and what falls from turn to turn.
+-- Assumes nothing.
+use Prim.Native.Nat.{◌≤◌, ◌-◌}
 use Rattle.grid.specs.Side.{sized}
-use Rattle.grid.proofs.SideLaws.{in_place, cell_small, some_wide}
-use Rattle.grid.proofs.AroundLaws.{gathered, side_cell, side_at, side_off, sides_none, sides_all}
+use Rattle.grid.proofs.AroundLaws.{gathered}
 use Rattle.kinds.specs.Inside.{Owned, arrow_blocks_at}
-use Rattle.kinds.specs.declared.Owner.TheVariants.{Nobody}
-use Rattle.kinds.proofs.Owners.{Owned-none}
 use Rattle.kinds.proofs.look_around.Given as goal
 
 abbrev pub invariant-loop-k : goal.invariant-loop-k

@@ -2,7 +2,6 @@
 -- Assumes nothing.
 use borrow.Author.Tests.{eq-eqb, ne_eqb}
 use Rattle.kinds.specs.Inside.{meet_of}
-use borrow.Author.Rules.{rules}
 use Rattle.kinds.proofs.meet.Goals as goal
 
 pub returns-in-Nobody : goal.returns-in-Nobody

@@ -1,7 +1,6 @@
 -- `kinds::meet_at` meets its contract: one more neighbour, in an arrow block or in none.
 -- Assumes nothing.
 use Rattle.kinds.proofs.Owners.{Owned-hit, Owned-miss}
-use borrow.Author.Rules.{rules}
 use Rattle.kinds.proofs.meet_at.Goals as goal
 
 pub returns-then-f-ge1024 : goal.returns-then-f-ge1024

@@ -1,14 +1,10 @@
 -- `kinds::name_floating_groups` meets its contract: the floating groups of the cells passed are named.
 -- Assumes nothing.
-use Prim.Native.Nat.{ℕ, ◌≤◌, ◌<◌, ◌-◌, ◌*◌}
-use mathlib.Core.Bool.{Bool}
-use mathlib.Core.Logic.{⊎_elim}
+use Prim.Native.Nat.{◌<◌, ◌-◌, ◌*◌}
 use mathlib.Core.Path.{◌≡◌}
 use native.Mathlib.Omega.{arith}
-use Rattle.grid.specs.Side.{sized}
 use Rattle.grid.proofs.SideLaws.{area}
-use Rattle.groups.specs.Flood.{Unlabelled, Sofar}
-use Rattle.groups.proofs.LabellingLaws.{Sofar-none, Sofar-more}
+use Rattle.groups.proofs.LabellingLaws.{Sofar-more}
 use Rattle.kinds.proofs.Traversal.{Walked-not}
 use Rattle.kinds.proofs.name_floating_groups.Goals as goal
 use Rattle.kinds.proofs.name_floating_groups.Goals.{else-owners-i-eq-UNNAMED, then-owners-i-eq-UNNAMED}

@@ -1,13 +1,9 @@
-use Prim.Native.Nat.{ℕ, ◌≤◌, ◌<◌, ◌-◌, ◌*◌}
+-- What holds at each turn of the loop of `kinds::name_floating_groups`, and what falls from turn to turn.
+-- Assumes nothing.
+use Prim.Native.Nat.{ℕ, ◌≤◌, ◌-◌}
 use mathlib.Core.Bool.{Bool}
-use mathlib.Core.Logic.{⊎_elim}
-use mathlib.Core.Path.{◌≡◌}
-use native.Mathlib.Omega.{arith}
 use Rattle.grid.specs.Side.{sized}
-use Rattle.grid.proofs.SideLaws.{area}
 use Rattle.groups.specs.Flood.{Unlabelled, Sofar}
-use Rattle.groups.proofs.LabellingLaws.{Sofar-none, Sofar-more}
-use Rattle.kinds.proofs.Traversal.{Walked-not}
 use Rattle.kinds.proofs.name_floating_groups.Given as goal
 
 abbrev pub invariant-loop-i : goal.invariant-loop-i

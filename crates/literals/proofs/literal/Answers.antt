@@ -1,7 +1,6 @@
 -- `literals::literal` meets its contract.
 -- Assumes nothing.
 use native.Mathlib.Omega.{arith}
-use borrow.Author.Rules.{rules}
 use Rattle.grid.specs.Cells.{word}
 use Rattle.literals.proofs.literal.Goals as goal
 

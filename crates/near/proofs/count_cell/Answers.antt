@@ -4,7 +4,6 @@ use Prim.Native.Nat.{◌%◌}
 use native.Mathlib.Omega.{arith}
 use lib.ListN.{get_or}
 use Rattle.reach.proofs.NearLaws.{Sizes-either, size_few}
-use borrow.Author.Rules.{rules}
 use Rattle.near.proofs.count_cell.Goals as goal
 
 pub overflow_add-size : goal.overflow_add-size

@@ -1,10 +1,7 @@
 -- `near::count_cells` meets its contract: the cells passed are counted.
 -- Assumes nothing.
-use Prim.Native.Nat.{◌≤◌, ◌-◌}
-use mathlib.Core.Path.{◌≡◌}
+use Prim.Native.Nat.{◌-◌}
 use native.Mathlib.Omega.{arith}
-use borrow.Author.Rules.{rules}
-use Rattle.reach.specs.Near.{Sizes}
 use Rattle.reach.proofs.NearLaws.{Sizes-none}
 use Rattle.near.proofs.count_cells.Goals as goal
 

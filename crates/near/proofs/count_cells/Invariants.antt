@@ -1,9 +1,7 @@
+-- What holds at each turn of the loop of `near::count_cells`, and what falls from turn to turn.
+-- Assumes nothing.
 use Prim.Native.Nat.{◌≤◌, ◌-◌}
-use mathlib.Core.Path.{◌≡◌}
-use native.Mathlib.Omega.{arith}
-use borrow.Author.Rules.{rules}
 use Rattle.reach.specs.Near.{Sizes}
-use Rattle.reach.proofs.NearLaws.{Sizes-none}
 use Rattle.near.proofs.count_cells.Given as goal
 
 abbrev pub invariant-loop-i : goal.invariant-loop-i

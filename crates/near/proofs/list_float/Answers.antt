@@ -1,7 +1,6 @@
 -- `near::list_float` meets its contract: a floating cell's group is marked and listed, unless it is already.
 -- Assumes nothing.
 use Rattle.reach.proofs.NearLaws.{float_off, float_unnamed, float_old, float_new, Listing-room}
-use borrow.Author.Rules.{rules}
 use Rattle.near.proofs.list_float.Goals as goal
 
 pub returns-then-kinds-j-ne4 : goal.returns-then-kinds-j-ne4

@@ -4,7 +4,6 @@ use mathlib.Core.Path.{sym, ◌∙◌}
 use Rattle.grid.specs.Side.{sized}
 use Rattle.groups.proofs.FloodLaws.{beside_small}
 use Rattle.reach.proofs.NearLaws.{side_at, side_off}
-use borrow.Author.Rules.{rules}
 use Rattle.near.proofs.list_float_toward.Goals as goal
 
 pub list_float-requires : goal.list_float-requires

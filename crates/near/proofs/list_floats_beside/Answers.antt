@@ -1,16 +1,11 @@
 -- `near::list_floats_beside` meets its contract: the floating groups in the directions before k are listed.
 -- Assumes nothing.
-use Prim.Native.Nat.{ℕ, ◌+◌, ◌-◌, ◌*◌, ◌≤◌}
+use Prim.Native.Nat.{◌-◌}
 use native.Mathlib.Nat.{div-add-mod'}
 use native.Mathlib.Omega.{arith}
 use mathlib.Core.Path.{◌≡◌}
-use mathlib.Core.Bool.{Bool, ◌||◌}
 use Rattle.grid.specs.Side.{sized}
-use Rattle.grid.proofs.SideLaws.{cell_small, in_place}
-use Rattle.grid.proofs.AroundLaws.{gathered}
-use Rattle.reach.specs.Near.{Listed}
-use Rattle.reach.proofs.NearLaws.{sides_none, sides_more, sides_all, sides_off}
-use Rattle.reach.specs.Inside.{float_among}
+use Rattle.reach.proofs.NearLaws.{sides_none, sides_more, sides_all}
 use Rattle.near.proofs.list_floats_beside.Goals as goal
 
 pub loop-k-init : goal.loop-k-init

@@ -1,13 +1,10 @@
+-- What holds at each turn of the loop of `near::list_floats_beside`, and what falls from turn to turn.
+-- Assumes nothing.
 use Prim.Native.Nat.{ℕ, ◌+◌, ◌-◌, ◌*◌, ◌≤◌}
-use native.Mathlib.Nat.{div-add-mod'}
-use native.Mathlib.Omega.{arith}
-use mathlib.Core.Path.{◌≡◌}
 use mathlib.Core.Bool.{Bool, ◌||◌}
 use Rattle.grid.specs.Side.{sized}
-use Rattle.grid.proofs.SideLaws.{cell_small, in_place}
 use Rattle.grid.proofs.AroundLaws.{gathered}
 use Rattle.reach.specs.Near.{Listed}
-use Rattle.reach.proofs.NearLaws.{sides_none, sides_more, sides_all, sides_off}
 use Rattle.reach.specs.Inside.{float_among}
 use Rattle.near.proofs.list_floats_beside.Given as goal
 

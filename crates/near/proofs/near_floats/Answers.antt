@@ -1,12 +1,11 @@
 -- `near::near_floats` meets its contract: the floating groups that touch the cells of f passed are listed.
 -- Assumes nothing.
-use Prim.Native.Nat.{◌-◌, ◌*◌}
+use Prim.Native.Nat.{◌-◌}
 use Rattle.grid.specs.Side.{sized}
 use Rattle.grid.proofs.SideLaws.{area}
 use Rattle.reach.proofs.ChainWalks.{walk_in, walk_less}
-use Rattle.reach.proofs.NearLaws.{Nearby, Nearby-none, Nearby-more, nearby_end, listed_Names}
+use Rattle.reach.proofs.NearLaws.{Nearby-none, Nearby-more, nearby_end, listed_Names}
 use Rattle.reach.proofs.NearReach.{near_computed}
-use borrow.Author.Rules.{rules}
 use Rattle.near.proofs.near_floats.Goals as goal
 
 pub loop-i-init : goal.loop-i-init

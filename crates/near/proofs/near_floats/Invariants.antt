@@ -1,10 +1,8 @@
+-- What holds at each turn of the loop of `near::near_floats`, and what falls from turn to turn.
+-- Assumes nothing.
 use Prim.Native.Nat.{◌-◌, ◌*◌}
 use Rattle.grid.specs.Side.{sized}
-use Rattle.grid.proofs.SideLaws.{area}
-use Rattle.reach.proofs.ChainWalks.{walk_in, walk_less}
-use Rattle.reach.proofs.NearLaws.{Nearby, Nearby-none, Nearby-more, nearby_end, listed_Names}
-use Rattle.reach.proofs.NearReach.{near_computed}
-use borrow.Author.Rules.{rules}
+use Rattle.reach.proofs.NearLaws.{Nearby}
 use Rattle.near.proofs.near_floats.Given as goal
 
 abbrev pub invariant-loop-i : goal.invariant-loop-i

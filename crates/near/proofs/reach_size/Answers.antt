@@ -1,12 +1,11 @@
 -- `near::reach_size` meets its contract: the squares of f, its size and those of the groups passed are added.
 -- Assumes nothing.
-use Prim.Native.Nat.{◌+◌, ◌-◌, ◌*◌, ◌≤◌, ◌<◌}
+use Prim.Native.Nat.{◌-◌}
 use mathlib.Core.Path.{◌≡◌, ◌∙◌}
 use native.Mathlib.Omega.{arith}
-use lib.ListN.{get_or, take}
-use Rattle.reach.proofs.NearLaws.{total, total_none, total_next}
+use lib.ListN.{get_or}
+use Rattle.reach.proofs.NearLaws.{total_none, total_next}
 use Rattle.reach.proofs.NearReach.{reach_sum}
-use borrow.Author.Rules.{rules}
 use Rattle.near.proofs.reach_size.Goals as goal
 use Rattle.std.proofs.lemmas.Grind.{common_steps}
 

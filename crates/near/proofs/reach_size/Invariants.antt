@@ -1,10 +1,9 @@
+-- What holds at each turn of the loop of `near::reach_size`, and what falls from turn to turn.
+-- Assumes nothing.
 use Prim.Native.Nat.{◌+◌, ◌-◌, ◌*◌, ◌≤◌, ◌<◌}
-use mathlib.Core.Path.{◌≡◌, ◌∙◌}
-use native.Mathlib.Omega.{arith}
+use mathlib.Core.Path.{◌≡◌}
 use lib.ListN.{get_or, take}
-use Rattle.reach.proofs.NearLaws.{total, total_none, total_next}
-use Rattle.reach.proofs.NearReach.{reach_sum}
-use borrow.Author.Rules.{rules}
+use Rattle.reach.proofs.NearLaws.{total}
 use Rattle.near.proofs.reach_size.Given as goal
 
 abbrev pub invariant-loop-k : goal.invariant-loop-k

@@ -1,7 +1,6 @@
 -- `near::reached` meets its contract: the test of the reach, with the cell's kind and owner.
 -- Assumes nothing.
 use Rattle.reach.specs.Inside.{reaches_at}
-use borrow.Author.Rules.{rules}
 use Rattle.near.proofs.reached.Goals as goal
 
 pub returns : goal.returns

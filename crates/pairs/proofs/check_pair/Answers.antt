@@ -2,7 +2,6 @@
 -- Assumes nothing.
 use Prim.Native.Nat.{ℕ}
 use mathlib.Core.Path.{◌≡◌, refl, subst}
-use mathlib.Core.List.{List}
 use mathlib.Core.Option.{none, some}
 use borrow.Author.Tests.{eq-eqb, ne_eqb}
 use Rattle.groups.specs.Arrows.{Pair}
@@ -12,7 +11,6 @@ use Rattle.growth.specs.Growth.{reason3_at, reason4a_at, reason4b_at, reason4_at
 use Rattle.literals.specs.Literals.{Found, or_else}
 use Rattle.literals.specs.Inside.{FoundAs}
 use Rattle.literals.proofs.Findings.{found_first, found_next, not_refused}
-use borrow.Author.Rules.{rules}
 use Rattle.pairs.proofs.check_pair.Goals as goal
 
 -- what is asked for at stage 0, in edition 1 and in another

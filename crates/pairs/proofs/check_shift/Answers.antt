@@ -6,8 +6,7 @@ use mathlib.Core.Path.{refl, sym, ◌∙◌}
 use lib.ListN.{take}
 use Rattle.grid.proofs.SideLaws.{area}
 use Rattle.growth.proofs.PairFinds.{no_shift, shift_found}
-use Rattle.growth.proofs.PairNames.{scene_kind, last_cell, cur_cell, last_name, cur_name}
-use borrow.Author.Rules.{rules}
+use Rattle.growth.proofs.PairNames.{scene_kind, last_name, cur_name}
 use Rattle.pairs.proofs.check_shift.Goals as goal
 
 pub shift_fits-requires : goal.shift_fits-requires

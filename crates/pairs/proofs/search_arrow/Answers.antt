@@ -1,20 +1,15 @@
 -- `pairs::search_arrow` meets its contract: the pairs before `last` give no reason, so that the first from there on is the first of all.
 -- Assumes nothing.
-use Prim.Native.Nat.{ℕ, ◌-◌, ◌≤◌, ◌<◌}
+use Prim.Native.Nat.{◌-◌, ◌≤◌, ◌<◌}
 use native.Mathlib.Omega.{arith}
-use mathlib.Core.Path.{◌≡◌, refl, ap, subst, ◌∙◌}
+use mathlib.Core.Path.{refl, subst, ◌∙◌}
 use mathlib.Core.Bool.{true}
-use mathlib.Core.List.{List}
 use lib.Arith.{lt_of_le-ne}
-use lib.ListN.{length, get_or}
-use Rattle.grid.specs.Cells.{square}
-use Rattle.growth.specs.Pairs.{Scene}
-use Rattle.shift.specs.Shift.{Work}
+use lib.ListN.{length}
 use Rattle.literals.specs.Inside.{FoundAs}
 use Rattle.literals.proofs.Findings.{found_same, found_none, nothing_found, not_refused}
 use Rattle.growth.proofs.PairNames.{Scene-part}
-use Rattle.pairs.proofs.PairSearch.{ahead, search_start, search_done, search_more, search_found, search_end}
-use borrow.Author.Rules.{rules}
+use Rattle.pairs.proofs.PairSearch.{search_start, search_done, search_more, search_found, search_end}
 use Rattle.pairs.proofs.search_arrow.Goals as goal
 
 pub loop-last-init : goal.loop-last-init

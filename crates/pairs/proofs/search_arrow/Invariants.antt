@@ -1,18 +1,14 @@
+-- What holds at each turn of the loop of `pairs::search_arrow`, and what falls from turn to turn.
+-- Assumes nothing.
 use Prim.Native.Nat.{ℕ, ◌-◌, ◌≤◌, ◌<◌}
-use native.Mathlib.Omega.{arith}
-use mathlib.Core.Path.{◌≡◌, refl, ap, subst, ◌∙◌}
+use mathlib.Core.Path.{◌≡◌}
 use mathlib.Core.Bool.{true}
 use mathlib.Core.List.{List}
-use lib.Arith.{lt_of_le-ne}
-use lib.ListN.{length, get_or}
+use lib.ListN.{get_or}
 use Rattle.grid.specs.Cells.{square}
 use Rattle.growth.specs.Pairs.{Scene}
 use Rattle.shift.specs.Shift.{Work}
-use Rattle.literals.specs.Inside.{FoundAs}
-use Rattle.literals.proofs.Findings.{found_same, found_none, nothing_found, not_refused}
-use Rattle.growth.proofs.PairNames.{Scene-part}
-use Rattle.pairs.proofs.PairSearch.{ahead, search_start, search_done, search_more, search_found, search_end}
-use borrow.Author.Rules.{rules}
+use Rattle.pairs.proofs.PairSearch.{ahead}
 use Rattle.pairs.proofs.search_arrow.Given as goal
 
 -- the pairs before `last` give no reason, and the buffer is as it was

@@ -1,20 +1,17 @@
 -- `pairs::search_arrows` meets its contract: the arrows passed give no reason, so that the first from there on is the first of all.
 -- Assumes nothing.
-use Prim.Native.Nat.{ℕ, ◌-◌, ◌*◌, ◌≤◌, ◌<◌}
+use Prim.Native.Nat.{◌-◌, ◌*◌}
 use native.Mathlib.Omega.{arith}
-use mathlib.Core.Path.{◌≡◌, refl, ap, subst, ◌∙◌}
-use mathlib.Core.List.{List, Memᴰ}
-use lib.ListN.{length, get_or, take}
+use mathlib.Core.Path.{subst, ◌∙◌}
+use lib.ListN.{get_or, take}
 use lib.Seq.{slice}
-use Rattle.groups.specs.Arrows.{Pair, pairs}
+use Rattle.groups.specs.Arrows.{pairs}
 use Rattle.groups.specs.Arrays.{lines_of}
 use Rattle.growth.specs.Pairs.{reason_at, view_on, Scene}
-use Rattle.shift.specs.Shift.{Work}
-use Rattle.literals.specs.Literals.{Found, first_found_of}
+use Rattle.literals.specs.Literals.{first_found_of}
 use Rattle.literals.specs.Inside.{FoundAs}
 use Rattle.literals.proofs.Findings.{found_same, found_none, nothing_found, not_refused}
-use Rattle.pairs.proofs.PairSearch.{lines_from, rest_of, rest_end, rest_more, rest_found, sub_more, next_Scene, next_Line}
-use borrow.Author.Rules.{rules}
+use Rattle.pairs.proofs.PairSearch.{rest_end, rest_more, rest_found, sub_more, next_Scene, next_Line}
 use Rattle.pairs.proofs.search_arrows.Goals as goal
 
 pub search_arrow-finding-requires : goal.search_arrow-finding-requires

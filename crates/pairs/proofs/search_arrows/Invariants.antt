@@ -1,18 +1,13 @@
+-- What holds at each turn of the loop of `pairs::search_arrows`, and what falls from turn to turn.
+-- Assumes nothing.
 use Prim.Native.Nat.{ℕ, ◌-◌, ◌*◌, ◌≤◌, ◌<◌}
-use native.Mathlib.Omega.{arith}
-use mathlib.Core.Path.{◌≡◌, refl, ap, subst, ◌∙◌}
+use mathlib.Core.Path.{◌≡◌}
 use mathlib.Core.List.{List, Memᴰ}
-use lib.ListN.{length, get_or, take}
-use lib.Seq.{slice}
-use Rattle.groups.specs.Arrows.{Pair, pairs}
+use lib.ListN.{get_or, take}
 use Rattle.groups.specs.Arrays.{lines_of}
-use Rattle.growth.specs.Pairs.{reason_at, view_on, Scene}
+use Rattle.growth.specs.Pairs.{reason_at, view_on}
 use Rattle.shift.specs.Shift.{Work}
-use Rattle.literals.specs.Literals.{Found, first_found_of}
-use Rattle.literals.specs.Inside.{FoundAs}
-use Rattle.literals.proofs.Findings.{found_same, found_none, nothing_found, not_refused}
-use Rattle.pairs.proofs.PairSearch.{lines_from, rest_of, rest_end, rest_more, rest_found, sub_more, next_Scene, next_Line}
-use borrow.Author.Rules.{rules}
+use Rattle.pairs.proofs.PairSearch.{lines_from, rest_of}
 use Rattle.pairs.proofs.search_arrows.Given as goal
 
 -- the arrows before the a-th, which starts at `from`, give no reason, and the buffer is as it was

@@ -11,11 +11,10 @@ use Rattle.groups.specs.Arrows.{Pair, pairs}
 use Rattle.groups.specs.Arrays.{lines_of}
 use Rattle.kinds.specs.Kinds.{View, view, view_with}
 use Rattle.growth.specs.Pairs.{reason_at, view_on}
-use Rattle.literals.specs.Literals.{Found, first_found_of}
+use Rattle.literals.specs.Literals.{first_found_of}
 use Rattle.growth.specs.Growth.{reason3_at, reason4_at, reason34}
 use Rattle.literals.specs.Inside.{FoundAs}
 use Rattle.literals.proofs.Findings.{found_first, found_next, not_refused}
-use borrow.Author.Rules.{rules}
 use Rattle.pairs.proofs.search_pairs.Goals as goal
 
 -- reason 4 of an edition, as the search for it has it

@@ -4,12 +4,11 @@ use Rattle.grid.proofs.SideLaws.{area}
 use mathlib.Core.Path.{◌∙◌}
 use Prim.Native.Nat.{◌*◌, ◌-◌}
 use native.Mathlib.Omega.{arith}
-use borrow.Author.Rules.{rules}
 use Rattle.grid.specs.Grid.{size}
 use Rattle.grid.specs.Side.{sized}
 use Rattle.grid.proofs.Turns.{in_size}
 use Rattle.grid.proofs.GridLaws.{size_most}
-use Rattle.paths.proofs.Breadth.{Run, Run-first, run_cell, run_below, Run-more, Run-done, fill_length, fill_at}
+use Rattle.paths.proofs.Breadth.{Run-first, run_cell, run_below, Run-more, Run-done, fill_length, fill_at}
 use Rattle.paths.proofs.breadth_first.Goals as goal
 
 pub loop-t-init : goal.loop-t-init

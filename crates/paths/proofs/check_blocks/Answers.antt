@@ -8,12 +8,10 @@ use lib.ListN.{take}
 use Rattle.grid.specs.Side.{sized}
 use Rattle.grid.proofs.SideLaws.{area, sized-size}
 use Rattle.grid.proofs.GridLaws.{size_most}
-use Rattle.record.specs.Record.{Puzzle}
 use Rattle.kinds.specs.Inside.{puzzle_with}
 use Rattle.groups.proofs.TableLaws.{table_few}
 use Rattle.paths.specs.Ends.{BlockTable, Crossing}
 use Rattle.paths.proofs.Found.{crossing_ends, crossing_found, crossing_none}
-use borrow.Author.Rules.{rules}
 use Rattle.paths.proofs.check_blocks.Goals as goal
 
 pub find_crossing-ends-requires : goal.find_crossing-ends-requires

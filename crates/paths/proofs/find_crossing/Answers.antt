@@ -5,7 +5,6 @@ use Prim.Native.Nat.{◌<◌}
 use native.Mathlib.Omega.{arith}
 use Rattle.units.proofs.Names.{first_low}
 use Rattle.paths.proofs.Crossings.{Crossing-at, Crossing-nowhere}
-use borrow.Author.Rules.{rules}
 use Rattle.paths.proofs.find_crossing.Goals as goal
 
 pub overflow_cast-f : goal.overflow_cast-f

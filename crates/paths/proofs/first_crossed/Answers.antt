@@ -1,12 +1,11 @@
 -- `paths::first_crossed` meets its contract: no name passed has two arrow cells, so that the first from place k on is the first of all.
 -- Assumes nothing.
-use mathlib.Core.Path.{◌≡◌, refl, sym, ◌∙◌}
+use mathlib.Core.Path.{◌≡◌, sym, ◌∙◌}
 use mathlib.Core.Bool.{false, true}
-use Prim.Native.Nat.{◌-◌, ◌≤◌, ◌<◌}
+use Prim.Native.Nat.{◌-◌}
 use native.Mathlib.Omega.{arith}
-use lib.ListN.{get_or, take, drop}
+use lib.ListN.{get_or}
 use borrow.Author.Tests.{le-leb, lt-leb}
-use Rattle.units.specs.Arrays.{first_name}
 use Rattle.units.proofs.Names.{first_hit, first_miss, first_end}
 use Rattle.paths.specs.Ends.{crossed}
 use Rattle.paths.proofs.first_crossed.Goals as goal

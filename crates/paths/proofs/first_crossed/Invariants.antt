@@ -1,11 +1,9 @@
-use mathlib.Core.Path.{◌≡◌, refl, sym, ◌∙◌}
-use mathlib.Core.Bool.{false, true}
-use Prim.Native.Nat.{◌-◌, ◌≤◌, ◌<◌}
-use native.Mathlib.Omega.{arith}
-use lib.ListN.{get_or, take, drop}
-use borrow.Author.Tests.{le-leb, lt-leb}
+-- What holds at each turn of the loop of `paths::first_crossed`, and what falls from turn to turn.
+-- Assumes nothing.
+use mathlib.Core.Path.{◌≡◌}
+use Prim.Native.Nat.{◌-◌, ◌≤◌}
+use lib.ListN.{take, drop}
 use Rattle.units.specs.Arrays.{first_name}
-use Rattle.units.proofs.Names.{first_hit, first_miss, first_end}
 use Rattle.paths.specs.Ends.{crossed}
 use Rattle.paths.proofs.first_crossed.Given as goal
 

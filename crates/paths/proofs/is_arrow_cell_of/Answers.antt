@@ -3,7 +3,6 @@
 use mathlib.Core.Path.{refl}
 use borrow.Author.Tests.{eq-eqb, ne_eqb}
 use Rattle.paths.specs.Ends.{arrow_cell_of}
-use borrow.Author.Rules.{rules}
 use Rattle.paths.proofs.is_arrow_cell_of.Goals as goal
 
 pub returns-then-blocks-i : goal.returns-then-blocks-i

@@ -2,7 +2,6 @@
 -- Assumes nothing.
 use native.Mathlib.Omega.{arith}
 use Rattle.paths.proofs.Listings.{room_left, offer_plain, offer_seen, offer_new}
-use borrow.Author.Rules.{rules}
 use Rattle.paths.proofs.list_cell.Goals as goal
 
 pub returns-then-cells-j-ne1 : goal.returns-then-cells-j-ne1

@@ -2,16 +2,14 @@
 -- Assumes nothing.
 use Rattle.grid.proofs.Turns.{Turn, turn, turn_count, in_size}
 use mathlib.Core.Path.{◌≡◌, sym, ◌∙◌, subst}
-use mathlib.Core.List.{List, ◌++◌}
-use Prim.Native.Nat.{ℕ, ◌*◌, ◌-◌, ◌≤◌, ◌<◌}
+use Prim.Native.Nat.{◌*◌, ◌-◌, ◌<◌}
 use native.Mathlib.Omega.{arith}
 use lib.ListN.{length, get_or, take}
-use Rattle.grid.specs.Grid.{Grid, size, neighbours}
+use Rattle.grid.specs.Grid.{size, neighbours}
 use Rattle.grid.specs.Side.{sized, around_of}
 use Rattle.grid.proofs.GridLaws.{apart, size_most}
-use Rattle.paths.specs.Paths.{Entry}
-use Rattle.paths.specs.Search.{Listing, Room, Offered}
-use Rattle.paths.proofs.Listings.{offered_Room, offered_more, Offered-take, news, neighbour_Offered, news_none, news_all}
+use Rattle.paths.specs.Search.{Listing, Offered}
+use Rattle.paths.proofs.Listings.{offered_Room, offered_more, Offered-take, neighbour_Offered, news_none, news_all}
 use Rattle.paths.proofs.list_neighbours.Goals as goal
 
 pub loop-k-init : goal.loop-k-init

@@ -1,15 +1,13 @@
-use Rattle.grid.proofs.Turns.{Turn, turn, turn_count, in_size}
-use mathlib.Core.Path.{◌≡◌, sym, ◌∙◌, subst}
+-- What holds at each turn of the loop of `paths::list_neighbours`, and what falls from turn to turn.
+-- Assumes nothing.
 use mathlib.Core.List.{List, ◌++◌}
-use Prim.Native.Nat.{ℕ, ◌*◌, ◌-◌, ◌≤◌, ◌<◌}
-use native.Mathlib.Omega.{arith}
-use lib.ListN.{length, get_or, take}
+use Prim.Native.Nat.{ℕ, ◌*◌, ◌-◌, ◌≤◌}
+use lib.ListN.{length, take}
 use Rattle.grid.specs.Grid.{Grid, size, neighbours}
-use Rattle.grid.specs.Side.{sized, around_of}
-use Rattle.grid.proofs.GridLaws.{apart, size_most}
+use Rattle.grid.specs.Side.{sized}
 use Rattle.paths.specs.Paths.{Entry}
-use Rattle.paths.specs.Search.{Listing, Room, Offered}
-use Rattle.paths.proofs.Listings.{offered_Room, offered_more, Offered-take, news, neighbour_Offered, news_none, news_all}
+use Rattle.paths.specs.Search.{Listing, Room}
+use Rattle.paths.proofs.Listings.{news}
 use Rattle.paths.proofs.list_neighbours.Given as goal
 
 -- the first k neighbours of the cell p are offered

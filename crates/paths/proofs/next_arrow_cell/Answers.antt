@@ -1,10 +1,9 @@
 -- `paths::next_arrow_cell` meets its contract: no cell passed is one, so that the first from i on is the first from the start on.
 -- Assumes nothing.
 use Prim.Native.Nat.{◌-◌}
-use mathlib.Core.Path.{◌≡◌, refl, sym, ◌∙◌}
+use mathlib.Core.Path.{sym, ◌∙◌}
 use native.Mathlib.Omega.{arith}
-use lib.ListN.{get_or}
-use Rattle.paths.specs.Ends.{arrow_cell_of, arrow_cells_from}
+use Rattle.paths.specs.Ends.{arrow_cell_of}
 use Rattle.paths.proofs.Crossings.{next_hit, next_miss, next_end}
 use Rattle.paths.proofs.next_arrow_cell.Goals as goal
 

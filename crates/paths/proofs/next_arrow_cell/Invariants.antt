@@ -1,9 +1,9 @@
+-- What holds at each turn of the loop of `paths::next_arrow_cell`, and what falls from turn to turn.
+-- Assumes nothing.
 use Prim.Native.Nat.{◌-◌}
-use mathlib.Core.Path.{◌≡◌, refl, sym, ◌∙◌}
-use native.Mathlib.Omega.{arith}
+use mathlib.Core.Path.{◌≡◌}
 use lib.ListN.{get_or}
-use Rattle.paths.specs.Ends.{arrow_cell_of, arrow_cells_from}
-use Rattle.paths.proofs.Crossings.{next_hit, next_miss, next_end}
+use Rattle.paths.specs.Ends.{arrow_cells_from}
 use Rattle.paths.proofs.next_arrow_cell.Given as goal
 
 abbrev pub invariant-loop-i : goal.invariant-loop-i

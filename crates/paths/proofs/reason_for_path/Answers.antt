@@ -3,7 +3,7 @@
 use mathlib.Core.Path.{sym, ◌∙◌}
 use Prim.Native.Nat.{ℕ, ◌*◌, ◌-◌, ◌≤◌, ◌<◌}
 use native.Mathlib.Omega.{arith}
-use lib.ListN.{length, length-set}
+use lib.ListN.{length}
 use mathlib.Core.List.{List}
 use lib.Seq.{get_or-take}
 use borrow.Author.Tests.{eqb-true}
@@ -14,7 +14,7 @@ use Rattle.grid.specs.Cells.{square}
 use Rattle.grid.proofs.GridLaws.{size_most}
 use Rattle.literals.proofs.BufferLaws.{wrote_length}
 use Rattle.paths.proofs.Breadth.{square_inside}
-use Rattle.paths.proofs.Ways.{Way, Way-first, way_below, way_cell, way_mark, Way-more, way_done}
+use Rattle.paths.proofs.Ways.{Way-first, way_below, way_cell, way_mark, Way-more, way_done}
 use Rattle.paths.proofs.reason_for_path.Goals as goal
 
 -- the way at the loop's head: there is room for the next cell, which is one of the grid

@@ -1,18 +1,8 @@
-use mathlib.Core.Path.{sym, ◌∙◌}
-use Prim.Native.Nat.{ℕ, ◌*◌, ◌-◌, ◌≤◌, ◌<◌}
-use native.Mathlib.Omega.{arith}
-use lib.ListN.{length, length-set}
-use mathlib.Core.List.{List}
-use lib.Seq.{get_or-take}
-use borrow.Author.Tests.{eqb-true}
-use Rattle.grid.specs.Grid.{size}
+-- What holds at each turn of the loop of `paths::reason_for_path`, and what falls from turn to turn.
+-- Assumes nothing.
+use Prim.Native.Nat.{◌*◌, ◌-◌}
 use Rattle.grid.specs.Side.{sized}
-use Rattle.grid.proofs.LinkLaws.{Linked-start}
-use Rattle.grid.specs.Cells.{square}
-use Rattle.grid.proofs.GridLaws.{size_most}
-use Rattle.literals.proofs.BufferLaws.{wrote_length}
-use Rattle.paths.proofs.Breadth.{square_inside}
-use Rattle.paths.proofs.Ways.{Way, Way-first, way_below, way_cell, way_mark, Way-more, way_done}
+use Rattle.paths.proofs.Ways.{Way}
 use Rattle.paths.proofs.reason_for_path.Given as goal
 
 abbrev pub invariant-loop-cell : goal.invariant-loop-cell

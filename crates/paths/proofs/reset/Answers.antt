@@ -1,11 +1,7 @@
 -- `paths::reset` meets its contract: the places passed are 1024, and those behind them are as they were.
 -- Assumes nothing.
-use mathlib.Core.Path.{◌≡◌, refl}
-use mathlib.Core.List.{◌++◌}
-use Prim.Native.Nat.{◌-◌, ◌≤◌}
+use Prim.Native.Nat.{◌-◌}
 use native.Mathlib.Omega.{arith}
-use lib.ListN.{drop, replicate}
-use borrow.Author.Rules.{rules}
 use Rattle.paths.proofs.Breadth.{fill_more}
 use Rattle.paths.proofs.reset.Goals as goal
 

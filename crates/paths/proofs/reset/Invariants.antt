@@ -1,10 +1,9 @@
-use mathlib.Core.Path.{◌≡◌, refl}
+-- What holds at each turn of the loop of `paths::reset`, and what falls from turn to turn.
+-- Assumes nothing.
+use mathlib.Core.Path.{◌≡◌}
 use mathlib.Core.List.{◌++◌}
 use Prim.Native.Nat.{◌-◌, ◌≤◌}
-use native.Mathlib.Omega.{arith}
 use lib.ListN.{drop, replicate}
-use borrow.Author.Rules.{rules}
-use Rattle.paths.proofs.Breadth.{fill_more}
 use Rattle.paths.proofs.reset.Given as goal
 
 abbrev pub invariant-loop-i : goal.invariant-loop-i

@@ -1,8 +1,6 @@
 -- `reach::chain_cell` meets its contract: a cell with an owner comes in front of its owner's chain.
 -- Assumes nothing.
-use native.Mathlib.Omega.{arith}
 use Rattle.reach.proofs.ChainLaws.{chains_either}
-use borrow.Author.Rules.{rules}
 use Rattle.reach.proofs.chain_cell.Goals as goal
 
 pub returns : goal.returns

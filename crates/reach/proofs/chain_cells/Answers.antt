@@ -1,10 +1,8 @@
 -- `reach::chain_cells` meets its contract: the cells from i on are linked.
 -- Assumes nothing.
-use Prim.Native.Nat.{◌≤◌, ◌+◌, ◌-◌}
+use Prim.Native.Nat.{◌+◌, ◌-◌}
 use mathlib.Core.Path.{◌≡◌}
 use native.Mathlib.Omega.{arith}
-use borrow.Author.Rules.{rules}
-use Rattle.reach.specs.Chains.{ChainsFrom}
 use Rattle.reach.proofs.ChainLaws.{chains_none}
 use Rattle.reach.proofs.chain_cells.Goals as goal
 

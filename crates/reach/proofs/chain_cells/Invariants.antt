@@ -1,9 +1,7 @@
-use Prim.Native.Nat.{◌≤◌, ◌+◌, ◌-◌}
-use mathlib.Core.Path.{◌≡◌}
-use native.Mathlib.Omega.{arith}
-use borrow.Author.Rules.{rules}
+-- What holds at each turn of the loop of `reach::chain_cells`, and what falls from turn to turn.
+-- Assumes nothing.
+use Prim.Native.Nat.{◌≤◌, ◌-◌}
 use Rattle.reach.specs.Chains.{ChainsFrom}
-use Rattle.reach.proofs.ChainLaws.{chains_none}
 use Rattle.reach.proofs.chain_cells.Given as goal
 
 abbrev pub invariant-loop-i : goal.invariant-loop-i

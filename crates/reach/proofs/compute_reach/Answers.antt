@@ -1,9 +1,7 @@
 -- `reach::compute_reach` meets its contract: the two passes one after the other.
 -- Assumes nothing.
-use native.Mathlib.Omega.{arith}
 use Rattle.grid.proofs.SideLaws.{area}
 use Rattle.reach.proofs.Reaches.{Reach-computed}
-use borrow.Author.Rules.{rules}
 use Rattle.reach.proofs.compute_reach.Goals as goal
 
 pub returns : goal.returns

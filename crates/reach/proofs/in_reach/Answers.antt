@@ -2,7 +2,6 @@
 -- Assumes nothing.
 use borrow.Author.Tests.{le-ltb, lt-ltb, ne_eqb}
 use Rattle.reach.specs.Inside.{reaches}
-use borrow.Author.Rules.{rules}
 use Rattle.reach.proofs.in_reach.Goals as goal
 
 pub returns-then-kind-eq1 : goal.returns-then-kind-eq1

@@ -1,17 +1,11 @@
 -- `reach::mark_floats_beside` meets its contract: the floating groups of the neighbours in the directions passed are marked.
 -- Assumes nothing.
-use Prim.Native.Nat.{ℕ, ◌≤◌, ◌-◌}
-use mathlib.Core.Logic.{⊎_elim}
-use mathlib.Core.Bool.{Bool, ◌||◌}
-use mathlib.Core.List.{List}
+use Prim.Native.Nat.{◌-◌}
 use native.Mathlib.Omega.{arith}
-use borrow.Author.Rules.{rules}
 use borrow.Author.Tests.{ne_eqb}
-use Rattle.reach.specs.Inside.{float_among}
-use Rattle.grid.specs.Marks.{Marks}
 use Rattle.grid.specs.Side.{sized}
-use Rattle.grid.proofs.SideLaws.{in_place, cell_small, some_wide}
-use Rattle.grid.proofs.AroundLaws.{gathered, side_cell, side_at, side_off, sides_none, sides_all}
+use Rattle.grid.proofs.SideLaws.{cell_small}
+use Rattle.grid.proofs.AroundLaws.{side_cell, side_at, side_off, sides_none, sides_all}
 use Rattle.reach.proofs.Counting.{near_off, near_none, near_more, near_all}
 use Rattle.reach.proofs.mark_floats_beside.Goals as goal
 use Rattle.reach.proofs.mark_floats_beside.Invariants.{Near}

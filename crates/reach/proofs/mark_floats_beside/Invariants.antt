@@ -1,16 +1,12 @@
+-- What holds at each turn of the loop of `reach::mark_floats_beside`, and what falls from turn to turn.
+-- Assumes nothing.
 use Prim.Native.Nat.{ℕ, ◌≤◌, ◌-◌}
-use mathlib.Core.Logic.{⊎_elim}
 use mathlib.Core.Bool.{Bool, ◌||◌}
 use mathlib.Core.List.{List}
-use native.Mathlib.Omega.{arith}
-use borrow.Author.Rules.{rules}
-use borrow.Author.Tests.{ne_eqb}
 use Rattle.reach.specs.Inside.{float_among}
 use Rattle.grid.specs.Marks.{Marks}
 use Rattle.grid.specs.Side.{sized}
-use Rattle.grid.proofs.SideLaws.{in_place, cell_small, some_wide}
-use Rattle.grid.proofs.AroundLaws.{gathered, side_cell, side_at, side_off, sides_none, sides_all}
-use Rattle.reach.proofs.Counting.{near_off, near_none, near_more, near_all}
+use Rattle.grid.proofs.AroundLaws.{gathered}
 use Rattle.reach.proofs.mark_floats_beside.Given as goal
 
 -- the floating groups of the cells js are marked too

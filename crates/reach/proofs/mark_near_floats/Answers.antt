@@ -1,14 +1,8 @@
 -- `reach::mark_near_floats` meets its contract: the floating groups that touch a neighbour of f among the cells passed are marked.
 -- Assumes nothing.
-use Prim.Native.Nat.{◌≤◌, ◌-◌, ◌*◌}
-use mathlib.Core.Path.{◌≡◌}
-use borrow.Author.Rules.{rules}
+use Prim.Native.Nat.{◌-◌}
 use native.Mathlib.Omega.{arith}
-use Rattle.grid.specs.Marks.{Marks}
-use Rattle.grid.specs.Side.{sized}
-use Rattle.grid.proofs.SideLaws.{area}
 use Rattle.grid.proofs.MarkLaws.{Marks-none}
-use Rattle.reach.specs.Inside.{near_among}
 use Rattle.reach.proofs.Counting.{among_near_none, among_near_more}
 use Rattle.reach.proofs.mark_near_floats.Goals as goal
 

@@ -1,13 +1,9 @@
-use Prim.Native.Nat.{◌≤◌, ◌-◌, ◌*◌}
-use mathlib.Core.Path.{◌≡◌}
-use borrow.Author.Rules.{rules}
-use native.Mathlib.Omega.{arith}
+-- What holds at each turn of the loop of `reach::mark_near_floats`, and what falls from turn to turn.
+-- Assumes nothing.
+use Prim.Native.Nat.{◌≤◌, ◌-◌}
 use Rattle.grid.specs.Marks.{Marks}
 use Rattle.grid.specs.Side.{sized}
-use Rattle.grid.proofs.SideLaws.{area}
-use Rattle.grid.proofs.MarkLaws.{Marks-none}
 use Rattle.reach.specs.Inside.{near_among}
-use Rattle.reach.proofs.Counting.{among_near_none, among_near_more}
 use Rattle.reach.proofs.mark_near_floats.Given as goal
 
 abbrev pub invariant-loop-i : goal.invariant-loop-i

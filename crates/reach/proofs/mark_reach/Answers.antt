@@ -1,10 +1,7 @@
 -- `reach::mark_reach` meets its contract: the cells passed are marked and counted.
 -- Assumes nothing.
-use Prim.Native.Nat.{◌≤◌, ◌-◌}
-use mathlib.Core.Path.{◌≡◌}
-use borrow.Author.Rules.{rules}
+use Prim.Native.Nat.{◌-◌}
 use native.Mathlib.Omega.{arith}
-use Rattle.reach.specs.Inside.{Reached}
 use Rattle.reach.proofs.Counting.{Reached-none, Reached-more, Reached-few}
 use Rattle.reach.proofs.mark_reach.Goals as goal
 

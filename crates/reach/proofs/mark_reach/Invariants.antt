@@ -1,9 +1,7 @@
+-- What holds at each turn of the loop of `reach::mark_reach`, and what falls from turn to turn.
+-- Assumes nothing.
 use Prim.Native.Nat.{◌≤◌, ◌-◌}
-use mathlib.Core.Path.{◌≡◌}
-use borrow.Author.Rules.{rules}
-use native.Mathlib.Omega.{arith}
 use Rattle.reach.specs.Inside.{Reached}
-use Rattle.reach.proofs.Counting.{Reached-none, Reached-more, Reached-few}
 use Rattle.reach.proofs.mark_reach.Given as goal
 
 abbrev pub invariant-loop-i : goal.invariant-loop-i

@@ -1,3 +1,5 @@
+-- `reason::write_answer` meets its contract: the text ends within its room, and is what is written.
+-- Assumes nothing.
 use native.Mathlib.Omega.{arith}
 use Rattle.text.proofs.Writing.{write_within, text_taken}
 use Rattle.std.proofs.lemmas.Grind.{common_steps}

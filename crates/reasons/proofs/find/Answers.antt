@@ -4,10 +4,9 @@ use Prim.Native.Nat.{◌*◌, ◌≤◌}
 use native.Mathlib.Omega.{arith}
 use mathlib.Core.Path.{◌≡◌, sym, ◌∙◌}
 use mathlib.Core.Bool.{true}
-use lib.ListN.{length, get_or}
+use lib.ListN.{get_or}
 use mir.Syntax.{w16}
 use mir.Val.{Fits}
-use borrow.Author.Tests.{not-true, not-false}
 use Rattle.grid.proofs.SideLaws.{area}
 use Rattle.board.specs.Form.{Counts, well_formed}
 use Rattle.reasons.proofs.BoardArrays.{board_sizes, board_arrays, board_edition, Lent, Lent-by, lent_few, board_lent, find_ill, find_stranger, find_short, find_found}

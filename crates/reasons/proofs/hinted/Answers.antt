@@ -1,7 +1,6 @@
 -- `reasons::hinted` meets its contract: the player's count is read, raised and put back.
 -- Assumes nothing.
 use mathlib.Core.Path.{refl}
-use borrow.Author.Rules.{rules}
 use Rattle.board.specs.Hints.{with_hints, hinted}
 use Rattle.reasons.proofs.hinted.Goals as goal
 

@@ -1,7 +1,6 @@
 -- `reasons::lent_sizes` meets its contract: where the array of the lowest sizes is empty, no cell is lent.
 -- Assumes nothing.
 use mathlib.Core.Path.{refl, sym, ◌∙◌}
-use borrow.Author.Rules.{rules}
 use Rattle.reasons.specs.Inside.{lent_sizes}
 use Rattle.reasons.proofs.lent_sizes.Goals as goal
 

@@ -4,7 +4,6 @@ use Prim.Native.Nat.{ℕ, suc, ◌-◌}
 use native.Mathlib.Omega.{arith}
 use mathlib.Core.Path.{◌≡◌, sym, ap, ◌∙◌}
 use lib.ListN.{take}
-use borrow.Author.Rules.{rules}
 use Rattle.grid.specs.Lists.{last}
 use Rattle.grid.proofs.AppendLaws.{last_taken, last_none}
 use Rattle.record.proofs.arrow_total.Goals as goal

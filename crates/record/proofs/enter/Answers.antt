@@ -3,7 +3,6 @@
 use Prim.Native.Nat.{◌<◌}
 use native.Mathlib.Omega.{arith}
 use Rattle.record.proofs.KeptLaws.{enter_twice, enter_room, enter_new}
-use borrow.Author.Rules.{rules}
 use Rattle.record.proofs.enter.Goals as goal
 
 pub returns-then-used-cell-ne0 : goal.returns-then-used-cell-ne0

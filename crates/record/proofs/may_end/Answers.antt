@@ -1,6 +1,5 @@
 -- `record::may_end` meets its contract: each kind of record by its own law.
 -- Assumes nothing.
-use borrow.Author.Rules.{rules}
 use Rattle.record.proofs.FieldsLaws.{ended_whole, ended_head}
 use Rattle.record.proofs.may_end.Goals as goal
 

@@ -1,7 +1,6 @@
 -- `record::read` meets its contract: what is read of a whole record is the record.
 -- Assumes nothing.
 use mathlib.Core.Path.{ap, ◌∙◌}
-use borrow.Author.Rules.{rules}
 use Rattle.record.specs.Problem.{reading, read_of}
 use Rattle.record.proofs.FieldsLaws.{record_as}
 use Rattle.record.proofs.read.Goals as goal

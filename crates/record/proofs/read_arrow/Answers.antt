@@ -6,14 +6,12 @@ use mathlib.Core.Path.{◌≡◌, ◌∙◌}
 use mathlib.Core.List.{List, [], ◌∷◌, ◌++◌}
 use lib.ListN.{length, length-append}
 use Rattle.fields.specs.Fields.{ok}
-use Rattle.grid.specs.Grid.{Grid}
 use Rattle.grid.specs.Side.{sized}
 use Rattle.grid.proofs.SideLaws.{index_small}
 use Rattle.fields.specs.Inside.{opening_at}
 use Rattle.record.specs.Inside.{Kept}
 use Rattle.record.proofs.KeptLaws.{Kept-length}
 use Rattle.record.proofs.ArrowLaws.{Answered-done, start_ok, start_bad, opening_fits, arrow_bad, arrow_used, arrow_cut, arrow_whole}
-use borrow.Author.Rules.{rules}
 use Rattle.record.proofs.read_arrow.Goals as goal
 use Rattle.record.proofs.read_arrow.Goals.{In-From}
 

@@ -5,15 +5,13 @@ use native.Mathlib.Omega.{arith}
 use mathlib.Core.Path.{◌≡◌, sym, ◌∙◌}
 use mathlib.Core.List.{List, ◌++◌}
 use lib.ListN.{length}
-use borrow.Author.Rules.{rules}
 use Rattle.fields.specs.Fields.{ok}
 use Rattle.record.specs.Record.{arrow_at}
 use Rattle.record.specs.Problem.{arrow_cells}
-use Rattle.grid.specs.Grid.{Grid}
 use Rattle.grid.specs.Side.{sized}
 use Rattle.record.specs.Inside.{Kept}
 use Rattle.record.proofs.KeptLaws.{Kept-length}
-use Rattle.record.proofs.ArrowsLaws.{read_arrow, read_fault, ArrowsSoFar, arrows_start, arrows_fault, arrows_room, arrows_more, arrows_filled, arrows_unfilled}
+use Rattle.record.proofs.ArrowsLaws.{read_arrow, read_fault, arrows_start, arrows_fault, arrows_room, arrows_more, arrows_filled, arrows_unfilled}
 use Rattle.record.proofs.read_arrows.Goals as goal
 use Rattle.record.proofs.read_arrows.Goals.{After-way_told-1}
 

@@ -1,17 +1,8 @@
-use Prim.Native.Nat.{ℕ, ◌+◌, ◌-◌, ◌*◌, ◌≤◌, ◌<◌}
-use native.Mathlib.Omega.{arith}
-use mathlib.Core.Path.{◌≡◌, sym, ◌∙◌}
-use mathlib.Core.List.{List, ◌++◌}
-use lib.ListN.{length}
-use borrow.Author.Rules.{rules}
-use Rattle.fields.specs.Fields.{ok}
-use Rattle.record.specs.Record.{arrow_at}
-use Rattle.record.specs.Problem.{arrow_cells}
-use Rattle.grid.specs.Grid.{Grid}
+-- What holds at each turn of the loop of `record::read_arrows`, and what falls from turn to turn.
+-- Assumes nothing.
+use Prim.Native.Nat.{◌-◌, ◌≤◌}
 use Rattle.grid.specs.Side.{sized}
-use Rattle.record.specs.Inside.{Kept}
-use Rattle.record.proofs.KeptLaws.{Kept-length}
-use Rattle.record.proofs.ArrowsLaws.{read_arrow, read_fault, ArrowsSoFar, arrows_start, arrows_fault, arrows_room, arrows_more, arrows_filled, arrows_unfilled}
+use Rattle.record.proofs.ArrowsLaws.{ArrowsSoFar}
 use Rattle.record.proofs.read_arrows.Given as goal
 
 abbrev pub invariant-loop-i : goal.invariant-loop-i

@@ -1,16 +1,13 @@
 -- `record::read_as` meets its contract: each way out by its own law.
 -- Assumes nothing.
-use Prim.Native.Nat.{ℕ, ◌+◌, ◌*◌, ◌≤◌, ◌<◌}
+use Prim.Native.Nat.{◌+◌, ◌*◌, ◌≤◌, ◌<◌}
 use native.Mathlib.Omega.{arith}
 use mathlib.Core.Path.{◌≡◌, ◌∙◌}
-use mathlib.Core.Bool.{Bool}
-use mathlib.Core.List.{List}
 use Rattle.fields.specs.Fields.{ok, field}
 use Rattle.fields.proofs.OutcomeLaws.{field-ok}
 use Rattle.fields.proofs.ReadLaws.{value_ok, fault_refused}
 use Rattle.record.proofs.ArrowLaws.{Answered-done, Answered-fault}
 use Rattle.record.proofs.WholeLaws.{whole_cut, whole_cut_2, whole_cut_3, whole_size, whole_cells, whole_arrows, whole_done}
-use borrow.Author.Rules.{rules}
 use Rattle.record.proofs.read_as.Goals as goal
 use Rattle.record.proofs.read_as.Goals.{In-Value, In-Value-m, In-Value-w}
 

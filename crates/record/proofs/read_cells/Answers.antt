@@ -1,14 +1,13 @@
 -- `record::read_cells` meets its contract: the first i codes are in the array, and what is left makes of them what the whole makes.
 -- Assumes nothing.
-use Prim.Native.Nat.{ℕ, ◌+◌, ◌-◌, ◌*◌, ◌≤◌}
+use Prim.Native.Nat.{◌+◌, ◌-◌, ◌*◌}
 use native.Mathlib.Omega.{arith}
 use mathlib.Core.Path.{◌≡◌}
-use borrow.Author.Rules.{rules}
-use Rattle.fields.specs.Fields.{Outcome, ok}
+use Rattle.fields.specs.Fields.{ok}
 use Rattle.fields.specs.Inside.{code_at}
 use Rattle.record.specs.Inside.{fault}
 use Rattle.fields.proofs.ReadLaws.{value_ok, fault_refused, code_small}
-use Rattle.record.proofs.CellLaws.{CellsSoFar, cells_start, cells_fault, cells_more, cells_end}
+use Rattle.record.proofs.CellLaws.{cells_start, cells_fault, cells_more, cells_end}
 use Rattle.record.proofs.read_cells.Goals as goal
 
 pub loop-i-init : goal.loop-i-init

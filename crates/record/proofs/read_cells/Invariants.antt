@@ -1,12 +1,7 @@
-use Prim.Native.Nat.{ℕ, ◌+◌, ◌-◌, ◌*◌, ◌≤◌}
-use native.Mathlib.Omega.{arith}
-use mathlib.Core.Path.{◌≡◌}
-use borrow.Author.Rules.{rules}
-use Rattle.fields.specs.Fields.{Outcome, ok}
-use Rattle.fields.specs.Inside.{code_at}
-use Rattle.record.specs.Inside.{fault}
-use Rattle.fields.proofs.ReadLaws.{value_ok, fault_refused, code_small}
-use Rattle.record.proofs.CellLaws.{CellsSoFar, cells_start, cells_fault, cells_more, cells_end}
+-- What holds at each turn of the loop of `record::read_cells`, and what falls from turn to turn.
+-- Assumes nothing.
+use Prim.Native.Nat.{◌-◌, ◌≤◌}
+use Rattle.record.proofs.CellLaws.{CellsSoFar}
 use Rattle.record.proofs.read_cells.Given as goal
 
 abbrev pub invariant-loop-i : goal.invariant-loop-i

@@ -1,7 +1,6 @@
 -- `record::read_head` meets its contract: what is read of a record at the head of a file is the puzzle of that head.
 -- Assumes nothing.
 use mathlib.Core.Path.{ap, ◌∙◌}
-use borrow.Author.Rules.{rules}
 use Rattle.record.specs.Problem.{reading}
 use Rattle.record.proofs.FieldsLaws.{head_as}
 use Rattle.record.proofs.read_head.Goals as goal

@@ -1,16 +1,14 @@
 -- `record::read_steps` meets its contract: the first i steps are taken, and what is left makes of them what the whole makes.
 -- Assumes nothing.
-use Prim.Native.Nat.{ℕ, ◌+◌, ◌-◌, ◌*◌, ◌≤◌, ◌<◌}
+use Prim.Native.Nat.{ℕ, ◌+◌, ◌-◌, ◌*◌}
 use native.Mathlib.Omega.{arith}
 use mathlib.Core.Path.{◌≡◌, ◌∙◌}
 use mathlib.Core.List.{List, ◌++◌}
 use lib.ListN.{length, length-append}
-use borrow.Author.Rules.{rules}
-use Rattle.grid.specs.Grid.{Grid}
 use Rattle.grid.specs.Side.{sized}
 use Rattle.record.specs.Inside.{fault, Kept}
 use Rattle.record.proofs.KeptLaws.{Kept-length}
-use Rattle.record.proofs.ArrowLaws.{taken_to, taken_lost, StepsSoFar, steps_start, steps_fault, steps_more, steps_end}
+use Rattle.record.proofs.ArrowLaws.{taken_to, taken_lost, steps_start, steps_fault, steps_more, steps_end}
 use Rattle.record.proofs.read_steps.Goals as goal
 use Rattle.record.proofs.read_steps.Goals.{At-loop-i}
 

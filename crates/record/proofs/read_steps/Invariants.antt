@@ -1,14 +1,12 @@
+-- What holds at each turn of the loop of `record::read_steps`, and what falls from turn to turn.
+-- Assumes nothing.
 use Prim.Native.Nat.{ℕ, ◌+◌, ◌-◌, ◌*◌, ◌≤◌, ◌<◌}
-use native.Mathlib.Omega.{arith}
-use mathlib.Core.Path.{◌≡◌, ◌∙◌}
-use mathlib.Core.List.{List, ◌++◌}
-use lib.ListN.{length, length-append}
-use borrow.Author.Rules.{rules}
-use Rattle.grid.specs.Grid.{Grid}
+use mathlib.Core.Path.{◌≡◌}
+use mathlib.Core.List.{List}
+use lib.ListN.{length}
 use Rattle.grid.specs.Side.{sized}
-use Rattle.record.specs.Inside.{fault, Kept}
-use Rattle.record.proofs.KeptLaws.{Kept-length}
-use Rattle.record.proofs.ArrowLaws.{taken_to, taken_lost, StepsSoFar, steps_start, steps_fault, steps_more, steps_end}
+use Rattle.record.specs.Inside.{Kept}
+use Rattle.record.proofs.ArrowLaws.{StepsSoFar}
 use Rattle.record.proofs.read_steps.Given as goal
 
 abbrev pub invariant-loop-i : goal.invariant-loop-i

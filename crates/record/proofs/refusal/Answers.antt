@@ -2,7 +2,6 @@
 -- Assumes nothing.
 use mathlib.Core.Path.{refl}
 use Rattle.record.specs.Problem.{blank, reading}
-use borrow.Author.Rules.{rules}
 use Rattle.record.proofs.refusal.Goals as goal
 
 pub returns : goal.returns

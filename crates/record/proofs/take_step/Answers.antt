@@ -1,11 +1,8 @@
 -- `record::take_step` meets its contract: each way out by its own law.
 -- Assumes nothing.
-use Prim.Native.Nat.{ℕ, ◌+◌, ◌*◌, ◌<◌}
-use native.Mathlib.Omega.{arith}
+use Prim.Native.Nat.{◌+◌, ◌*◌}
 use Rattle.grid.specs.Side.{sized}
-use Rattle.grid.proofs.SideLaws.{index_small}
 use Rattle.record.proofs.ArrowLaws.{Stepped-to, Stepped-off, step_lost, step_used, step_new}
-use borrow.Author.Rules.{rules}
 use Rattle.record.proofs.take_step.Goals as goal
 
 pub returns-in-Done : goal.returns-in-Done

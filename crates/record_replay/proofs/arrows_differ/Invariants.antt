@@ -1,3 +1,5 @@
+-- What holds at each turn of the loop of `record_replay::arrows_differ`, and what falls from turn to turn.
+-- Assumes nothing.
 use Prim.Native.Nat.{◌-◌, ◌≤◌}
 use mathlib.Core.Bool.{Bool}
 use Rattle.replay.specs.Comparisons.{DiffersUnless}

@@ -1,3 +1,5 @@
+-- What holds at each turn of the loop of `record_replay::arrows_end`, and what falls from turn to turn.
+-- Assumes nothing.
 use Prim.Native.Nat.{◌-◌}
 use Rattle.record_replay.proofs.arrows_end.Given as goal
 

@@ -1,3 +1,5 @@
+-- What holds at each turn of the loop of `record_replay::go_through`, and what falls from turn to turn.
+-- Assumes nothing.
 use Prim.Native.Nat.{◌-◌}
 use lib.ListN.{length}
 use Rattle.record_replay.proofs.go_through.Given as goal

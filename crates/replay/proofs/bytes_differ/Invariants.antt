@@ -1,3 +1,5 @@
+-- What holds at each turn of the loop of `replay::bytes_differ`, and what falls from turn to turn.
+-- Assumes nothing.
 use Prim.Native.Nat.{◌-◌}
 use lib.ListN.{length, drop}
 use mathlib.Core.Path.{◌≡◌}

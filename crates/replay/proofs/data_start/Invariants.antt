@@ -1,3 +1,5 @@
+-- What holds at each turn of the loop of `replay::data_start`, and what falls from turn to turn.
+-- Assumes nothing.
 use Prim.Native.Nat.{◌-◌, ◌≤◌}
 use mathlib.Core.Path.{◌≡◌}
 use lib.ListN.{length, get_or, drop}

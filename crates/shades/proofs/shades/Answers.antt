@@ -4,12 +4,10 @@ use Prim.Native.Nat.{ℕ}
 use mathlib.Core.Path.{◌≡◌, sym, ap, ◌∙◌}
 use mathlib.Core.Bool.{true}
 use lib.ListN.{length, length-replicate}
-use borrow.Author.Tests.{not-true, not-false}
 use Rattle.record.specs.Problem.{grid_of}
 use Rattle.board.specs.Form.{well_formed}
 use Rattle.board.proofs.BoardForm.{Whole-is}
 use Rattle.shades.proofs.AnswerLaws.{shades_ill, shades_well}
-use borrow.Author.Rules.{rules}
 use Rattle.shades.proofs.shades.Goals as goal
 
 pub returns-then-not-well_formed : goal.returns-then-not-well_formed

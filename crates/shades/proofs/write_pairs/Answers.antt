@@ -1,12 +1,8 @@
 -- `shades::write_pairs` meets its contract: the numbers of the cells passed stand in front, and behind them nothing changed.
 -- Assumes nothing.
-use Prim.Native.Nat.{ℕ, ◌-◌, ◌*◌, ◌≤◌}
+use Prim.Native.Nat.{◌-◌}
 use native.Mathlib.Omega.{arith}
-use mathlib.Core.Path.{◌≡◌, ap, ◌∙◌}
-use mathlib.Core.List.{◌++◌}
 use borrow.Author.Rules.{rules}
-use lib.ListN.{drop}
-use Rattle.shades.specs.Inside.{pairs_by}
 use Rattle.shades.proofs.PairLaws.{pairs_none, pairs_next}
 use Rattle.shades.proofs.write_pairs.Goals as goal
 

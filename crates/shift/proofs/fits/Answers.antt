@@ -1,21 +1,11 @@
 -- `shift::fits` meets its contract: no shift to a cell of the block itself or of the groups passed fits.
 -- Assumes nothing.
-use Prim.Native.Nat.{ℕ, ◌-◌, ◌*◌, ◌/◌, ◌%◌, ◌≤◌, ◌<◌}
+use Prim.Native.Nat.{◌-◌}
 use native.Mathlib.Omega.{arith}
-use mathlib.Core.Path.{◌≡◌, sym, ◌∙◌}
-use mathlib.Core.Bool.{Bool, false}
-use mathlib.Core.List.{List}
-use borrow.Author.Count.{below_none, below_more}
-use lib.ListN.{get_or}
-use Rattle.grid.specs.Lists.{any}
-use Rattle.grid.specs.Side.{InPlace}
-use Rattle.grid.proofs.SideLaws.{in_place}
-use Rattle.reach.specs.Chains.{cells_from}
+use mathlib.Core.Path.{sym, ◌∙◌}
+use mathlib.Core.Bool.{false}
 use Rattle.kinds.specs.Inside.{Limits}
-use Rattle.reach.specs.Inside.{reaches_at}
-use Rattle.shift.specs.Shift.{fits_at}
 use Rattle.shift.proofs.ShiftChains.{fits_own, fits_float, fits_none}
-use borrow.Author.Rules.{rules}
 use Rattle.shift.proofs.fits.Goals as goal
 
 pub returns-then-fits_chain : goal.returns-then-fits_chain

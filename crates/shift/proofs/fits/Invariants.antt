@@ -1,19 +1,14 @@
-use Prim.Native.Nat.{ℕ, ◌-◌, ◌*◌, ◌/◌, ◌%◌, ◌≤◌, ◌<◌}
-use native.Mathlib.Omega.{arith}
-use mathlib.Core.Path.{◌≡◌, sym, ◌∙◌}
+-- What holds at each turn of the loop of `shift::fits`, and what falls from turn to turn.
+-- Assumes nothing.
+use Prim.Native.Nat.{ℕ, ◌-◌, ◌*◌, ◌≤◌, ◌<◌}
+use mathlib.Core.Path.{◌≡◌}
 use mathlib.Core.Bool.{Bool, false}
 use mathlib.Core.List.{List}
-use borrow.Author.Count.{below_none, below_more}
 use lib.ListN.{get_or}
 use Rattle.grid.specs.Lists.{any}
-use Rattle.grid.specs.Side.{InPlace}
-use Rattle.grid.proofs.SideLaws.{in_place}
 use Rattle.reach.specs.Chains.{cells_from}
-use Rattle.kinds.specs.Inside.{Limits}
 use Rattle.reach.specs.Inside.{reaches_at}
 use Rattle.shift.specs.Shift.{fits_at}
-use Rattle.shift.proofs.ShiftChains.{fits_own, fits_float, fits_none}
-use borrow.Author.Rules.{rules}
 use Rattle.shift.proofs.fits.Given as goal
 
 -- some shift to a cell of the group m fits

@@ -1,12 +1,7 @@
 -- `shift::fits_at` meets its contract: the offset leads from the block's first cell to cell t.
 -- Assumes nothing.
-use Prim.Native.Nat.{◌/◌, ◌%◌}
-use native.Mathlib.Omega.{arith}
 use mir.Syntax.{w32}
 use mir.ValLaws.{to_z-of_z}
-use Rattle.grid.specs.Side.{InPlace}
-use Rattle.grid.proofs.SideLaws.{in_place}
-use Rattle.grid.proofs.ShiftLaws.{way_small}
 use Rattle.shift.specs.Shift.{fits_at}
 use Rattle.shift.proofs.fits_at.Goals as goal
 

@@ -1,19 +1,11 @@
 -- `shift::fits_by` meets its contract: the cells passed all come into the reach.
 -- Assumes nothing.
 use mir.Syntax.{w32}
-use mir.Val.{to_z}
 use mir.ValLaws.{to_z-of_z}
-use Prim.Native.Nat.{ℕ, ◌-◌, ◌≤◌, ◌<◌}
+use Prim.Native.Nat.{◌-◌}
 use native.Mathlib.Omega.{arith}
 use mathlib.Core.Path.{◌≡◌, sym, ◌∙◌}
-use mathlib.Core.Bool.{Bool, true}
-use mathlib.Core.List.{List}
-use borrow.Author.Count.{below_none, below_more}
-use borrow.Author.Rules.{rules}
-use borrow.Author.Tests.{not-true, not-false}
-use lib.IntN.{ℤ}
-use lib.ListN.{get_or}
-use Rattle.grid.specs.Side.{shifted_of}
+use mathlib.Core.Bool.{true}
 use Rattle.reach.specs.Inside.{reaches_at}
 use Rattle.shift.specs.Shift.{lands_in, all_land}
 use Rattle.shift.proofs.Shifts.{all-upto, not_all}

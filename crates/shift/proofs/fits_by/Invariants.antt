@@ -1,20 +1,14 @@
-use mir.Syntax.{w32}
-use mir.Val.{to_z}
-use mir.ValLaws.{to_z-of_z}
+-- What holds at each turn of the loop of `shift::fits_by`, and what falls from turn to turn.
+-- Assumes nothing.
 use Prim.Native.Nat.{ℕ, ◌-◌, ◌≤◌, ◌<◌}
-use native.Mathlib.Omega.{arith}
-use mathlib.Core.Path.{◌≡◌, sym, ◌∙◌}
+use mathlib.Core.Path.{◌≡◌}
 use mathlib.Core.Bool.{Bool, true}
 use mathlib.Core.List.{List}
-use borrow.Author.Count.{below_none, below_more}
-use borrow.Author.Rules.{rules}
-use borrow.Author.Tests.{not-true, not-false}
 use lib.IntN.{ℤ}
 use lib.ListN.{get_or}
 use Rattle.grid.specs.Side.{shifted_of}
 use Rattle.reach.specs.Inside.{reaches_at}
-use Rattle.shift.specs.Shift.{lands_in, all_land}
-use Rattle.shift.proofs.Shifts.{all-upto, not_all}
+use Rattle.shift.specs.Shift.{lands_in}
 use Rattle.shift.proofs.fits_by.Given as goal
 
 -- the cell at place k comes into the reach

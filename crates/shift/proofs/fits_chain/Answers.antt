@@ -1,18 +1,16 @@
 -- `shift::fits_chain` meets its contract: no shift to a cell of the chain that was passed fits.
 -- Assumes nothing.
-use Prim.Native.Nat.{ℕ, ◌-◌, ◌*◌}
-use native.Mathlib.Omega.{arith}
-use mathlib.Core.Path.{◌≡◌, refl, sym, ap, ◌∙◌}
-use mathlib.Core.Bool.{Bool, false}
-use mathlib.Core.List.{List, [], ◌∷◌, ◌++◌}
+use Prim.Native.Nat.{◌-◌, ◌*◌}
+use mathlib.Core.Path.{refl, sym, ap, ◌∙◌}
+use mathlib.Core.Bool.{false}
+use mathlib.Core.List.{[], ◌∷◌, ◌++◌}
 use Rattle.grid.specs.Lists.{any}
 use Rattle.grid.proofs.ListLaws.{mem-any}
 use Rattle.grid.proofs.AppendLaws.{none_more}
 use Rattle.reach.specs.Chains.{cells_from}
 use Rattle.reach.specs.Inside.{reaches_at}
 use Rattle.shift.specs.Shift.{fits_at}
-use Rattle.reach.proofs.ChainWalks.{Walk, Walk-start, walk_in, walk_high, walk_mem, Walk-more, walk_less, walk_end}
-use borrow.Author.Rules.{rules}
+use Rattle.reach.proofs.ChainWalks.{Walk-start, walk_in, walk_mem, Walk-more, walk_less, walk_end}
 use Rattle.shift.proofs.fits_chain.Goals as goal
 
 pub loop-t-init : goal.loop-t-init

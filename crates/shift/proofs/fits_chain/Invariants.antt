@@ -1,16 +1,13 @@
+-- What holds at each turn of the loop of `shift::fits_chain`, and what falls from turn to turn.
+-- Assumes nothing.
 use Prim.Native.Nat.{ℕ, ◌-◌, ◌*◌}
-use native.Mathlib.Omega.{arith}
-use mathlib.Core.Path.{◌≡◌, refl, sym, ap, ◌∙◌}
+use mathlib.Core.Path.{◌≡◌}
 use mathlib.Core.Bool.{Bool, false}
-use mathlib.Core.List.{List, [], ◌∷◌, ◌++◌}
+use mathlib.Core.List.{List}
 use Rattle.grid.specs.Lists.{any}
-use Rattle.grid.proofs.ListLaws.{mem-any}
-use Rattle.grid.proofs.AppendLaws.{none_more}
-use Rattle.reach.specs.Chains.{cells_from}
 use Rattle.reach.specs.Inside.{reaches_at}
 use Rattle.shift.specs.Shift.{fits_at}
-use Rattle.reach.proofs.ChainWalks.{Walk, Walk-start, walk_in, walk_high, walk_mem, Walk-more, walk_less, walk_end}
-use borrow.Author.Rules.{rules}
+use Rattle.reach.proofs.ChainWalks.{Walk}
 use Rattle.shift.proofs.fits_chain.Given as goal
 
 -- no shift to a cell that was passed fits

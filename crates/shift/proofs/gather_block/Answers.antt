@@ -7,12 +7,10 @@ use mathlib.Core.List.{List, [], ◌∷◌, ◌++◌}
 use lib.Dec.{eqb}
 use lib.ListN.{length, get_or}
 use Rattle.grid.specs.Lists.{filter}
-use Rattle.reach.specs.Chains.{Chains}
 use Rattle.shift.specs.Shift.{block_in, Gathered}
-use Rattle.reach.proofs.ChainWalks.{Walk, Walk-start, walk_few, walk_high, Walk-more, walk_less}
+use Rattle.reach.proofs.ChainWalks.{Walk-start, walk_few, Walk-more, walk_less}
 use Rattle.shift.proofs.Passed.{block_of, block_more, block_few, block_goes_on, block_passed}
 use Rattle.shift.proofs.Shifts.{Gathered-none, Gathered-more}
-use borrow.Author.Rules.{rules}
 use Rattle.shift.proofs.gather_block.Goals as goal
 
 pub loop-k-init : goal.loop-k-init

@@ -1,16 +1,11 @@
-use Prim.Native.Nat.{ℕ, ◌-◌, ◌<◌}
-use native.Mathlib.Omega.{arith}
-use mathlib.Core.Path.{sym, ap, subst, ◌∙◌}
-use mathlib.Core.List.{List, [], ◌∷◌, ◌++◌}
-use lib.Dec.{eqb}
-use lib.ListN.{length, get_or}
-use Rattle.grid.specs.Lists.{filter}
+-- What holds at each turn of the loop of `shift::gather_block`, and what falls from turn to turn.
+-- Assumes nothing.
+use Prim.Native.Nat.{ℕ, ◌-◌}
+use mathlib.Core.List.{List}
 use Rattle.reach.specs.Chains.{Chains}
-use Rattle.shift.specs.Shift.{block_in, Gathered}
-use Rattle.reach.proofs.ChainWalks.{Walk, Walk-start, walk_few, walk_high, Walk-more, walk_less}
-use Rattle.shift.proofs.Passed.{block_of, block_more, block_few, block_goes_on, block_passed}
-use Rattle.shift.proofs.Shifts.{Gathered-none, Gathered-more}
-use borrow.Author.Rules.{rules}
+use Rattle.shift.specs.Shift.{Gathered}
+use Rattle.reach.proofs.ChainWalks.{Walk}
+use Rattle.shift.proofs.Passed.{block_of}
 use Rattle.shift.proofs.gather_block.Given as goal
 
 -- the cells of the block that were passed are gathered

@@ -7,7 +7,6 @@ use mir.ValLaws.{to_z-of_z}
 use Rattle.grid.proofs.SideLaws.{area}
 use Rattle.shift.specs.Shift.{lands_in}
 use Rattle.shift.proofs.Shifts.{shifted_inside}
-use borrow.Author.Rules.{rules}
 use Rattle.shift.proofs.lands_in.Goals as goal
 
 pub reached-requires : goal.reached-requires

@@ -9,9 +9,8 @@ use Rattle.grid.specs.Side.{sized}
 use Rattle.grid.proofs.GridLaws.{width_pos}
 use Rattle.grid.proofs.SideLaws.{area}
 use Rattle.shift.specs.Shift.{block_in}
-use Rattle.shift.proofs.Shifts.{in_few, Gathered-long, Gathered-inside}
+use Rattle.shift.proofs.Shifts.{Gathered-inside}
 use Rattle.shift.proofs.ShiftChains.{Gathered-view}
-use borrow.Author.Rules.{rules}
 use Rattle.shift.proofs.shift_fits.Goals as goal
 
 pub gather_block-requires : goal.gather_block-requires

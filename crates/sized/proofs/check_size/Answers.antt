@@ -15,7 +15,6 @@ use Rattle.growth.proofs.PairChecks.{block_in_lem}
 use Rattle.growth.proofs.PairSizes.{view_size}
 use Rattle.sized.specs.Inside.{Measured, Board}
 use Rattle.sized.proofs.SizeLaws.{is_within, is_low, is_high, not_sized, not_square, size_name, size_kind, low_found, size_none, high_found}
-use borrow.Author.Rules.{rules}
 use Rattle.sized.proofs.check_size.Goals as goal
 
 -- a cell that is not 1 is not square

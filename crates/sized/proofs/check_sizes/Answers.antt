@@ -1,18 +1,16 @@
 -- `sized::check_sizes` meets its contract: the cells passed give no reason, so that the first from there on is the first of all.
 -- Assumes nothing.
-use Prim.Native.Nat.{ℕ, ◌-◌, ◌≤◌}
+use Prim.Native.Nat.{ℕ, ◌-◌}
 use native.Mathlib.Omega.{arith}
-use mathlib.Core.Path.{◌≡◌, refl, ap, subst, ◌∙◌}
+use mathlib.Core.Path.{subst, ◌∙◌}
 use mathlib.Core.List.{List}
 use lib.ListN.{length}
-use Rattle.kinds.specs.Kinds.{View}
 use Rattle.growth.specs.Pairs.{view_on}
 use Rattle.literals.specs.Inside.{FoundAs}
 use Rattle.literals.specs.declared.Finding.TheVariants.{Nothing}
 use Rattle.literals.proofs.Findings.{found_same, found_none, nothing_found, not_refused}
 use Rattle.sized.specs.Inside.{reason5_in, Board}
-use Rattle.sized.proofs.SizeLaws.{ahead, ahead_all, ahead_end, ahead_more, ahead_found}
-use borrow.Author.Rules.{rules}
+use Rattle.sized.proofs.SizeLaws.{ahead_all, ahead_end, ahead_more, ahead_found}
 use Rattle.sized.proofs.check_sizes.Goals as goal
 
 -- no cell has sizes

@@ -1,16 +1,12 @@
+-- What holds at each turn of the loop of `sized::check_sizes`, and what falls from turn to turn.
+-- Assumes nothing.
 use Prim.Native.Nat.{ℕ, ◌-◌, ◌≤◌}
-use native.Mathlib.Omega.{arith}
-use mathlib.Core.Path.{◌≡◌, refl, ap, subst, ◌∙◌}
+use mathlib.Core.Path.{◌≡◌}
 use mathlib.Core.List.{List}
 use lib.ListN.{length}
-use Rattle.kinds.specs.Kinds.{View}
 use Rattle.growth.specs.Pairs.{view_on}
-use Rattle.literals.specs.Inside.{FoundAs}
-use Rattle.literals.specs.declared.Finding.TheVariants.{Nothing}
-use Rattle.literals.proofs.Findings.{found_same, found_none, nothing_found, not_refused}
-use Rattle.sized.specs.Inside.{reason5_in, Board}
-use Rattle.sized.proofs.SizeLaws.{ahead, ahead_all, ahead_end, ahead_more, ahead_found}
-use borrow.Author.Rules.{rules}
+use Rattle.sized.specs.Inside.{Board}
+use Rattle.sized.proofs.SizeLaws.{ahead}
 use Rattle.sized.proofs.check_sizes.Given as goal
 
 -- the cells before i give no reason, and the buffer is as it was

@@ -1,18 +1,13 @@
 -- `sizes::all_sized` meets its contract: `good` says of the cells passed that each may have its sizes.
 -- Assumes nothing.
-use Prim.Native.Nat.{ℕ, ◌<◌, ◌-◌}
+use Prim.Native.Nat.{◌<◌, ◌-◌}
 use native.Mathlib.Omega.{arith}
-use mathlib.Core.Logic.{⊎_elim}
 use mathlib.Core.Path.{◌≡◌, refl, sym, ◌∙◌}
-use mathlib.Core.Bool.{Bool, ◌&&◌}
-use borrow.Author.Rules.{rules}
-use borrow.Author.Tests.{not-true, not-false}
-use lib.ListN.{length, get_or, drop}
-use Rattle.grid.specs.Lists.{all, upto}
+use lib.ListN.{length, get_or}
+use Rattle.grid.specs.Lists.{upto}
 use Rattle.grid.proofs.AppendLaws.{upto_at, upto-length}
 use Rattle.form.proofs.Passes.{pass_on, pass_fail, pass_end}
 use Rattle.sizes.specs.Form.{sized_cell}
-use Rattle.sizes.specs.Inside.{MarkedAll}
 use Rattle.sizes.proofs.FormLaws.{cell_marked}
 use Rattle.sizes.proofs.all_sized.Goals as goal
 use Rattle.sizes.proofs.all_sized.Goals.{else-not-sized, then-not-sized}

@@ -1,17 +1,12 @@
-use Prim.Native.Nat.{ℕ, ◌<◌, ◌-◌}
-use native.Mathlib.Omega.{arith}
-use mathlib.Core.Logic.{⊎_elim}
-use mathlib.Core.Path.{◌≡◌, refl, sym, ◌∙◌}
+-- What holds at each turn of the loop of `sizes::all_sized`, and what falls from turn to turn.
+-- Assumes nothing.
+use Prim.Native.Nat.{ℕ, ◌-◌}
+use mathlib.Core.Path.{◌≡◌}
 use mathlib.Core.Bool.{Bool, ◌&&◌}
-use borrow.Author.Rules.{rules}
-use borrow.Author.Tests.{not-true, not-false}
-use lib.ListN.{length, get_or, drop}
+use lib.ListN.{drop}
 use Rattle.grid.specs.Lists.{all, upto}
-use Rattle.grid.proofs.AppendLaws.{upto_at, upto-length}
-use Rattle.form.proofs.Passes.{pass_on, pass_fail, pass_end}
 use Rattle.sizes.specs.Form.{sized_cell}
 use Rattle.sizes.specs.Inside.{MarkedAll}
-use Rattle.sizes.proofs.FormLaws.{cell_marked}
 use Rattle.sizes.proofs.all_sized.Given as goal
 
 abbrev pub invariant-loop-i : goal.invariant-loop-i

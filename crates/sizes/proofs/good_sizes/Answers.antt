@@ -1,7 +1,6 @@
 -- `sizes::good_sizes` meets its contract.
 -- Assumes nothing.
 use mathlib.Core.Path.{sym, ◌∙◌}
-use borrow.Author.Rules.{rules}
 use Rattle.record.specs.Arrows.{on_arrow}
 use Rattle.sizes.proofs.FormLaws.{all_bare}
 use Rattle.sizes.proofs.good_sizes.Goals as goal

@@ -1,6 +1,5 @@
 -- `sizes::read_size_bytes` meets its contract.
 -- Assumes nothing.
-use borrow.Author.Rules.{rules}
 use Rattle.record.specs.Arrows.{on_arrow}
 use Rattle.record.specs.Leaf.{sizes_of}
 use Rattle.sizes.specs.Bytes.{sizes_in}

@@ -1,13 +1,10 @@
 -- `sizes::take_bytes` meets its contract: what is left of the bytes makes of the ranges so far what the whole makes.
 -- Assumes nothing.
-use Prim.Native.Nat.{ℕ, ◌+◌, ◌-◌, ◌≤◌}
+use Prim.Native.Nat.{◌+◌, ◌-◌}
 use native.Mathlib.Omega.{arith}
-use mathlib.Core.Bool.{Bool}
-use lib.ListN.{length, drop}
-use borrow.Author.Rules.{rules}
-use borrow.Author.Tests.{not-true, not-false}
-use Rattle.sizes.specs.Inside.{MarkedAll, ranges_in}
-use Rattle.sizes.proofs.ReadLaws.{Amid, Amid-start, amid_refused, amid_end, Amid-Taken, amid_left, bytes_passed, bytes_refused, bytes_cut, bytes_none}
+use lib.ListN.{drop}
+use Rattle.sizes.specs.Inside.{ranges_in}
+use Rattle.sizes.proofs.ReadLaws.{Amid-start, amid_refused, amid_end, Amid-Taken, amid_left, bytes_passed, bytes_refused, bytes_cut, bytes_none}
 use Rattle.sizes.proofs.take_bytes.Goals as goal
 
 pub loop-at-init : goal.loop-at-init

@@ -1,11 +1,10 @@
-use Prim.Native.Nat.{ℕ, ◌+◌, ◌-◌, ◌≤◌}
-use native.Mathlib.Omega.{arith}
+-- What holds at each turn of the loop of `sizes::take_bytes`, and what falls from turn to turn.
+-- Assumes nothing.
+use Prim.Native.Nat.{ℕ, ◌-◌, ◌≤◌}
 use mathlib.Core.Bool.{Bool}
 use lib.ListN.{length, drop}
-use borrow.Author.Rules.{rules}
-use borrow.Author.Tests.{not-true, not-false}
 use Rattle.sizes.specs.Inside.{MarkedAll, ranges_in}
-use Rattle.sizes.proofs.ReadLaws.{Amid, Amid-start, amid_refused, amid_end, Amid-Taken, amid_left, bytes_passed, bytes_refused, bytes_cut, bytes_none}
+use Rattle.sizes.proofs.ReadLaws.{Amid}
 use Rattle.sizes.proofs.take_bytes.Given as goal
 
 abbrev pub invariant-loop-at : goal.invariant-loop-at

@@ -1,14 +1,10 @@
 -- `sizes::take_numbers` meets its contract: what is left of the numbers makes of the ranges so far what the whole makes.
 -- Assumes nothing.
-use Prim.Native.Nat.{ℕ, ◌+◌, ◌-◌, ◌≤◌}
+use Prim.Native.Nat.{◌+◌, ◌-◌}
 use native.Mathlib.Omega.{arith}
-use mathlib.Core.Bool.{Bool}
-use lib.ListN.{length, drop}
-use borrow.Author.Rules.{rules}
-use borrow.Author.Tests.{not-true, not-false}
+use lib.ListN.{drop}
 use Rattle.record.specs.Leaf.{ranges_from}
-use Rattle.sizes.specs.Inside.{MarkedAll}
-use Rattle.sizes.proofs.ReadLaws.{Amid, Amid-start, amid_refused, amid_end, Amid-Taken, amid_left, next_passed, next_refused, cut_refused, none_left}
+use Rattle.sizes.proofs.ReadLaws.{Amid-start, amid_refused, amid_end, Amid-Taken, amid_left, next_passed, next_refused, cut_refused, none_left}
 use Rattle.sizes.proofs.take_numbers.Goals as goal
 
 pub loop-at-init : goal.loop-at-init

@@ -1,12 +1,11 @@
-use Prim.Native.Nat.{ℕ, ◌+◌, ◌-◌, ◌≤◌}
-use native.Mathlib.Omega.{arith}
+-- What holds at each turn of the loop of `sizes::take_numbers`, and what falls from turn to turn.
+-- Assumes nothing.
+use Prim.Native.Nat.{ℕ, ◌-◌, ◌≤◌}
 use mathlib.Core.Bool.{Bool}
 use lib.ListN.{length, drop}
-use borrow.Author.Rules.{rules}
-use borrow.Author.Tests.{not-true, not-false}
 use Rattle.record.specs.Leaf.{ranges_from}
 use Rattle.sizes.specs.Inside.{MarkedAll}
-use Rattle.sizes.proofs.ReadLaws.{Amid, Amid-start, amid_refused, amid_end, Amid-Taken, amid_left, next_passed, next_refused, cut_refused, none_left}
+use Rattle.sizes.proofs.ReadLaws.{Amid}
 use Rattle.sizes.proofs.take_numbers.Given as goal
 
 abbrev pub invariant-loop-at : goal.invariant-loop-at

@@ -1,6 +1,5 @@
 -- `sizes::take_range` meets its contract: one way out for each fault, and one for the range put.
 -- Assumes nothing.
-use borrow.Author.Rules.{rules}
 use Rattle.sizes.specs.Inside.{taken, left}
 use Rattle.sizes.proofs.ReadLaws.{test_off, test_unmarked, test_below, test_zero, test_down, test_passed}
 use Rattle.sizes.proofs.take_range.Goals as goal

@@ -1,9 +1,6 @@
 -- `text::write_digits` meets its contract: the places for digits become fewer with each call.
 -- Assumes nothing.
-use Prim.Native.Nat.{ℕ, ◌<◌}
-use native.Mathlib.Omega.{arith}
-use borrow.Author.Rules.{rules}
-use Rattle.text.proofs.Digits.{positive, no_digit, one_digit, last_place, last_digit}
+use Rattle.text.proofs.Digits.{no_digit, one_digit, last_place, last_digit}
 use Rattle.text.proofs.+write_digits.Goals as goal
 
 pub returns-then-places-eq0 : goal.returns-then-places-eq0

@@ -1,7 +1,6 @@
 -- `text::put` meets its contract.
 -- Assumes nothing.
 use mathlib.Core.Path.{refl}
-use borrow.Author.Rules.{rules}
 use Rattle.text.proofs.Writing.{written_one}
 use Rattle.text.proofs.put.Goals as goal
 

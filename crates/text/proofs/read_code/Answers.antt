@@ -1,6 +1,6 @@
 -- `text::read_code` meets its contract: the laws of `Codes`, at the number read from its bits.
 -- Assumes nothing.
-use Rattle.text.proofs.Codes.{negated_fits, negated_cast, code_refused, count_cast, code_nothing, code_count}
+use Rattle.text.proofs.Codes.{code_refused, code_nothing, code_count}
 use Rattle.text.proofs.read_code.Goals as goal
 
 pub returns-then-code-lt0 : goal.returns-then-code-lt0

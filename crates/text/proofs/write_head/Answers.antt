@@ -1,6 +1,5 @@
 -- `text::write_head` meets its contract.
 -- Assumes nothing.
-use borrow.Author.Rules.{rules}
 use Rattle.text.proofs.Lines.{newline_place, head_Written}
 use Rattle.text.proofs.write_head.Goals as goal
 

@@ -1,8 +1,7 @@
 -- `text::write_literal` meets its contract.
 -- Assumes nothing.
-use Prim.Native.Nat.{ℕ, ◌+◌, ◌*◌, ◌%◌}
+use Prim.Native.Nat.{◌+◌, ◌*◌, ◌%◌}
 use native.Mathlib.Omega.{arith}
-use borrow.Author.Rules.{rules}
 use Rattle.text.proofs.Lines.{space_place, digit_place, end_place, parts_Written, literal_Written}
 use Rattle.text.proofs.write_literal.Goals as goal
 

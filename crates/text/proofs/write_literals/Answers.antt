@@ -1,13 +1,10 @@
 -- `text::write_literals` meets its contract: the lines of the literals passed are written.
 -- Assumes nothing.
-use Prim.Native.Nat.{◌+◌, ◌-◌, ◌*◌, ◌≤◌, ◌<◌}
+use Prim.Native.Nat.{◌+◌, ◌-◌, ◌*◌, ◌<◌}
 use native.Mathlib.Omega.{arith}
-use mathlib.Core.Path.{◌≡◌}
 use borrow.Author.Rules.{rules}
 use lib.ListN.{length}
-use Rattle.text.specs.Text.{Written}
-use Rattle.text.proofs.Writing.{write_length}
-use Rattle.text.proofs.Lines.{lines_of, lines_none, none_length, lines_next, lines_length, room_behind}
+use Rattle.text.proofs.Lines.{lines_none, none_length, lines_next, lines_length}
 use Rattle.text.proofs.write_literals.Goals as goal
 
 pub loop-k-init : goal.loop-k-init

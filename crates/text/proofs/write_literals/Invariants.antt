@@ -1,11 +1,9 @@
-use Prim.Native.Nat.{◌+◌, ◌-◌, ◌*◌, ◌≤◌, ◌<◌}
-use native.Mathlib.Omega.{arith}
-use mathlib.Core.Path.{◌≡◌}
-use borrow.Author.Rules.{rules}
+-- What holds at each turn of the loop of `text::write_literals`, and what falls from turn to turn.
+-- Assumes nothing.
+use Prim.Native.Nat.{◌-◌, ◌*◌, ◌≤◌}
 use lib.ListN.{length}
 use Rattle.text.specs.Text.{Written}
-use Rattle.text.proofs.Writing.{write_length}
-use Rattle.text.proofs.Lines.{lines_of, lines_none, none_length, lines_next, lines_length, room_behind}
+use Rattle.text.proofs.Lines.{lines_of}
 use Rattle.text.proofs.write_literals.Given as goal
 
 abbrev pub invariant-loop-k : goal.invariant-loop-k

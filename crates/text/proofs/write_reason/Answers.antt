@@ -1,6 +1,5 @@
 -- `text::write_reason` meets its contract: the head, then the lines.
 -- Assumes nothing.
-use borrow.Author.Rules.{rules}
 use Rattle.text.proofs.ToldLaws.{lines_room, reason_Written}
 use Rattle.text.proofs.write_reason.Goals as goal
 

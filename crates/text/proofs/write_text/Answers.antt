@@ -1,14 +1,10 @@
 -- `text::write_text` meets its contract: the bytes passed are written.
 -- Assumes nothing.
-use Prim.Native.Nat.{ℕ, ◌+◌, ◌-◌, ◌≤◌}
+use Prim.Native.Nat.{◌-◌}
 use native.Mathlib.Omega.{arith}
-use mathlib.Core.Path.{◌≡◌, sym, ap, ◌∙◌}
-use mathlib.Core.List.{List}
+use mathlib.Core.Path.{sym}
 use borrow.Author.Rules.{rules}
-use lib.ListN.{length, take}
-use lib.Seq.{take-length}
-use Rattle.text.specs.Text.{written}
-use Rattle.text.proofs.Writing.{written_none, text_more, text_length}
+use Rattle.text.proofs.Writing.{written_none, text_more}
 use Rattle.text.proofs.write_text.Goals as goal
 
 pub loop-i-init : goal.loop-i-init

@@ -1,8 +1,7 @@
 -- `text::write_told` meets its contract: a text for each case.
 -- Assumes nothing.
 use native.Mathlib.Omega.{arith}
-use borrow.Author.Rules.{rules}
-use Rattle.text.proofs.ToldLaws.{refused_told, nothing_told, reason_told, told_count}
+use Rattle.text.proofs.ToldLaws.{refused_told, nothing_told, told_count}
 use Rattle.text.proofs.write_told.Goals as goal
 
 pub write_reason-requires : goal.write_reason-requires

@@ -3,7 +3,6 @@
 use mathlib.Core.Path.{ap, ◌∙◌}
 use Rattle.record.specs.Problem.{problem_of}
 use Rattle.turn.proofs.AnswerLaws.{flip_taken, flip_left}
-use borrow.Author.Rules.{rules}
 use Rattle.turn.proofs.flipped.Goals as goal
 
 pub returns-then-k-ge4 : goal.returns-then-k-ge4

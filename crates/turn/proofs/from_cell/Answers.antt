@@ -1,7 +1,6 @@
 -- `turn::from_cell` meets its contract.
 -- Assumes nothing.
-use Rattle.grid.proofs.SideLaws.{in_place, some_wide}
-use Rattle.turn.proofs.CellLaws.{flip_place, turned_grid, from_place, quarter_from_lem, flip_from}
+use Rattle.turn.proofs.CellLaws.{quarter_from_lem, flip_from}
 use Rattle.turn.proofs.from_cell.Goals as goal
 
 pub returns-then-quarter : goal.returns-then-quarter

@@ -1,17 +1,13 @@
 -- `turn::move_cells` meets its contract.
 -- Assumes nothing.
-use Prim.Native.Nat.{ℕ, ◌-◌, ◌*◌, ◌≤◌}
+use Prim.Native.Nat.{ℕ, ◌-◌}
 use native.Mathlib.Omega.{arith}
-use mathlib.Core.Path.{◌≡◌, ap, subst, ◌∙◌}
-use mathlib.Core.List.{List, map}
-use mathlib.Core.Bool.{Bool}
+use mathlib.Core.Path.{ap, ◌∙◌}
+use mathlib.Core.List.{List}
 use lib.ListN.{get_or, set}
-use borrow.Author.Rules.{rules}
-use Rattle.grid.specs.Lists.{upto, range, array_of}
-use Rattle.grid.specs.Side.{sized}
+use Rattle.grid.specs.Lists.{upto, range}
 use Rattle.grid.proofs.SideLaws.{area}
 use Rattle.grid.proofs.FilledLaws.{filled_more}
-use Rattle.turn.specs.Inside.{step_of}
 use Rattle.turn.proofs.move_cells.Goals as goal
 use Rattle.turn.proofs.move_cells.Invariants.{from}
 

@@ -1,14 +1,12 @@
+-- What holds at each turn of the loop of `turn::move_cells`, and what falls from turn to turn.
+-- Assumes nothing.
 use Prim.Native.Nat.{ℕ, ◌-◌, ◌*◌, ◌≤◌}
-use native.Mathlib.Omega.{arith}
-use mathlib.Core.Path.{◌≡◌, ap, subst, ◌∙◌}
+use mathlib.Core.Path.{◌≡◌}
 use mathlib.Core.List.{List, map}
 use mathlib.Core.Bool.{Bool}
-use lib.ListN.{get_or, set}
-use borrow.Author.Rules.{rules}
-use Rattle.grid.specs.Lists.{upto, range, array_of}
+use lib.ListN.{get_or}
+use Rattle.grid.specs.Lists.{upto, array_of}
 use Rattle.grid.specs.Side.{sized}
-use Rattle.grid.proofs.SideLaws.{area}
-use Rattle.grid.proofs.FilledLaws.{filled_more}
 use Rattle.turn.specs.Inside.{step_of}
 use Rattle.turn.proofs.move_cells.Given as goal
 

@@ -1,13 +1,11 @@
 -- `turn::move_line` meets its contract.
 -- Assumes nothing.
-use Prim.Native.Nat.{ℕ, ◌-◌, ◌≤◌}
+use Prim.Native.Nat.{ℕ, ◌-◌}
 use native.Mathlib.Omega.{arith}
-use mathlib.Core.Path.{◌≡◌, ap, subst, ◌∙◌}
-use mathlib.Core.List.{List, map}
-use mathlib.Core.Bool.{Bool}
-use lib.ListN.{get_or, set}
-use borrow.Author.Rules.{rules}
-use Rattle.grid.specs.Lists.{upto, range, array_of}
+use mathlib.Core.Path.{ap, ◌∙◌}
+use mathlib.Core.List.{List}
+use lib.ListN.{set}
+use Rattle.grid.specs.Lists.{upto, range}
 use Rattle.grid.specs.Side.{sized}
 use Rattle.grid.proofs.FilledLaws.{filled_more}
 use Rattle.turn.specs.Inside.{step_of}

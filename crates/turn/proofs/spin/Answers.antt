@@ -1,11 +1,8 @@
 -- `turn::spin` meets its contract.
 -- Assumes nothing.
-use Prim.Native.Nat.{ℕ, ◌-◌, ◌≤◌}
+use Prim.Native.Nat.{ℕ, ◌-◌}
 use native.Mathlib.Omega.{arith}
 use mathlib.Core.Path.{◌≡◌, sym, ap, ◌∙◌}
-use borrow.Author.Rules.{rules}
-use Rattle.record.specs.Record.{Puzzle}
-use Rattle.record.specs.Valid.{Valid}
 use Rattle.record.specs.Problem.{problem_of}
 use Rattle.turn.specs.Inside.{spun}
 use Rattle.writer.proofs.BridgeLaws.{one_puzzle}

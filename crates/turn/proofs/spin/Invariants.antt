@@ -1,13 +1,11 @@
-use Prim.Native.Nat.{ℕ, ◌-◌, ◌≤◌}
-use native.Mathlib.Omega.{arith}
-use mathlib.Core.Path.{◌≡◌, sym, ap, ◌∙◌}
-use borrow.Author.Rules.{rules}
+-- What holds at each turn of the loop of `turn::spin`, and what falls from turn to turn.
+-- Assumes nothing.
+use Prim.Native.Nat.{◌-◌, ◌≤◌}
+use mathlib.Core.Path.{◌≡◌}
 use Rattle.record.specs.Record.{Puzzle}
 use Rattle.record.specs.Valid.{Valid}
 use Rattle.record.specs.Problem.{problem_of}
 use Rattle.turn.specs.Inside.{spun}
-use Rattle.writer.proofs.BridgeLaws.{one_puzzle}
-use Rattle.turn.proofs.AnswerLaws.{spun-Valid, spun_none, spun_more}
 use Rattle.turn.proofs.spin.Given as goal
 
 abbrev pub invariant-loop-i : goal.invariant-loop-i

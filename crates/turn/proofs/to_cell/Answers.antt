@@ -1,7 +1,6 @@
 -- `turn::to_cell` meets its contract.
 -- Assumes nothing.
-use Rattle.grid.proofs.SideLaws.{in_place, some_wide}
-use Rattle.turn.proofs.CellLaws.{quarter_place, flip_place, quarter_to, flip_to}
+use Rattle.turn.proofs.CellLaws.{quarter_to, flip_to}
 use Rattle.turn.proofs.to_cell.Goals as goal
 
 pub returns-then-quarter : goal.returns-then-quarter

@@ -1,13 +1,10 @@
 -- `turn::turn` meets its contract.
 -- Assumes nothing.
-use Prim.Native.Nat.{ℕ}
 use native.Mathlib.Omega.{arith}
 use mathlib.Core.Path.{◌≡◌, ap, ◌∙◌}
-use mathlib.Core.List.{List}
 use lib.ListN.{length}
 use mir.Syntax.{w32}
 use mir.ValLaws.{to_z-of_z}
-use borrow.Author.Rules.{rules}
 use Rattle.fields.specs.Fields.{ok}
 use Rattle.record.specs.Record.{Puzzle, read_record, Bytes}
 use Rattle.record.specs.Valid.{Valid}

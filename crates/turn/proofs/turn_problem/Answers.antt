@@ -2,7 +2,6 @@
 -- Assumes nothing.
 use mathlib.Core.Path.{sym, ap, ◌∙◌}
 use lib.Dec.{leb}
-use borrow.Author.Rules.{rules}
 use Rattle.record.specs.Problem.{problem_of}
 use Rattle.turn.specs.Turn.{flip_if, turned_by}
 use Rattle.turn.proofs.StepLaws.{turned_steps}

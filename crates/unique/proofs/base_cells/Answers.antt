@@ -1,6 +1,6 @@
 -- `unique::base_cells` meets its contract.
 -- Assumes nothing.
-use Prim.Native.Nat.{ℕ, ◌-◌, ◌≤◌}
+use Prim.Native.Nat.{ℕ, ◌-◌}
 use native.Mathlib.Omega.{arith}
 use mathlib.Core.Path.{◌≡◌, ◌∙◌, ap}
 use mathlib.Core.List.{map}
@@ -8,7 +8,6 @@ use lib.ListN.{length, get_or, set, length-set, length-replicate}
 use Rattle.grid.specs.Lists.{upto, array_of}
 use Rattle.grid.proofs.FilledLaws.{filled_none, filled_more}
 use Rattle.unique.specs.Unique.{base_cell}
-use borrow.Author.Rules.{rules}
 use Rattle.unique.proofs.base_cells.Goals as goal
 
 pub loop-i-init : goal.loop-i-init

@@ -1,12 +1,11 @@
-use Prim.Native.Nat.{ℕ, ◌-◌, ◌≤◌}
-use native.Mathlib.Omega.{arith}
-use mathlib.Core.Path.{◌≡◌, ◌∙◌, ap}
+-- What holds at each turn of the loop of `unique::base_cells`, and what falls from turn to turn.
+-- Assumes nothing.
+use Prim.Native.Nat.{◌-◌, ◌≤◌}
+use mathlib.Core.Path.{◌≡◌}
 use mathlib.Core.List.{map}
-use lib.ListN.{length, get_or, set, length-set, length-replicate}
+use lib.ListN.{length, get_or}
 use Rattle.grid.specs.Lists.{upto, array_of}
-use Rattle.grid.proofs.FilledLaws.{filled_none, filled_more}
 use Rattle.unique.specs.Unique.{base_cell}
-use borrow.Author.Rules.{rules}
 use Rattle.unique.proofs.base_cells.Given as goal
 
 abbrev pub invariant-loop-i : goal.invariant-loop-i

@@ -1,18 +1,16 @@
 -- `unique::check_step` meets its contract: the clause is assumed and the hints followed on the cells that the leaf decides, and where they come to no end the cells tell.
 -- Assumes nothing.
-use Prim.Native.Nat.{◌*◌, ◌≤◌}
+use Prim.Native.Nat.{◌*◌}
 use native.Mathlib.Omega.{arith}
 use mathlib.Core.Path.{◌≡◌, sym, ap, ◌∙◌}
 use mathlib.Core.Bool.{Bool, cond}
 use Rattle.record.specs.Leaf.{Leaf}
 use Rattle.record.specs.Problem.{problem_of}
 use Rattle.call.specs.Inside.{Holds}
-use Rattle.call.proofs.Holding.{holds_few}
 use Rattle.certificate.specs.Certificate.{words_of, State}
 use Rattle.unique.specs.Unique.{close_of, step_of}
 use Rattle.unique.proofs.StepLaws.{step_small, close_clash, close_refused, close_told}
 use Rattle.unique.proofs.HeldLaws.{base_step}
-use borrow.Author.Rules.{rules}
 use Rattle.unique.proofs.check_step.Goals as goal
 
 pub returns-then-taken-eq1 : goal.returns-then-taken-eq1

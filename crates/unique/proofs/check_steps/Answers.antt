@@ -3,7 +3,6 @@
 use Prim.Native.Nat.{ℕ, ◌-◌, ◌*◌, ◌≤◌, ◌<◌}
 use native.Mathlib.Omega.{arith}
 use mathlib.Core.Path.{◌≡◌, refl, sym, ◌∙◌, subst}
-use mathlib.Core.List.{List}
 use lib.ListN.{length}
 use Rattle.record.specs.Leaf.{Leaf}
 use Rattle.record.specs.Problem.{problem_of}
@@ -14,7 +13,6 @@ use Rattle.certificate.specs.Certificate.{words_of, next}
 use Rattle.certificate.proofs.Words.{words_length}
 use Rattle.unique.specs.Unique.{step_of, steps_of}
 use Rattle.unique.proofs.StepLaws.{Step-is, Step-ends, Comes, come_past, come_refused, come_done, come_more, come_next}
-use borrow.Author.Rules.{rules}
 use Rattle.unique.proofs.check_steps.Goals as goal
 
 pub loop-at-init : goal.loop-at-init

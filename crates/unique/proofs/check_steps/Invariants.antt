@@ -1,18 +1,14 @@
-use Prim.Native.Nat.{ℕ, ◌-◌, ◌*◌, ◌≤◌, ◌<◌}
-use native.Mathlib.Omega.{arith}
-use mathlib.Core.Path.{◌≡◌, refl, sym, ◌∙◌, subst}
-use mathlib.Core.List.{List}
+-- What holds at each turn of the loop of `unique::check_steps`, and what falls from turn to turn.
+-- Assumes nothing.
+use Prim.Native.Nat.{◌-◌}
+use mathlib.Core.Path.{◌≡◌}
 use lib.ListN.{length}
 use Rattle.record.specs.Leaf.{Leaf}
 use Rattle.record.specs.Problem.{problem_of}
-use Rattle.reasons.proofs.Room.{room_length}
 use Rattle.call.specs.Inside.{Holds}
-use Rattle.call.proofs.Holding.{holds_size, holds_few}
-use Rattle.certificate.specs.Certificate.{words_of, next}
-use Rattle.certificate.proofs.Words.{words_length}
-use Rattle.unique.specs.Unique.{step_of, steps_of}
-use Rattle.unique.proofs.StepLaws.{Step-is, Step-ends, Comes, come_past, come_refused, come_done, come_more, come_next}
-use borrow.Author.Rules.{rules}
+use Rattle.certificate.specs.Certificate.{words_of}
+use Rattle.unique.specs.Unique.{steps_of}
+use Rattle.unique.proofs.StepLaws.{Comes}
 use Rattle.unique.proofs.check_steps.Given as goal
 
 abbrev pub invariant-loop-at : goal.invariant-loop-at

@@ -3,13 +3,11 @@
 use Prim.Native.Nat.{◌*◌}
 use mathlib.Core.Path.{◌≡◌, sym, ◌∙◌}
 use mathlib.Core.Bool.{true}
-use borrow.Author.Tests.{not-true, not-false}
 use Rattle.grid.specs.Lists.{all}
 use Rattle.groups.specs.Arrays.{lines_of}
 use Rattle.call.proofs.Holding.{holds_small, holds_arrays, holds_on, edition_not_0}
 use Rattle.unique.specs.Unique.{two_open}
 use Rattle.unique.proofs.HeldLaws.{refuted_lonely, refuted_not, refuted_reason, never_refused}
-use borrow.Author.Rules.{rules}
 use Rattle.unique.proofs.is_refuted.Goals as goal
 
 pub two_open_on_each-requires : goal.two_open_on_each-requires

@@ -1,15 +1,13 @@
 -- `unique::open_on` meets its contract: the cells that are not empty counted so far and those from k on are all of them.
 -- Assumes nothing.
-use Prim.Native.Nat.{◌+◌, ◌-◌, ◌≤◌}
+use Prim.Native.Nat.{◌-◌}
 use native.Mathlib.Omega.{arith}
-use mathlib.Core.Logic.{⊎_elim}
 use mathlib.Core.Path.{◌≡◌, ap}
 use mathlib.Core.Bool.{not}
 use lib.ListN.{get_or}
-use borrow.Author.Rules.{rules}
 use borrow.Author.Tests.{eq-eqb, ne_eqb}
 use Rattle.grid.specs.Cells.{potential, empty}
-use Rattle.grid.proofs.ArrowSquares.{ahead, none_ahead, one_counted, other_passed}
+use Rattle.grid.proofs.ArrowSquares.{none_ahead, one_counted, other_passed}
 use Rattle.unique.proofs.open_on.Goals as goal
 use Rattle.unique.proofs.open_on.Goals.{else-cells-wide-ne0, then-cells-wide-ne0}
 

@@ -1,13 +1,9 @@
+-- What holds at each turn of the loop of `unique::open_on`, and what falls from turn to turn.
+-- Assumes nothing.
 use Prim.Native.Nat.{◌+◌, ◌-◌, ◌≤◌}
-use native.Mathlib.Omega.{arith}
-use mathlib.Core.Logic.{⊎_elim}
-use mathlib.Core.Path.{◌≡◌, ap}
-use mathlib.Core.Bool.{not}
-use lib.ListN.{get_or}
-use borrow.Author.Rules.{rules}
-use borrow.Author.Tests.{eq-eqb, ne_eqb}
-use Rattle.grid.specs.Cells.{potential, empty}
-use Rattle.grid.proofs.ArrowSquares.{ahead, none_ahead, one_counted, other_passed}
+use mathlib.Core.Path.{◌≡◌}
+use Rattle.grid.specs.Cells.{potential}
+use Rattle.grid.proofs.ArrowSquares.{ahead}
 use Rattle.unique.proofs.open_on.Given as goal
 
 abbrev pub invariant-loop-k : goal.invariant-loop-k

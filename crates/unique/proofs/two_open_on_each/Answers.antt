@@ -1,20 +1,13 @@
 -- `unique::two_open_on_each` meets its contract: `good` says of the arrows passed that two cells or more of each are not empty.
 -- Assumes nothing.
-use Prim.Native.Nat.{ℕ, ◌-◌, ◌<◌}
+use Prim.Native.Nat.{◌-◌, ◌<◌}
 use native.Mathlib.Omega.{arith}
-use mathlib.Core.Logic.{⊎_elim}
-use mathlib.Core.Path.{◌≡◌, refl, sym, ◌∙◌}
-use mathlib.Core.Bool.{◌&&◌}
-use mathlib.Core.List.{List}
-use lib.ListN.{length, get_or, take, drop}
+use mathlib.Core.Path.{◌≡◌, sym, ◌∙◌}
+use lib.ListN.{length, get_or, take}
 use lib.Seq.{length-take-le, get_or-take}
-use borrow.Author.Rules.{rules}
-use Rattle.grid.specs.Lists.{all}
 use Rattle.grid.specs.Cells.{potential}
 use Rattle.grid.proofs.ArrowSquares.{ahead, has_two, lacks_two}
-use Rattle.record.specs.Problem.{arrows_from}
 use Rattle.form.proofs.Steps.{arrows_on, arrows_fail, arrows_end}
-use Rattle.groups.specs.Arrays.{lines_of}
 use Rattle.unique.specs.Unique.{two_open}
 use Rattle.unique.proofs.two_open_on_each.Goals as goal
 use Rattle.unique.proofs.two_open_on_each.Goals.{else-open_on-lt2, then-open_on-lt2}

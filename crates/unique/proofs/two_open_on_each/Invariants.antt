@@ -1,17 +1,11 @@
-use Prim.Native.Nat.{ℕ, ◌-◌, ◌<◌}
-use native.Mathlib.Omega.{arith}
-use mathlib.Core.Logic.{⊎_elim}
-use mathlib.Core.Path.{◌≡◌, refl, sym, ◌∙◌}
+-- What holds at each turn of the loop of `unique::two_open_on_each`, and what falls from turn to turn.
+-- Assumes nothing.
+use Prim.Native.Nat.{◌-◌}
+use mathlib.Core.Path.{◌≡◌}
 use mathlib.Core.Bool.{◌&&◌}
-use mathlib.Core.List.{List}
-use lib.ListN.{length, get_or, take, drop}
-use lib.Seq.{length-take-le, get_or-take}
-use borrow.Author.Rules.{rules}
+use lib.ListN.{take, drop}
 use Rattle.grid.specs.Lists.{all}
-use Rattle.grid.specs.Cells.{potential}
-use Rattle.grid.proofs.ArrowSquares.{ahead, has_two, lacks_two}
 use Rattle.record.specs.Problem.{arrows_from}
-use Rattle.form.proofs.Steps.{arrows_on, arrows_fail, arrows_end}
 use Rattle.groups.specs.Arrays.{lines_of}
 use Rattle.unique.specs.Unique.{two_open}
 use Rattle.unique.proofs.two_open_on_each.Given as goal

@@ -11,7 +11,6 @@ use Rattle.call.proofs.Steps.{Reads, Reads-done}
 use Rattle.call.proofs.Holding.{reads_Drawn, reads_grid, reads_codes, opened_one, opened_bare, opened_sized, opened_none}
 use Rattle.unique.specs.Unique.{check_on, host_unique, unique_returned}
 use Rattle.unique.proofs.HeldLaws.{returned_not}
-use borrow.Author.Rules.{rules}
 use Rattle.unique.proofs.unique.Goals as goal
 
 pub returns-in-Refused : goal.returns-in-Refused

@@ -1,13 +1,10 @@
 -- `unique::unique_behind` meets its contract: 23, 24 and 25 come in this order, then what the steps come to.
 -- Assumes nothing.
-use Prim.Native.Nat.{ℕ, ◌*◌, ◌≤◌}
-use native.Mathlib.Omega.{arith}
+use Prim.Native.Nat.{◌*◌, ◌≤◌}
 use mathlib.Core.Path.{◌≡◌, sym, ◌∙◌}
 use mathlib.Core.Bool.{true}
-use mathlib.Core.List.{List}
 use mir.Syntax.{w32}
 use mir.ValLaws.{to_z-of_z}
-use borrow.Author.Tests.{not-true, not-false}
 use Rattle.grid.specs.Grid.{size}
 use Rattle.record.specs.Leaf.{Leaf}
 use Rattle.record.specs.Problem.{problem_of}
@@ -17,7 +14,6 @@ use Rattle.call.proofs.Holding.{holds_few, holds_on, holds_formed, edition_not_0
 use Rattle.certificate.specs.Certificate.{words_of, whole_words, claimed, headed}
 use Rattle.unique.proofs.HeadLaws.{Head-is}
 use Rattle.unique.proofs.HeldLaws.{head_same, solution_long, claimed_tested, check_23, check_24, check_25, check_refused, check_accepted}
-use borrow.Author.Rules.{rules}
 use Rattle.unique.proofs.unique_behind.Goals as goal
 
 pub returns-then-not-is_whole_words : goal.returns-then-not-is_whole_words

@@ -9,7 +9,6 @@ use Rattle.kinds.specs.Inside.{puzzle_with}
 use Rattle.units.specs.Arrays.{found_at, boundary_of}
 use Rattle.units.proofs.Checks.{named_found, nobody_found}
 use Rattle.units.proofs.Names.{stranded_is, first_low}
-use borrow.Author.Rules.{rules}
 use Rattle.units.proofs.check_potential_groups.Goals as goal
 
 pub overflow_cast-f : goal.overflow_cast-f

@@ -1,13 +1,12 @@
 -- `units::find_stranded` meets its contract: no name passed is stranded, so that the first from place k on is the first of all.
 -- Assumes nothing.
-use mathlib.Core.Logic.{⊎_elim}
 use mathlib.Core.Path.{◌≡◌, refl, sym, ◌∙◌}
 use mathlib.Core.Bool.{false, true}
-use Prim.Native.Nat.{◌-◌, ◌≤◌, ◌<◌}
+use Prim.Native.Nat.{◌-◌}
 use native.Mathlib.Omega.{arith}
-use lib.ListN.{get_or, take, drop}
+use lib.ListN.{get_or}
 use borrow.Author.Tests.{eq-eqb, ne_eqb}
-use Rattle.units.specs.Arrays.{stranded, first_name}
+use Rattle.units.specs.Arrays.{stranded}
 use Rattle.units.proofs.Names.{first_hit, first_miss, first_end}
 use Rattle.units.proofs.find_stranded.Goals as goal
 use Rattle.units.proofs.find_stranded.Goals.{else-squares-f-ne0, then-squares-f-ne0+else-arrowed-f-eq0}

@@ -1,12 +1,9 @@
-use mathlib.Core.Logic.{⊎_elim}
-use mathlib.Core.Path.{◌≡◌, refl, sym, ◌∙◌}
-use mathlib.Core.Bool.{false, true}
-use Prim.Native.Nat.{◌-◌, ◌≤◌, ◌<◌}
-use native.Mathlib.Omega.{arith}
-use lib.ListN.{get_or, take, drop}
-use borrow.Author.Tests.{eq-eqb, ne_eqb}
+-- What holds at each turn of the loop of `units::find_stranded`, and what falls from turn to turn.
+-- Assumes nothing.
+use mathlib.Core.Path.{◌≡◌}
+use Prim.Native.Nat.{◌-◌, ◌≤◌}
+use lib.ListN.{take, drop}
 use Rattle.units.specs.Arrays.{stranded, first_name}
-use Rattle.units.proofs.Names.{first_hit, first_miss, first_end}
 use Rattle.units.proofs.find_stranded.Given as goal
 
 abbrev pub invariant-loop-k : goal.invariant-loop-k

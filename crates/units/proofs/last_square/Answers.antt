@@ -1,13 +1,8 @@
 -- `units::last_square` meets its contract: no cell from i on is a square of the group, so that the last below i is the last of all.
 -- Assumes nothing.
 use mathlib.Core.Path.{◌≡◌, refl, sym, ◌∙◌}
-use mathlib.Core.Bool.{Bool, ◌&&◌}
-use mathlib.Core.List.{List}
-use Prim.Native.Nat.{ℕ, ◌+◌, ◌-◌, ◌≤◌}
+use Prim.Native.Nat.{◌+◌, ◌-◌}
 use native.Mathlib.Omega.{arith}
-use lib.Dec.{eqb}
-use lib.ListN.{get_or}
-use borrow.Author.Rules.{rules}
 use Rattle.grid.specs.Lists.{filter, last, range, upto}
 use Rattle.units.proofs.Boundary.{last_hit, last_miss}
 use Rattle.units.proofs.last_square.Goals as goal

@@ -1,13 +1,12 @@
-use mathlib.Core.Path.{◌≡◌, refl, sym, ◌∙◌}
+-- What holds at each turn of the loop of `units::last_square`, and what falls from turn to turn.
+-- Assumes nothing.
+use mathlib.Core.Path.{◌≡◌}
 use mathlib.Core.Bool.{Bool, ◌&&◌}
 use mathlib.Core.List.{List}
-use Prim.Native.Nat.{ℕ, ◌+◌, ◌-◌, ◌≤◌}
-use native.Mathlib.Omega.{arith}
+use Prim.Native.Nat.{ℕ, ◌-◌, ◌≤◌}
 use lib.Dec.{eqb}
 use lib.ListN.{get_or}
-use borrow.Author.Rules.{rules}
-use Rattle.grid.specs.Lists.{filter, last, range, upto}
-use Rattle.units.proofs.Boundary.{last_hit, last_miss}
+use Rattle.grid.specs.Lists.{filter, last, upto}
 use Rattle.units.proofs.last_square.Given as goal
 
 -- cell i is a square of the group named f

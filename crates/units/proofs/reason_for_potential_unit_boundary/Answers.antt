@@ -1,18 +1,13 @@
 -- `units::reason_for_potential_unit_boundary` meets its contract: the empty cells passed that touch the group are written, and behind them its last square.
 -- Assumes nothing.
-use mathlib.Core.Path.{◌≡◌, ◌∙◌}
-use mathlib.Core.Bool.{Bool, ◌&&◌}
+use mathlib.Core.Path.{◌≡◌}
 use mathlib.Core.List.{List}
 use Prim.Native.Nat.{ℕ, ◌*◌, ◌-◌, ◌≤◌}
 use native.Mathlib.Omega.{arith}
-use lib.Dec.{eqb}
-use lib.ListN.{length, get_or, length-set}
-use Rattle.grid.specs.Lists.{any, filter, upto}
-use Rattle.grid.specs.Grid.{Grid, size, neighbours}
+use lib.ListN.{length}
+use Rattle.grid.specs.Grid.{size}
 use Rattle.grid.specs.Side.{sized}
 use Rattle.grid.proofs.SideLaws.{area}
-use Rattle.literals.specs.Literals.{each}
-use Rattle.literals.specs.Inside.{Wrote}
 use Rattle.literals.proofs.BufferLaws.{wrote_length}
 use Rattle.literals.proofs.Pass.{cells_none, cells_count, cells_more}
 use Rattle.units.proofs.Boundary.{last_cell, boundary_are}

@@ -1,19 +1,15 @@
-use mathlib.Core.Path.{◌≡◌, ◌∙◌}
+-- What holds at each turn of the loop of `units::reason_for_potential_unit_boundary`, and what falls from turn to turn.
+-- Assumes nothing.
 use mathlib.Core.Bool.{Bool, ◌&&◌}
 use mathlib.Core.List.{List}
-use Prim.Native.Nat.{ℕ, ◌*◌, ◌-◌, ◌≤◌}
-use native.Mathlib.Omega.{arith}
+use Prim.Native.Nat.{ℕ, ◌-◌, ◌≤◌}
 use lib.Dec.{eqb}
-use lib.ListN.{length, get_or, length-set}
+use lib.ListN.{get_or}
 use Rattle.grid.specs.Lists.{any, filter, upto}
-use Rattle.grid.specs.Grid.{Grid, size, neighbours}
+use Rattle.grid.specs.Grid.{Grid, neighbours}
 use Rattle.grid.specs.Side.{sized}
-use Rattle.grid.proofs.SideLaws.{area}
 use Rattle.literals.specs.Literals.{each}
 use Rattle.literals.specs.Inside.{Wrote}
-use Rattle.literals.proofs.BufferLaws.{wrote_length}
-use Rattle.literals.proofs.Pass.{cells_none, cells_count, cells_more}
-use Rattle.units.proofs.Boundary.{last_cell, boundary_are}
 use Rattle.units.proofs.reason_for_potential_unit_boundary.Given as goal
 
 -- cell i is empty and touches the group named f

@@ -1,17 +1,11 @@
 -- `units::touches_group` meets its contract: no neighbour in the directions passed is in the group.
 -- Assumes nothing.
 use mathlib.Core.Path.{◌≡◌, refl, sym, ◌∙◌}
-use mathlib.Core.Bool.{Bool, false}
-use mathlib.Core.List.{List}
-use Prim.Native.Nat.{ℕ, ◌+◌, ◌-◌, ◌*◌, ◌≤◌}
+use mathlib.Core.Bool.{false}
+use Prim.Native.Nat.{◌-◌}
 use native.Mathlib.Omega.{arith}
-use lib.Dec.{eqb}
-use lib.ListN.{get_or}
-use borrow.Author.Rules.{rules}
-use Rattle.grid.specs.Lists.{any, upto}
-use Rattle.grid.specs.Side.{sized, towards}
+use Rattle.grid.specs.Lists.{upto}
 use Rattle.grid.proofs.ListLaws.{mem-any, mem-upto}
-use Rattle.grid.proofs.SideLaws.{in_place}
 use Rattle.grid.proofs.AppendLaws.{any_more}
 use Rattle.units.proofs.Boundary.{any_placed, any_start}
 use Rattle.units.proofs.touches_group.Goals as goal

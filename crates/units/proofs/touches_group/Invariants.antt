@@ -1,17 +1,13 @@
-use mathlib.Core.Path.{◌≡◌, refl, sym, ◌∙◌}
+-- What holds at each turn of the loop of `units::touches_group`, and what falls from turn to turn.
+-- Assumes nothing.
+use mathlib.Core.Path.{◌≡◌}
 use mathlib.Core.Bool.{Bool, false}
 use mathlib.Core.List.{List}
 use Prim.Native.Nat.{ℕ, ◌+◌, ◌-◌, ◌*◌, ◌≤◌}
-use native.Mathlib.Omega.{arith}
 use lib.Dec.{eqb}
 use lib.ListN.{get_or}
-use borrow.Author.Rules.{rules}
 use Rattle.grid.specs.Lists.{any, upto}
 use Rattle.grid.specs.Side.{sized, towards}
-use Rattle.grid.proofs.ListLaws.{mem-any, mem-upto}
-use Rattle.grid.proofs.SideLaws.{in_place}
-use Rattle.grid.proofs.AppendLaws.{any_more}
-use Rattle.units.proofs.Boundary.{any_placed, any_start}
 use Rattle.units.proofs.touches_group.Given as goal
 
 -- cell j is in the group named f

@@ -3,7 +3,6 @@
 use native.Mathlib.Omega.{arith}
 use Prim.Native.Nat.{◌<◌}
 use mathlib.Core.Path.{sym, ◌∙◌}
-use borrow.Author.Rules.{rules}
 use Rattle.groups.proofs.FloodLaws.{beside_small}
 use Rattle.units.proofs.Boundary.{any_at, any_off}
 use Rattle.units.proofs.touches_toward.Goals as goal

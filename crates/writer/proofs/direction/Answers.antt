@@ -2,10 +2,9 @@
 -- Assumes nothing.
 use Prim.Native.Nat.{◌<◌}
 use native.Mathlib.Omega.{arith}
-use borrow.Author.Rules.{rules}
 use Rattle.grid.specs.Grid.{size}
 use Rattle.grid.specs.Side.{sized}
-use Rattle.grid.proofs.SideLaws.{area, sized-size}
+use Rattle.grid.proofs.SideLaws.{sized-size}
 use Rattle.writer.proofs.DirectionLaws.{code_up, code_down, code_left, code_right}
 use Rattle.writer.proofs.direction.Goals as goal
 

@@ -1,7 +1,6 @@
 -- `writer::put_bit` meets its contract.
 -- Assumes nothing.
 use native.Mathlib.Omega.{arith}
-use borrow.Author.Rules.{rules}
 use Rattle.writer.proofs.PutLaws.{put_bit_Appends}
 use Rattle.writer.proofs.put_bit.Goals as goal
 

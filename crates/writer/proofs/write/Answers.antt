@@ -6,7 +6,6 @@ use mathlib.Core.Path.{sym, subst, ◌∙◌}
 use lib.ListN.{length}
 use Rattle.record.specs.Write.{write_record}
 use Rattle.writer.proofs.BridgeLaws.{ready, written_is, one_puzzle, fields_small}
-use borrow.Author.Rules.{rules}
 use Rattle.writer.proofs.write.Goals as goal
 
 pub write_fields-bits-requires : goal.write_fields-bits-requires

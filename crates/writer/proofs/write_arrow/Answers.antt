@@ -2,7 +2,6 @@
 -- Assumes nothing.
 use native.Mathlib.Omega.{arith}
 use Rattle.writer.proofs.PutLaws.{put_place, arrow_Appends}
-use borrow.Author.Rules.{rules}
 use Rattle.writer.proofs.write_arrow.Goals as goal
 
 pub put-x-requires : goal.put-x-requires

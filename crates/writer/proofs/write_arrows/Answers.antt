@@ -1,10 +1,9 @@
 -- `writer::write_arrows` meets its contract.
 -- Assumes nothing.
-use Prim.Native.Nat.{◌+◌, ◌-◌, ◌≤◌}
+use Prim.Native.Nat.{◌+◌, ◌-◌}
 use native.Mathlib.Omega.{arith}
 use mathlib.Core.Path.{◌≡◌, sym, subst, ◌∙◌}
 use lib.ListN.{get_or}
-use borrow.Author.Rules.{rules}
 use Rattle.grid.specs.Lists.{flat_map, upto}
 use Rattle.grid.specs.Side.{sized}
 use Rattle.record.specs.Lines.{start_at}

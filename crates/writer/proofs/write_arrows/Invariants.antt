@@ -1,15 +1,11 @@
-use Prim.Native.Nat.{◌+◌, ◌-◌, ◌≤◌}
-use native.Mathlib.Omega.{arith}
-use mathlib.Core.Path.{◌≡◌, sym, subst, ◌∙◌}
-use lib.ListN.{get_or}
-use borrow.Author.Rules.{rules}
+-- What holds at each turn of the loop of `writer::write_arrows`, and what falls from turn to turn.
+-- Assumes nothing.
+use Prim.Native.Nat.{◌-◌, ◌≤◌}
+use mathlib.Core.Path.{◌≡◌}
 use Rattle.grid.specs.Lists.{flat_map, upto}
 use Rattle.grid.specs.Side.{sized}
 use Rattle.record.specs.Lines.{start_at}
-use Rattle.record.proofs.LinesLaws.{start_first, start_next}
-use Rattle.writer.specs.Wrote.{Appends, arrow_piece, line_piece}
-use Rattle.writer.proofs.PutLaws.{Appends-start, Appends-more}
-use Rattle.writer.proofs.LineLaws.{end_below, lines_place}
+use Rattle.writer.specs.Wrote.{Appends, line_piece}
 use Rattle.writer.proofs.write_arrows.Given as goal
 
 abbrev pub invariant-loop-k : goal.invariant-loop-k

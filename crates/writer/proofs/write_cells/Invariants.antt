@@ -1,14 +1,11 @@
-use Prim.Native.Nat.{ℕ, ◌+◌, ◌-◌, ◌*◌, ◌≤◌}
-use native.Mathlib.Omega.{arith}
-use mathlib.Core.Path.{◌≡◌, ap, subst, ◌∙◌}
+-- What holds at each turn of the loop of `writer::write_cells`, and what falls from turn to turn.
+-- Assumes nothing.
+use Prim.Native.Nat.{ℕ, ◌-◌, ◌≤◌}
 use mathlib.Core.List.{List}
 use lib.ListN.{get_or}
-use borrow.Author.Rules.{rules}
 use Rattle.grid.specs.Lists.{flat_map, upto}
 use Rattle.record.specs.Write.{bits_of}
-use Rattle.record.proofs.PackLaws.{length-bits_of}
 use Rattle.writer.specs.Wrote.{Appends}
-use Rattle.writer.proofs.PutLaws.{Appends-start, Appends-more, pieces_length}
 use Rattle.writer.proofs.write_cells.Given as goal
 
 -- the bits of a cell

@@ -8,7 +8,6 @@ use Rattle.grid.proofs.SideLaws.{area}
 use Rattle.record.specs.Write.{bits_of}
 use Rattle.record.proofs.PackLaws.{length-bits_of}
 use Rattle.writer.proofs.PutLaws.{put_place, pieces_length, fields_append}
-use borrow.Author.Rules.{rules}
 use Rattle.writer.proofs.write_fields.Goals as goal
 
 pub put-w-requires : goal.put-w-requires

@@ -4,11 +4,8 @@ use Prim.Native.Nat.{◌<◌}
 use native.Mathlib.Omega.{arith}
 use mathlib.Core.Path.{◌≡◌, sym, ◌∙◌}
 use mathlib.Core.Bool.{true}
-use borrow.Author.Rules.{rules}
-use borrow.Author.Tests.{not-true, not-false}
 use Rattle.grid.specs.Grid.{size}
 use Rattle.record.specs.Problem.{grid_of}
-use Rattle.board.specs.declared.Board.{Board}
 use Rattle.board.specs.Form.{well_formed}
 use Rattle.board.specs.Decide.{area, placed}
 use Rattle.board.proofs.BoardForm.{Whole-is, whole_room, whole_most}

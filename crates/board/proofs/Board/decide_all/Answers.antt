@@ -3,11 +3,8 @@
 use native.Mathlib.Omega.{arith}
 use mathlib.Core.Path.{◌≡◌, refl, sym, ◌∙◌}
 use mathlib.Core.Bool.{true}
-use borrow.Author.Rules.{rules}
-use borrow.Author.Tests.{not-true, not-false}
 use Rattle.grid.specs.Grid.{size}
 use Rattle.record.specs.Problem.{grid_of}
-use Rattle.board.specs.declared.Board.{Board}
 use Rattle.board.specs.Form.{well_formed}
 use Rattle.board.specs.Decide.{with_decisions, refused_with, decide_all_of, all_placed}
 use Rattle.board.proofs.BoardForm.{Whole-is, whole_most}

@@ -2,8 +2,6 @@
 -- Assumes nothing.
 use mathlib.Core.Path.{◌≡◌, sym, ◌∙◌}
 use mathlib.Core.Bool.{true}
-use borrow.Author.Rules.{rules}
-use borrow.Author.Tests.{not-true, not-false}
 use Rattle.record.specs.Leaf.{is_edition}
 use Rattle.record.specs.declared.Answer.TheVariants.{Done}
 use Rattle.board.proofs.OpenLaws.{open_refused, open_16, open_Drawn, open_22, open_fresh}

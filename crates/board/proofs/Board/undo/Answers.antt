@@ -4,9 +4,6 @@ use Prim.Native.Nat.{◌≤◌}
 use native.Mathlib.Omega.{arith}
 use mathlib.Core.Path.{◌≡◌, sym, ◌∙◌}
 use mathlib.Core.Bool.{true}
-use borrow.Author.Rules.{rules}
-use borrow.Author.Tests.{not-true, not-false}
-use Rattle.board.specs.declared.Board.{Board}
 use Rattle.board.specs.Form.{well_formed}
 use Rattle.board.specs.Decide.{removed}
 use Rattle.board.proofs.BoardForm.{Whole-is, whole_latest, whole_most}

@@ -1,10 +1,8 @@
 -- `calls_replay::boards::problems_differ` compares each field.
 -- Assumes nothing.
 use borrow.Author.Rules.{rules}
-use mathlib.Core.Path.{◌≡◌, sym, ap}
-use mathlib.Core.Logic.{⊎_elim}
+use mathlib.Core.Path.{◌≡◌, ap}
 use lib.ListN.{length}
-use borrow.Author.Tests.{eqb-true, eqb-false, not-true, not-false}
 use Rattle.record.specs.declared.Problem.{Problem}
 use Rattle.replay.specs.Comparisons.{DiffersUnless}
 use Rattle.replay.proofs.ComparisonLaws.{fails}

@@ -1,11 +1,8 @@
-use borrow.Author.Rules.{rules}
-use Prim.Native.Nat.{ℕ, ◌-◌}
-use native.Mathlib.Omega.{arith}
-use mathlib.Core.Path.{◌≡◌, refl, ap}
-use mathlib.Core.List.{List}
-use lib.ListN.{length, get_or, take}
-use Rattle.replay.proofs.ComparisonLaws.{holds, fails}
-use Rattle.calls_replay.proofs.ArrayLaws.{one_more, whole}
+-- What holds at each turn of the loop of `calls_replay::boards::words_differ`, and what falls from turn to turn.
+-- Assumes nothing.
+use Prim.Native.Nat.{◌-◌}
+use mathlib.Core.Path.{◌≡◌}
+use lib.ListN.{length, take}
 use Rattle.calls_replay.proofs.boards.words_differ.Given as goal
 
 abbrev pub invariant-loop-i : goal.invariant-loop-i

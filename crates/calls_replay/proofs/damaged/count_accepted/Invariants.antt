@@ -1,7 +1,6 @@
-use borrow.Author.Rules.{rules}
+-- What holds at each turn of the loop of `calls_replay::damaged::count_accepted`, and what falls from turn to turn.
+-- Assumes nothing.
 use Prim.Native.Nat.{◌-◌, ◌≤◌}
-use native.Mathlib.Omega.{arith}
-use mathlib.Core.Logic.{⊎_elim}
 use Rattle.calls_replay.proofs.damaged.count_accepted.Given as goal
 
 abbrev pub invariant-loop-k : goal.invariant-loop-k

@@ -1,8 +1,6 @@
+-- What holds at each turn of the loop of `groups_replay::arrows::in_line`, and what falls from turn to turn.
+-- Assumes nothing.
 use Prim.Native.Nat.{ℕ, ◌≤◌, ◌<◌, ◌-◌}
-use native.Mathlib.Omega.{arith}
-use mathlib.Core.Bool.{false≢true}
-use borrow.Author.Rules.{rules}
-use borrow.Author.Count.{below_more}
 use lib.ListN.{get_or}
 use Rattle.groups_replay.proofs.arrows.in_line.Given as goal
 

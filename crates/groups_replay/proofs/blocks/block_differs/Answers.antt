@@ -1,18 +1,17 @@
 -- `groups_replay::blocks::block_differs` holds the reach and then the fence against what the list says. The buffer has a place for each cell and one more.
 -- Assumes nothing.
-use borrow.Author.Rules.{rules}
 use Prim.Native.Nat.{ℕ, ◌≤◌, ◌*◌}
 use native.Mathlib.Omega.{arith}
 use native.Mathlib.Nat.{mul-le-mul}
 use mathlib.Core.List.{List}
 use lib.ListN.{length, take}
 use Rattle.grid.specs.Side.{sized}
-use Rattle.kinds.specs.Kinds.{View, view, reach}
+use Rattle.kinds.specs.Kinds.{view, reach}
 use Rattle.kinds.specs.Arrays.{reach_mask}
 use Rattle.kinds.specs.Inside.{puzzle_with, Held}
 use Rattle.replay.specs.Comparisons.{DiffersUnless}
 use Rattle.replay.specs.Lists.{area_of}
-use Rattle.replay.proofs.ComparisonLaws.{fails_so, then_differs}
+use Rattle.replay.proofs.ComparisonLaws.{then_differs}
 use Rattle.groups_replay.specs.Blocks.{ReachSo}
 use Rattle.groups_replay.proofs.BlockLaws.{Reach-told, fence_told}
 use Rattle.groups_replay.proofs.blocks.block_differs.Goals as goal

@@ -1,7 +1,6 @@
-use borrow.Author.Rules.{rules}
-use Prim.Native.Nat.{◌-◌, ◌≤◌, ◌<◌}
-use native.Mathlib.Omega.{arith}
-use Rattle.groups.specs.Arrays.{Names}
+-- What holds at each turn of the loop of `groups_replay::blocks::run_blocks`, and what falls from turn to turn.
+-- Assumes nothing.
+use Prim.Native.Nat.{◌-◌, ◌≤◌}
 use Rattle.groups_replay.proofs.blocks.run_blocks.Given as goal
 
 abbrev pub invariant-loop-k : goal.invariant-loop-k

@@ -1,4 +1,5 @@
-use borrow.Author.Rules.{rules}
+-- What holds at each turn of the loop of `groups_replay::rounds::kinds_in_rounds`, and what falls from turn to turn.
+-- Assumes nothing.
 use Prim.Native.Nat.{◌-◌}
 use Rattle.groups_replay.proofs.rounds.kinds_in_rounds.Given as goal
 

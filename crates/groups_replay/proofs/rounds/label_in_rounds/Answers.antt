@@ -1,16 +1,9 @@
 -- `groups_replay::rounds::label_in_rounds` names the groups in each round. The rounds run out.
 -- Assumes nothing.
-use borrow.Author.Rules.{rules}
-use Prim.Native.Nat.{◌-◌, ◌*◌, ◌<◌}
-use native.Mathlib.Omega.{arith}
-use mathlib.Core.Path.{◌≡◌}
-use lib.ListN.{length, take}
+use Prim.Native.Nat.{◌-◌}
 use Rattle.grid.specs.Side.{sized}
-use Rattle.grid.specs.Cells.{square}
 use Rattle.grid.proofs.GridLaws.{size_most}
-use Rattle.groups.specs.Arrays.{counts, marked, Names}
 use Rattle.groups.proofs.TableLaws.{table_few}
-use Rattle.groups_replay.specs.Blocks.{Computed}
 use Rattle.groups_replay.proofs.rounds.label_in_rounds.Goals as goal
 
 pub loop-i-preserved : goal.loop-i-preserved

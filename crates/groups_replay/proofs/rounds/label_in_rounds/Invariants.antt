@@ -1,13 +1,11 @@
-use borrow.Author.Rules.{rules}
+-- What holds at each turn of the loop of `groups_replay::rounds::label_in_rounds`, and what falls from turn to turn.
+-- Assumes nothing.
 use Prim.Native.Nat.{◌-◌, ◌*◌, ◌<◌}
-use native.Mathlib.Omega.{arith}
 use mathlib.Core.Path.{◌≡◌}
 use lib.ListN.{length, take}
 use Rattle.grid.specs.Side.{sized}
 use Rattle.grid.specs.Cells.{square}
-use Rattle.grid.proofs.GridLaws.{size_most}
 use Rattle.groups.specs.Arrays.{counts, marked, Names}
-use Rattle.groups.proofs.TableLaws.{table_few}
 use Rattle.groups_replay.specs.Blocks.{Computed}
 use Rattle.groups_replay.proofs.rounds.label_in_rounds.Given as goal
 
