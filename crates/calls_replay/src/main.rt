@@ -281,7 +281,12 @@ fn go_through(list: &[u8]) -> Tally {
 
 fn main(rt: HostRuntime) -> io::Result<()> {
     let list = replay::read_list(rt.alloc(), rt.reader())?;
-    go_through(list.as_slice()).print(b" lists, ", b" calls, ", &mut io::writer(&rt))?;
-    damaged::go_through().print(b" damaged boards, ", b"", &mut io::writer(&rt))?;
-    Ok(())
+    let (_, written) = go_through(list.as_slice()).print(
+        b" lists, ",
+        b" calls, ",
+        &mut io::writer(&rt),
+    );
+    written?;
+    let (_, written) = damaged::go_through().print(b" damaged boards, ", b"", &mut io::writer(&rt));
+    written
 }

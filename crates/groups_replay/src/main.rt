@@ -272,6 +272,10 @@ fn go_through(list: &[u8]) -> Tally {
 
 fn main(rt: HostRuntime) -> io::Result<()> {
     let list = replay::read_list(rt.alloc(), rt.reader())?;
-    go_through(list.as_slice()).print(b" boards, ", b" arrow blocks, ", &mut io::writer(&rt))?;
-    Ok(())
+    let (_, written) = go_through(list.as_slice()).print(
+        b" boards, ",
+        b" arrow blocks, ",
+        &mut io::writer(&rt),
+    );
+    written
 }

@@ -165,7 +165,8 @@ fn go_through(list: &[u8]) -> Tally {
 
 fn main(rt: HostRuntime) -> io::Result<()> {
     let list = replay::read_list(rt.alloc(), rt.reader())?;
-    go_through(list.as_slice()).print(b" records, ", b"", &mut io::writer(&rt))?;
+    let (_, written) = go_through(list.as_slice()).print(b" records, ", b"", &mut io::writer(&rt));
+    written?;
     let long = zeros();
     let r = record::read(&long);
     let answer = r.answer;

@@ -370,28 +370,34 @@ impl Tally {
         write_damage(out, damage, self.whole)
     }
 
-    // Has a text written to the output, and returns how many bytes it has. It must be the text of what was counted; the tally and the
-    // words are there to say so.
+    // Has a text written to the output, and returns how many bytes it has, and whether they could be written. It must be the text of what
+    // was counted; the tally and the words are there to say so.
     fn hand_over<W: Write>(
         self,
         entries: &[u8],
         parts: &[u8],
         text: &[u8],
         output: &mut W,
-    ) -> io::Result<usize>
+    ) -> (usize, io::Result<()>)
         requires { text.now ≡ tally_text self entries.now parts.now }
-        ensures count { IfOk result (λ n. n ≡ length text.now) }
-        ensures printed { OnOk result (Appends (W.contents output.old) (W.contents output.new) text.now) }
+        ensures count { result.0 ≡ length text.now }
+        ensures printed { OnOk result.1 (Appends (W.contents output.old) (W.contents output.new) text.now) }
     {
-        output.write_all(text)?;
-        Ok(text.len())
+        let written = output.write_all(text);
+        (text.len(), written)
     }
 
-    // Prints this text, and returns how many bytes it has. Its words have at most 47, so that all of it has room.
-    pub fn print<W: Write>(self, entries: &[u8], parts: &[u8], output: &mut W) -> io::Result<usize>
+    // Prints this text, and returns how many bytes it has, and whether they could be written. Its words have at most 47, so that all of it
+    // has room.
+    pub fn print<W: Write>(
+        self,
+        entries: &[u8],
+        parts: &[u8],
+        output: &mut W,
+    ) -> (usize, io::Result<()>)
         requires { length entries.now + length parts.now ≤ 47 }
-        ensures count { IfOk result (λ n. n ≡ length (tally_text self entries.now parts.now)) }
-        ensures printed { OnOk result
+        ensures count { result.0 ≡ length (tally_text self entries.now parts.now) }
+        ensures printed { OnOk result.1
             (Appends (W.contents output.old) (W.contents output.new) (tally_text self entries.now parts.now)) }
     {
         let mut out = [0u8; 128];
