@@ -16,7 +16,7 @@ fn main() {
         set_by_cargo("CARGO_CFG_TARGET_OS"),
     );
     if target != ("x86_64".into(), "linux".into()) {
-        fail("`rt lib` writes libraries for x86-64 Linux only, and this build is for another machine.");
+        fail("`.ci/built` writes the library for x86-64 Linux only, and this build is for another machine.");
     }
     if !library.is_file() {
         fail(&format!(

@@ -1,5 +1,5 @@
 // The numbers that the exported calls on a board return: of an answer and of a finding, which `lent` gives, and by value those of open, finished, certain
-// and hints; open gives with its number the board as it leaves it. The exported calls, over a lent board, are in `host`.
+// and hints; open gives with its number the board as it leaves it. The calls over a lent board are in `host`, and `host_c` exports them.
 #![tactic(auto)]
 
 ghost use Rattle.std.specs.Prelude.{◌≡◌, ℕ, ◌<◌, length};

@@ -1,4 +1,4 @@
-// Decide, undo and find on one board lent by the caller. The exported calls of `host` pass the board that they are lent on to these.
+// Decide, undo and find on one board lent by the caller. The calls of `host` pass the board that they are lent on to these.
 #![tactic(auto)]
 
 ghost use Rattle.std.specs.Prelude.{◌≡◌, length};
