@@ -48,9 +48,10 @@ module _ {g : Grid} {m : Turn} (t : Turns g m) where
   decided_same (d ∷ ds) b i l =
       rw (index_same d.0 i (b d (Memᴰ.head refl)) l, decided_same ds (λ e k. b e (Memᴰ.tail k)) i l) refl
 
-  -- an index is off the grid on both or on neither
-  off_same : (i : ℕ) → ltb (cond (ltb i (size g)) (m.to i) i) (size m.grid) ≡ ltb i (size g)
-  off_same i = go (Dec-So (ltb i (size g)))
+  -- a decide's index is off the grid on both or on neither
+  off_same : (i v j : ℕ) → call_to g m (decide i v) ≡ decide j v → ltb j (size m.grid) ≡ ltb i (size g)
+  unfolding call_to
+  off_same i v j e = let at : cond (ltb i (size g)) (m.to i) i ≡ j = cc in rw (← at) (go (Dec-So (ltb i (size g))))
     where
       go : Dec (So (ltb i (size g))) → ltb (cond (ltb i (size g)) (m.to i) i) (size m.grid) ≡ ltb i (size g)
       go (yes h) = rw h (lt-ltb (m.to i) (size m.grid) (t.embeds.into i (ltb-true i (size g) h)))
@@ -59,7 +60,7 @@ module _ {g : Grid} {m : Turn} (t : Turns g m) where
   -- a call
   call_same : (c : Call) {ds : List Literal} → Standing g ds → after m.grid (call_to g m c) (map (decision_to m) ds) ≡ map (decision_to m) (after g c ds)
   unfolding after call_to
-  call_same (decide i v) {ds} s = rw (off_same i) (go (ltb i (size g)) refl)
+  call_same (decide i v) {ds} s = rw (off_same i v (cond (ltb i (size g)) (m.to i) i) refl) (go (ltb i (size g)) refl)
     where
       put : (b : Bool) → cond b (map (decision_to m) ds ++ ((m.to i, v) ∷ [])) (map (decision_to m) ds) ≡ map (decision_to m) (cond b (ds ++ ((i, v) ∷ [])) ds)
       put true = sym (map-append (decision_to m) ds ((i, v) ∷ []))
