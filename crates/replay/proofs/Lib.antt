@@ -2,4 +2,3 @@ mod ListLaws
 mod PrintedLaws
 mod TallyLaws
 pub mod ComparisonLaws
-pub mod KnownLaws

@@ -1,6 +1,6 @@
 -- `reason::read_input` meets its contract: what is read behind nothing is the first bytes of the input.
 -- Assumes nothing.
-use Rattle.reason.proofs.KnownLaws.{known_taken}
+use Rattle.text.proofs.KnownLaws.{known_taken}
 use Rattle.reason.proofs.read_input.Goals as goal
 
 pub returns : goal.returns

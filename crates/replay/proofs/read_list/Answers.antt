@@ -1,6 +1,6 @@
 -- `replay::read_list` meets its contract: what is read behind nothing is the first bytes of the input.
 -- Assumes nothing.
-use Rattle.replay.proofs.KnownLaws.{known_taken}
+use Rattle.text.proofs.KnownLaws.{known_taken}
 use Rattle.replay.proofs.read_list.Goals as goal
 
 pub returns : goal.returns
