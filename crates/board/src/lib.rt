@@ -32,14 +32,14 @@ pub struct Board {
 }
 
 // The answer of `open`, with the board where it is Done, and a blank one of no cells where it is not.
-#[derive(Drop)]
+#[derive(Clone, Copy)]
 pub struct Opened {
     pub answer: Answer,
     pub board: Board,
 }
 
 // The answer of a call on a board, with the board as the call leaves it.
-#[derive(Drop)]
+#[derive(Clone, Copy)]
 pub struct Decided {
     pub answer: Answer,
     pub board: Board,
@@ -75,7 +75,7 @@ fn place(
 }
 
 // The answer to a list of decisions, and how many decisions then stand.
-#[derive(Drop)]
+#[derive(Clone, Copy)]
 pub struct Placed {
     pub answer: Answer,
     pub decided: usize,

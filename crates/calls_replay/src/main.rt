@@ -25,7 +25,7 @@ const SIZES: usize = 4096;
 
 // What a call left: the board, whether something differed, and where the call ends in the list, far behind it where the list ends
 // inside the call.
-#[derive(Drop)]
+#[derive(Clone, Copy)]
 struct Step {
     board: Board,
     differs: bool,

@@ -17,7 +17,7 @@ use literals::Finding;
 
 // The answer of `certain`: the cells are told, there is no finished board that agrees with the decisions, the budget is spent, or a refusal by
 // document 01's number.
-#[derive(Drop)]
+#[derive(Clone, Copy)]
 pub enum Certainty {
     Told,
     Impossible,
@@ -27,7 +27,7 @@ pub enum Certainty {
 
 // The answer, the number of steps, and where the cells are told 1 for a cell that is square in every finished board, 0 for one that is
 // empty in every one and 2 for one that is open. 3 stands behind the grid, and at every place where nothing is told.
-#[derive(Drop)]
+#[derive(Clone, Copy)]
 pub struct Facts {
     pub answer: Certainty,
     pub steps: u64,
@@ -35,7 +35,7 @@ pub struct Facts {
 }
 
 // What a step meets: a reason, a full board, or the lowest undecided cell.
-#[derive(Drop)]
+#[derive(Clone, Copy)]
 enum Met {
     Reason,
     Full,

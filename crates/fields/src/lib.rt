@@ -7,14 +7,14 @@ ghost use Rattle.grid.specs.Side.{sized};
 ghost use Rattle.fields.specs.Inside.{field_of, cell_code, code_at, Stepped, step_at, opening_at, start_of};
 
 // A number that was read, or the number of the refusal.
-#[derive(Drop)]
+#[derive(Clone, Copy)]
 pub enum Field {
     Value(usize),
     Fault(u8),
 }
 
 // How an arrow begins: its first cell and the steps that follow; or the number of the refusal.
-#[derive(Drop)]
+#[derive(Clone, Copy)]
 pub enum Start {
     From {
         row: usize,
@@ -25,7 +25,7 @@ pub enum Start {
 }
 
 // The cell that a step leads to, or the number of the refusal.
-#[derive(Drop)]
+#[derive(Clone, Copy)]
 pub enum Place {
     At { row: usize, col: usize },
     Lost(u8),

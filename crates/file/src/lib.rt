@@ -17,7 +17,7 @@ use exported::{counted, negated, write_behind};
 use record::{Answer, Problem};
 
 // The answer of the player's reader: where it is Done the record's length in bytes and the grade, and zeros where it is not.
-#[derive(Drop)]
+#[derive(Clone, Copy)]
 pub struct Player {
     pub answer: Answer,
     pub length: usize,
@@ -26,7 +26,7 @@ pub struct Player {
 
 // The answer of the setter's reader: where it is Done the record's length in bytes, the grade and the `count` cells of the solution, 1 square and
 // 0 empty, with 0 behind them; and zeros where it is not.
-#[derive(Drop)]
+#[derive(Clone, Copy)]
 pub struct Setter {
     pub answer: Answer,
     pub length: usize,

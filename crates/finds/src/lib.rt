@@ -58,7 +58,7 @@ fn find_lent(board: Board, player: u8, buffer: &mut [u16]) -> Asked
 }
 
 // How a find is made: on the board by value, this many times and at least once, or once on a lent board.
-#[derive(Drop)]
+#[derive(Clone, Copy)]
 pub enum Way {
     Value(usize),
     Lent,
@@ -76,7 +76,7 @@ fn find(way: Way, board: Board, player: u8, buffer: &mut [u16]) -> Asked
 }
 
 // A find that was made: whether it differs from what a list says of it, and the board that it left.
-#[derive(Drop)]
+#[derive(Clone, Copy)]
 pub struct Made {
     pub differs: bool,
     pub board: Board,

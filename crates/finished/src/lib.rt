@@ -19,7 +19,7 @@ use board::Board;
 use literals::Finding;
 
 // The answer of `finished`, or a refusal by document 01's number.
-#[derive(Drop)]
+#[derive(Clone, Copy)]
 pub enum Verdict {
     Yes,
     No,

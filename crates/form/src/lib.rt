@@ -59,7 +59,7 @@ fn low_codes(a: &[u8; 1024], n: usize) -> bool
 }
 
 // What is known of the ends of the arrows: whether they rise, and the last of them.
-#[derive(Drop)]
+#[derive(Clone, Copy)]
 struct Ends {
     rise: bool,
     last: usize,

@@ -28,7 +28,7 @@ pub fn check_growth(
 ) -> Finding
     requires { Fit h w buffer.old × Squares h w cells.now arrows.now kinds.now owners.now last cur
         × Grouped kinds.now owners.now head.now next.now sizes.now squares.now (h * w) × (length groups.old ≡ 1024) }
-    ensures by_index { (lines : List (List ℕ))
+    ensures answer { (lines : List (List ℕ))
         → Scene h w lines cells.now arrows.now kinds.now owners.now last (cur + 1)
         → FoundAs (reason4a_at (view_on h w lines cells.now) (pair_at arrows.now last cur)) buffer.old buffer.new result }
     ensures groups_len { length groups.new ≡ 1024 }
@@ -68,7 +68,7 @@ pub fn check_gap(
 ) -> Finding
     requires { Fit h w buffer.old × Squares h w cells.now arrows.now kinds.now owners.now last cur
         × Grouped kinds.now owners.now head.now next.now sizes.now squares.now (h * w) × (length groups.old ≡ 1024) }
-    ensures by_index { (lines : List (List ℕ))
+    ensures answer { (lines : List (List ℕ))
         → Scene h w lines cells.now arrows.now kinds.now owners.now last (cur + 1)
         → FoundAs (reason4b_at (view_on h w lines cells.now) (pair_at arrows.now last cur)) buffer.old buffer.new result }
     ensures groups_len { length groups.new ≡ 1024 }

@@ -6,21 +6,21 @@ ghost use Rattle.std.specs.Int.Signed.{mag};
 ghost use Rattle.grid.specs.Side.{sized, moved_of, shifted_of, beside_of, around_of, InGrid, InPlace};
 
 // Where a signed offset leads along one axis.
-#[derive(Drop)]
+#[derive(Clone, Copy)]
 pub enum Step {
     To(usize),
     Outside,
 }
 
 // The cell that a move leads to, if it is one of the grid.
-#[derive(Drop)]
+#[derive(Clone, Copy)]
 pub enum Side {
     At(usize),
     Off,
 }
 
 // The neighbours of a cell, in the first `count` places.
-#[derive(Drop)]
+#[derive(Clone, Copy)]
 pub struct Around {
     pub cells: [u16; 4],
     pub count: usize,

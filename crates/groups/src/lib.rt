@@ -90,7 +90,7 @@ fn offer_toward(
     s: u16,
 ) -> usize
     requires in_place { InPlace h w y x × (k < 4) }
-    requires s_bound { (s < 1024) × (count + free labels.old ≤ 1024) }
+    requires name_and_room { (s < 1024) × (count + free labels.old ≤ 1024) }
     ensures { OfferedSide (beside_of (sized h w) (y * w + x) k) s labels.old stack.old count labels.new stack.new result }
 {
     let side = grid::toward(h, w, y, x, k);
@@ -137,9 +137,9 @@ fn flood(
     arrowed: &mut [u16; 1024],
 )
     requires in_grid { InGrid h w s × Unused s labels.old }
-    requires labels_len { (length labels.old ≡ 1024) × (length stack.old ≡ 1025) }
-    ensures by_index { (p : ℕ → Bool) → Only p labels.old → Walked (sized h w) p s s labels.old labels.new }
-    ensures stack_len { (length stack.new ≡ 1025)
+    requires lengths { (length labels.old ≡ 1024) × (length stack.old ≡ 1025) }
+    ensures walked { (p : ℕ → Bool) → Only p labels.old → Walked (sized h w) p s s labels.old labels.new }
+    ensures counted { (length stack.new ≡ 1025)
         × (squares.new ≡ set squares.old s (length (labelled labels.new (marked cells.now) s)))
         × (arrowed.new ≡ set arrowed.old s (length (labelled labels.new (marked onarrow.now) s))) }
 {

@@ -28,7 +28,7 @@ pub fn label_in_rounds(
     arrowed: &mut [u16; 1024],
 ) -> usize
     requires { (h ≤ 32) × (w ≤ 32) × (length firsts.old ≡ 1024) × (length squares.old ≡ 1024) × (length arrowed.old ≡ 1024) }
-    ensures squares_len { (length squares.new ≡ 1024) × (length arrowed.new ≡ 1024) × Names firsts.new result }
+    ensures lengths_and_names { (length squares.new ≡ 1024) × (length arrowed.new ≡ 1024) × Names firsts.new result }
     ensures computed { 0 < rounds → Computed (sized h w) (counts is_potential (take (h * w) cells.now)) (square (take (h * w) cells.now)) (marked onarrow.now)
         names.new squares.new arrowed.new }
 {

@@ -114,7 +114,7 @@ pub fn count_reach(
 ) -> usize
     requires { Limits h w × Chains owners.now head.now next.now (h * w)
         × (f < 1024) × (length groups.old ≡ 1024) }
-    ensures by_index { (lines : List (List ℕ)) (cells : List ℕ)
+    ensures answer { (lines : List (List ℕ)) (cells : List ℕ)
         → Held (view (puzzle_with (sized h w) lines) cells) kinds.now owners.now
         → Sizes kinds.now owners.now (h * w) sizes.now → SquaresOf kinds.now owners.now (h * w) squares.now f → get_or kinds.now f 0 ≡ 1
         → result ≡ length (reach (view (puzzle_with (sized h w) lines) cells) f) }

@@ -17,7 +17,7 @@ use literals::Finding;
 use record::Answer;
 
 // The number that open returns, with the board as it leaves it.
-#[derive(Drop)]
+#[derive(Clone, Copy)]
 pub struct Kept {
     pub number: i32,
     pub board: Board,

@@ -14,7 +14,7 @@ use exported::{counted, negated, write_numbers};
 use record::Answer;
 
 // The answer to a record, with the sizes of its grid where it is accepted.
-#[derive(Drop)]
+#[derive(Clone, Copy)]
 struct Measured {
     answer: Answer,
     height: usize,

@@ -39,7 +39,7 @@ pub fn mark_name(tags: &[u8; 1024], tag: u8, names: &[u16; 1024], j: usize, mark
 const UNNAMED: u16 = 1025;
 
 // The arrow blocks that a cell touches.
-#[derive(Drop)]
+#[derive(Clone, Copy)]
 enum Owner {
     Nobody,
     One(u16),
@@ -217,8 +217,8 @@ fn compute_cell_kinds(
 // Names the floating group of cell i, unless that is none or has a name, and goes on to the neighbours in turn.
 fn traverse_grid(owners: &mut [u16; 1024], h: usize, w: usize, i: usize, name: u16)
     requires { Walkable h w i name }
-    ensures by_index { (p : ℕ → Bool) → Only p owners.old → Walked (sized h w) p i name owners.old owners.new }
-    ensures owners_bound { free owners.new ≤ free owners.old }
+    ensures walked { (p : ℕ → Bool) → Only p owners.old → Walked (sized h w) p i name owners.old owners.new }
+    ensures fewer_free { free owners.new ≤ free owners.old }
 {
     if owners[i] != UNNAMED {
         return;

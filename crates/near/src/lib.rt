@@ -131,8 +131,8 @@ pub fn near_floats(
     groups: &mut [u16; 1024],
 ) -> usize
     requires limits { Limits h w × Chains owners.now head.now next.now (h * w) }
-    requires f_bound { (f < 1024) × (length groups.old ≡ 1024) }
-    ensures by_index { (arrows : List (List ℕ)) (cells : List ℕ)
+    requires name_and_room { (f < 1024) × (length groups.old ≡ 1024) }
+    ensures answer { (arrows : List (List ℕ)) (cells : List ℕ)
         → Held (view (puzzle_with (sized h w) arrows) cells) kinds.now owners.now
         → NearFloats (view (puzzle_with (sized h w) arrows) cells) f near.new groups.new result }
     ensures names { Names groups.new result }

@@ -51,7 +51,7 @@ fn check_shift(
 ) -> Finding
     requires { Fit h w buffer.old × Squares h w cells.now arrows.now kinds.now owners.now last cur
         × Chains owners.now head.now next.now (h * w) × Blocks kinds.now owners.now (h * w) squares.now × Work groups.old rows.old columns.old }
-    ensures by_index { (lines : List (List ℕ))
+    ensures answer { (lines : List (List ℕ))
         → Scene h w lines cells.now arrows.now kinds.now owners.now last (cur + 1)
         → FoundAs (reason3_at (view_on h w lines cells.now) (pair_at arrows.now last cur)) buffer.old buffer.new result }
     ensures work { Work groups.new rows.new columns.new }
@@ -93,7 +93,7 @@ fn check_pair(
 ) -> Finding
     requires { Fit h w buffer.old × Squares h w cells.now arrows.now kinds.now owners.now last cur
         × Grouped kinds.now owners.now head.now next.now sizes.now squares.now (h * w) × Work groups.old rows.old columns.old }
-    ensures by_index { (lines : List (List ℕ))
+    ensures answer { (lines : List (List ℕ))
         → Scene h w lines cells.now arrows.now kinds.now owners.now last (cur + 1)
         → FoundAs (reason_at stage (view_on h w lines cells.now) (pair_at arrows.now last cur)) buffer.old buffer.new result }
     ensures work { Work groups.new rows.new columns.new }
@@ -144,7 +144,7 @@ fn search_arrow(
 ) -> Finding
     requires { Fit h w buffer.old × Line h w cells.now arrows.now kinds.now owners.now from to
         × Grouped kinds.now owners.now head.now next.now sizes.now squares.now (h * w) × Work groups.old rows.old columns.old }
-    ensures by_index { (lines : List (List ℕ))
+    ensures answer { (lines : List (List ℕ))
         → Scene h w lines cells.now arrows.now kinds.now owners.now from to
         → FoundAs (first_found_of (reason_at stage (view_on h w lines cells.now)) (pairs (take (h * w) cells.now) (slice from to arrows.now))) buffer.old buffer.new result }
     ensures work { Work groups.new rows.new columns.new }

@@ -18,7 +18,7 @@ use literals::Finding;
 use units::Name;
 
 // The first two arrow cells of a block that has two or more.
-#[derive(Drop)]
+#[derive(Clone, Copy)]
 pub enum Ends {
     Between(usize, usize),
     Nowhere,
@@ -122,7 +122,7 @@ fn reason_for_path(
 ) -> usize
     requires { PathEnds h w (take (h * w) cells.now) a b × (length order.old ≡ 1024) × (length from.old ≡ 1024) × (h * w ≤ length buffer.old) }
     ensures wrote { Wrote (each 1 (way (sized h w) (take (h * w) cells.now) a b)) buffer.old buffer.new result }
-    ensures order_len { (length order.new ≡ 1024) × (length from.new ≡ 1024) }
+    ensures lengths { (length order.new ≡ 1024) × (length from.new ≡ 1024) }
 {
     breadth_first(cells, h, w, b, from, order);
     let mut cell = a;

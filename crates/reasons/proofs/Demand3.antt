@@ -68,7 +68,7 @@ module _ (l : Leaf) (v : ValidLeaf l) (ns : List ℕ) {ds : List Literal} (s : S
   -- and so is the reason that applies
   pub reason_on_lem : reason_on (board_of l ds ns) ≡ find_on l ds
   unfolding reason_on find_on
-  reason_on_lem = rw (cells_on_lem, board_leaf l v ds ns) refl
+  reason_on_lem = let a = cells_on_lem in let b = board_leaf l v ds ns in cc
 
 module _ (l : Leaf) (v : ValidLeaf l) {ns : List ℕ} (low : Counts ns) {ds : List Literal} (s : Standing l.puzzle.grid ds) where
   -- a player above 3 is refused, whatever the buffer

@@ -22,7 +22,6 @@ use Rattle.groups.specs.Groups.{labels, group, names, Labels}
 use Rattle.groups.specs.Arrows.{on_arrow}
 use Rattle.groups.proofs.ArrowLaws.{So-arrow}
 use Rattle.kinds.proofs.Bridge.{sq<, un<}
-use Rattle.kinds.specs.Kinds.{has}
 use Rattle.kinds.specs.Meaning.{PartialBoard, Setting, partial_of}
 use Rattle.kinds.proofs.Confine.{lonely}
 use Rattle.reasons.proofs.First.{reason_if-some, first_some, Agrees-left, Agrees-right, Agrees-each}

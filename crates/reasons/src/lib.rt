@@ -11,7 +11,7 @@ use board::Board;
 use literals::Finding;
 
 // The answer of `find`, with the board as find leaves it.
-#[derive(Drop)]
+#[derive(Clone, Copy)]
 pub struct Asked {
     pub finding: Finding,
     pub board: Board,

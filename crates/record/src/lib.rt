@@ -26,14 +26,14 @@ pub struct Problem {
 }
 
 // The answer to a call that can be refused, with the number of document 01's table.
-#[derive(Drop)]
+#[derive(Clone, Copy)]
 pub enum Answer {
     Done,
     Refused(u8),
 }
 
 // The answer of `read` and of `read_head`, with the problem where it is Done, and a blank one of no cells where it is not.
-#[derive(Drop)]
+#[derive(Clone, Copy)]
 pub struct Reading {
     pub answer: Answer,
     pub problem: Problem,

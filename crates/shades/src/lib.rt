@@ -14,7 +14,7 @@ const NO_GROUP: u16 = 1024;
 
 // The answer of `shades`. Two numbers for each cell of the grid in row order, the first cell of its block and the block's count of
 // squares, with 0 behind them; all are 0 where the answer is a refusal.
-#[derive(Drop)]
+#[derive(Clone, Copy)]
 pub struct Shaded {
     pub answer: Answer,
     pub shades: [u16; 2048],

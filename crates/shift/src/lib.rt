@@ -234,7 +234,7 @@ pub fn shift_fits(
 ) -> bool
     requires { Limits h w × Chains owners.now head.now next.now (h * w)
         × (f < h * w) × (e < 1024) × Work groups.old rows.old columns.old × SquaresOf kinds.now owners.now (h * w) squares.now f }
-    ensures by_index { (lines : List (List ℕ)) (cells : List ℕ)
+    ensures answer { (lines : List (List ℕ)) (cells : List ℕ)
         → Held (view (puzzle_with (sized h w) lines) cells) kinds.now owners.now → get_or kinds.now e 0 ≡ 1
         → result ≡ shift_fits (view (puzzle_with (sized h w) lines) cells) f e }
     ensures work { Work groups.new rows.new columns.new }

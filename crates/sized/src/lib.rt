@@ -11,7 +11,7 @@ ghost use Rattle.sized.specs.Inside.{Measured, reason5_in, Board, SizedBoard};
 use literals::Finding;
 
 // A block against the sizes of its cell: it may come to lie within them, its reach is too small, or it is too large.
-#[derive(Drop)]
+#[derive(Clone, Copy)]
 enum Measure {
     Within,
     Low,
@@ -51,7 +51,7 @@ fn check_size(
 ) -> Finding
     requires { Fit h w buffer.old × SizedBoard h w lowest.now highest.now cells.now kinds.now owners.now × (i < length lowest.now)
         × Grouped kinds.now owners.now head.now next.now sizes.now squares.now (h * w) × (length groups.old ≡ 1024) }
-    ensures by_index { (lines : List (List ℕ)) → Board h w lines lowest.now highest.now cells.now kinds.now owners.now
+    ensures answer { (lines : List (List ℕ)) → Board h w lines lowest.now highest.now cells.now kinds.now owners.now
         → FoundAs (reason5_in (view_on h w lines cells.now) lowest.now highest.now i) buffer.old buffer.new result }
     ensures groups_len { length groups.new ≡ 1024 }
 {

@@ -91,7 +91,7 @@ fn write_literals(out: &mut [u8], at: usize, found: &[u8], count: usize) -> usiz
 }
 
 // What the host call says by the number that it returns.
-#[derive(Drop)]
+#[derive(Clone, Copy)]
 pub enum Told {
     Refused(usize),
     Nothing,

@@ -16,7 +16,7 @@ use grid::Side;
 use literals::Finding;
 
 // The name of a group, which is its first cell.
-#[derive(Drop)]
+#[derive(Clone, Copy)]
 pub enum Name {
     At(usize),
     Nobody,

@@ -1,6 +1,6 @@
 -- `board::place_all` meets its contract: what is left of the bytes makes of the board what the whole makes of the first.
 -- Assumes nothing.
-use Prim.Native.Nat.{◌+◌, ◌*◌, ◌<◌, ◌-◌}
+use Prim.Native.Nat.{◌+◌, ◌*◌, ◌<◌}
 use native.Mathlib.Omega.{arith}
 use mathlib.Core.Path.{◌≡◌, ap, ◌∙◌}
 use mathlib.Core.Bool.{true}

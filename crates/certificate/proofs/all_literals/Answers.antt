@@ -1,6 +1,5 @@
 -- `certificate::all_literals` meets its contract.
 -- Assumes nothing.
-use Prim.Native.Nat.{◌-◌}
 use mathlib.Core.Path.{◌∙◌}
 use Rattle.certificate.specs.Certificate.{words_of}
 use Rattle.certificate.proofs.Heads.{heads_no, heads_turn, heads_end}

@@ -1,6 +1,5 @@
 -- `certificate::assume` meets its contract.
 -- Assumes nothing.
-use Prim.Native.Nat.{◌-◌}
 use mathlib.Core.Path.{◌∙◌}
 use lib.ListN.{length-set}
 use Rattle.certificate.specs.Certificate.{words_of}

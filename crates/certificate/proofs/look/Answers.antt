@@ -1,6 +1,5 @@
 -- `certificate::look` meets its contract: what is left of the clause makes of what was left what the whole makes of nothing.
 -- Assumes nothing.
-use Prim.Native.Nat.{◌-◌}
 use mathlib.Core.Path.{◌∙◌}
 use Rattle.certificate.specs.Certificate.{words_of}
 use Rattle.certificate.proofs.Looks.{look_turn, look_end}

@@ -1,6 +1,5 @@
 -- `clauses::write_arrow` meets its contract.
 -- Assumes nothing.
-use Prim.Native.Nat.{◌-◌}
 use native.Mathlib.Omega.{arith}
 use Rattle.clauses.proofs.AppendLaws.{Appends-start, Appends-more}
 use Rattle.clauses.specs.Inside.{clause_piece}

@@ -1,6 +1,5 @@
 -- `clauses::write_between` meets its contract.
 -- Assumes nothing.
-use Prim.Native.Nat.{◌-◌}
 use native.Mathlib.Omega.{arith}
 use Rattle.grid.specs.Side.{sized}
 use Rattle.clauses.proofs.AppendLaws.{Appends-start, Appends-more}

@@ -1,6 +1,5 @@
 -- `clauses::write_given` meets its contract.
 -- Assumes nothing.
-use Prim.Native.Nat.{◌-◌}
 use native.Mathlib.Omega.{arith}
 use Rattle.clauses.specs.Inside.{given_piece}
 use Rattle.clauses.proofs.AppendLaws.{Appends-start, Appends-more}

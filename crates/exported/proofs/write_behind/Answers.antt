@@ -1,6 +1,5 @@
 -- `exported::write_behind` meets its contract: the bytes passed stand behind the place, and behind them nothing changed.
 -- Assumes nothing.
-use Prim.Native.Nat.{◌-◌}
 use native.Mathlib.Omega.{arith}
 use borrow.Author.Rules.{rules}
 use Rattle.exported.proofs.BehindLaws.{behind_next}

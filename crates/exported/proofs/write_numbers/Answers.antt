@@ -1,6 +1,5 @@
 -- `exported::write_numbers` meets its contract: the numbers passed stand as bytes, and behind them nothing changed.
 -- Assumes nothing.
-use Prim.Native.Nat.{◌-◌}
 use native.Mathlib.Omega.{arith}
 use borrow.Author.Rules.{rules}
 use Rattle.exported.proofs.OutputLaws.{write_next, written_none}

@@ -1,6 +1,5 @@
 -- `fence::insert_block` meets its contract: the block's cells among those passed are inserted.
 -- Assumes nothing.
-use Prim.Native.Nat.{◌-◌}
 use native.Mathlib.Omega.{arith}
 use Rattle.fence.proofs.Ordering.{ordered_room}
 use Rattle.fence.proofs.Fences.{block_more, block_all}

@@ -1,6 +1,6 @@
 -- `fence::insert_disturbing_blocks` meets its contract: the other arrow blocks of the neighbours in the directions passed are inserted.
 -- Assumes nothing.
-use Prim.Native.Nat.{◌-◌, ◌*◌}
+use Prim.Native.Nat.{◌*◌}
 use native.Mathlib.Omega.{arith}
 use Rattle.grid.specs.Side.{sized}
 use Rattle.grid.proofs.AroundLaws.{side_cell, side_at, side_off, sides_none, sides_all}

@@ -1,6 +1,6 @@
 -- `fence::reason_for_adjacent_floating_boundary` meets its contract: what the cells passed bring into the fence is inserted.
 -- Assumes nothing.
-use Prim.Native.Nat.{◌-◌, ◌*◌}
+use Prim.Native.Nat.{◌*◌}
 use mathlib.Core.Path.{◌≡◌}
 use native.Mathlib.Omega.{arith}
 use Rattle.grid.proofs.SideLaws.{area}

@@ -1,7 +1,5 @@
 -- `fence::touches_marked` meets its contract: no neighbour in the directions passed is marked.
 -- Assumes nothing.
-use Prim.Native.Nat.{◌-◌}
-use mathlib.Core.Bool.{false}
 use native.Mathlib.Omega.{arith}
 use Rattle.grid.specs.Side.{sized}
 use Rattle.grid.proofs.SideLaws.{cell_small}

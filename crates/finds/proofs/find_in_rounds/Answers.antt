@@ -1,7 +1,6 @@
 -- `finds::find_in_rounds` meets its contract: a find in a buffer that a find has left answers and leaves the same. The rounds run out.
 -- Assumes nothing.
 use borrow.Author.Rules.{rules}
-use Prim.Native.Nat.{◌-◌}
 use lib.ListN.{length}
 use mathlib.Core.Path.{◌≡◌, sym, ap, ◌∙◌}
 use Rattle.reasons.specs.Find.{find_of, buffer_after}

@@ -1,6 +1,5 @@
 -- `finished::squares_on` meets its contract: the squares counted so far and those from k on are all of them.
 -- Assumes nothing.
-use Prim.Native.Nat.{◌-◌}
 use native.Mathlib.Omega.{arith}
 use mathlib.Core.Path.{◌≡◌}
 use lib.ListN.{get_or}

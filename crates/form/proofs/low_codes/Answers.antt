@@ -1,6 +1,6 @@
 -- `form::low_codes` meets its contract: `good` says of the places passed that each holds a code below 3.
 -- Assumes nothing.
-use Prim.Native.Nat.{◌<◌, ◌-◌}
+use Prim.Native.Nat.{◌<◌}
 use native.Mathlib.Omega.{arith}
 use mathlib.Core.Path.{◌≡◌, ◌∙◌, ap}
 use borrow.Author.Tests.{lt-ltb, le-ltb}

@@ -1,6 +1,5 @@
 -- `form::mark_rows` meets its contract: the rows passed are marked.
 -- Assumes nothing.
-use Prim.Native.Nat.{◌-◌}
 use native.Mathlib.Omega.{arith}
 use Rattle.form.proofs.Marking.{Rows-more}
 use Rattle.form.proofs.mark_rows.Goals as goal

@@ -1,6 +1,6 @@
 -- `form::zeros` meets its contract: `good` says of the places passed that 0 stands at each.
 -- Assumes nothing.
-use Prim.Native.Nat.{◌<◌, ◌-◌}
+use Prim.Native.Nat.{◌<◌}
 use native.Mathlib.Omega.{arith}
 use mathlib.Core.Path.{refl, sym}
 use borrow.Author.Tests.{eq-eqb, ne_eqb}

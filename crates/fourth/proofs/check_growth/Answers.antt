@@ -28,8 +28,8 @@ overflow_add-block_size c =
     let small : c.args.h * c.args.w ≤ 1024 = area c.args.h c.args.w c.requires.0.tall c.requires.0.wide in
     omega (arith, c.block_size.ensures c.args.kinds.now c.args.owners.now (c.args.h * c.args.w) c.requires.2.blocks last-kind, in_few c.args.kinds.now c.args.owners.now (get_or c.args.owners.now (get_or c.args.arrows.now c.args.last 0) 0) (c.args.h * c.args.w), small)
 
-pub returns-then-block_size-reach-clause-by_index : goal.returns-then-block_size-reach-clause-by_index
-returns-then-block_size-reach-clause-by_index c =
+pub returns-then-block_size-reach-clause-answer : goal.returns-then-block_size-reach-clause-answer
+returns-then-block_size-reach-clause-answer c =
     let last-kind : get_or c.args.kinds.now (get_or c.args.owners.now (get_or c.args.arrows.now c.args.last 0) 0) 0 ≡ 1 = let p = c.requires.1 in
     scene_kind p.line.scene c.args.last (omega arith) (omega (arith, p.order)) p.first in
     let small : c.args.h * c.args.w ≤ 1024 = area c.args.h c.args.w c.requires.0.tall c.requires.0.wide in
@@ -39,13 +39,13 @@ returns-then-block_size-reach-clause-by_index c =
       arith,
       c.if-block_size-reach.true,
       size ∙ ap length (block_in_lem c.args.h c.args.w lines c.args.cells.now k.held (get_or c.args.owners.now (get_or c.args.arrows.now c.args.last 0) 0)),
-      c.count_reach-reach.ensures.by_index lines (take (c.args.h * c.args.w) c.args.cells.now) k.held c.requires.2.counts
+      c.count_reach-reach.ensures.answer lines (take (c.args.h * c.args.w) c.args.cells.now) k.held c.requires.2.counts
           (c.requires.2.blocks _ (omega (arith, cur_name c.requires.1, small)) (scene_kind k c.args.cur (omega (arith, p.order)) (omega arith) p.second))
           (scene_kind k c.args.cur (omega (arith, p.order)) (omega arith) p.second),
     )))
 
-pub returns-clause-by_index : goal.returns-clause-by_index
-returns-clause-by_index c =
+pub returns-clause-answer : goal.returns-clause-answer
+returns-clause-answer c =
     let last-kind : get_or c.args.kinds.now (get_or c.args.owners.now (get_or c.args.arrows.now c.args.last 0) 0) 0 ≡ 1 = let p = c.requires.1 in
     scene_kind p.line.scene c.args.last (omega arith) (omega (arith, p.order)) p.first in
     let small : c.args.h * c.args.w ≤ 1024 = area c.args.h c.args.w c.requires.0.tall c.requires.0.wide in
@@ -55,7 +55,7 @@ returns-clause-by_index c =
       arith,
       c.if-block_size-reach.false,
       size ∙ ap length (block_in_lem c.args.h c.args.w lines c.args.cells.now k.held (get_or c.args.owners.now (get_or c.args.arrows.now c.args.last 0) 0)),
-      c.count_reach-reach.ensures.by_index lines (take (c.args.h * c.args.w) c.args.cells.now) k.held c.requires.2.counts
+      c.count_reach-reach.ensures.answer lines (take (c.args.h * c.args.w) c.args.cells.now) k.held c.requires.2.counts
           (c.requires.2.blocks _ (omega (arith, cur_name c.requires.1, small)) (scene_kind k c.args.cur (omega (arith, p.order)) (omega arith) p.second))
           (scene_kind k c.args.cur (omega (arith, p.order)) (omega arith) p.second),
     ))

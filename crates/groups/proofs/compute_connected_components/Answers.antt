@@ -1,6 +1,6 @@
 -- `groups::compute_connected_components` meets its contract. The loop's invariant: every group with a cell below s is labelled, and each that has its first cell there is in the table.
 -- Assumes nothing.
-use Prim.Native.Nat.{ℕ, ◌≤◌, ◌<◌, ◌-◌, ◌*◌}
+use Prim.Native.Nat.{ℕ, ◌≤◌, ◌<◌, ◌*◌}
 use native.Mathlib.Omega.{arith}
 use mathlib.Core.Path.{◌≡◌, ◌∙◌}
 use mathlib.Core.Bool.{Bool}
@@ -54,8 +54,8 @@ loop-s-preserved c =
     let cells = c.args.cells.now in
     unused (sized c.args.h c.args.w) (fits (goal.at.loop-s-preserved c).Start) (counts_below b cells (c.args.h * c.args.w)) (marked b cells c.mark_check_cells.ensures) (small (goal.at.loop-s-preserved c).In-loop-s) c.loop-s.invariant.2 in
     let v = c.loop-s.invariant in
-    let W = c.flood.ensures.by_index _ v.2.only in
-    let r = c.flood.ensures.stack_len in
+    let W = c.flood.ensures.walked _ v.2.only in
+    let r = c.flood.ensures.counted in
     let f = c.keep_first-number.ensures in (
       omega (arith, c.loop-s-test.true),
       r.0,

@@ -28,7 +28,7 @@ floods : (c : After-way_told-2-1) (p : ℕ → Bool) → Only p c.args.labels.no
 floods c p only =
     let fits : c.args.h * c.args.w ≤ 1024 = area c.args.h c.args.w c.requires.in_grid.0.tall c.requires.in_grid.0.wide in
     let small : c.args.s < 1024 = omega (arith, c.requires.in_grid.0.within, fits) in
-    c.loop-count.invariant.keeps p c.args.labels.now (flood_starts (small) c.requires.labels_len c.offer-count.ensures only)
+    c.loop-count.invariant.keeps p c.args.labels.now (flood_starts (small) c.requires.lengths c.offer-count.ensures only)
 
 top : (c : After-wide-i) → get_or c.loop-count.stack (c.loop-count.count - 1) 0 < c.args.h * c.args.w
 unfolding size
@@ -36,31 +36,31 @@ top c =
     let fits : c.args.h * c.args.w ≤ 1024 = area c.args.h c.args.w c.requires.in_grid.0.tall c.requires.in_grid.0.wide in
     let small : c.args.s < 1024 = omega (arith, c.requires.in_grid.0.within, fits) in
     let floods : (p : ℕ → Bool) → Only p c.args.labels.now
-    → Flooding (sized c.args.h c.args.w) p c.args.s c.args.labels.now 1024 c.loop-count.labels c.loop-count.stack c.loop-count.count = λ p only. c.loop-count.invariant.keeps p c.args.labels.now (flood_starts (small) c.requires.labels_len c.offer-count.ensures only) in
+    → Flooding (sized c.args.h c.args.w) p c.args.s c.args.labels.now 1024 c.loop-count.labels c.loop-count.stack c.loop-count.count = λ p only. c.loop-count.invariant.keeps p c.args.labels.now (flood_starts (small) c.requires.lengths c.offer-count.ensures only) in
     linked_size (sized c.args.h c.args.w) (λ _. true) c.requires.in_grid.0.within ((floods (λ _. true) (λ _ _. refl)).waiting (c.loop-count.count - 1) (omega (arith, c.loop-count-test.true)))
 
-pub returns-then-labels-s-ne-UNLABELLED-clause-stack_len : goal.returns-then-labels-s-ne-UNLABELLED-clause-stack_len
-returns-then-labels-s-ne-UNLABELLED-clause-stack_len c =
+pub returns-then-labels-s-ne-UNLABELLED-clause-counted : goal.returns-then-labels-s-ne-UNLABELLED-clause-counted
+returns-then-labels-s-ne-UNLABELLED-clause-counted c =
     let fits : c.args.h * c.args.w ≤ 1024 = area c.args.h c.args.w c.requires.in_grid.0.tall c.requires.in_grid.0.wide in
     let small : c.args.s < 1024 = omega (arith, c.requires.in_grid.0.within, fits) in
-    (c.requires.labels_len.1, ap (set c.args.squares.now c.args.s) (labelled_none c.args.s (marked c.args.cells.now) c.args.labels.now c.requires.in_grid.1), ap (set c.args.arrowed.now c.args.s) (labelled_none c.args.s (marked c.args.onarrow.now) c.args.labels.now c.requires.in_grid.1))
+    (c.requires.lengths.1, ap (set c.args.squares.now c.args.s) (labelled_none c.args.s (marked c.args.cells.now) c.args.labels.now c.requires.in_grid.1), ap (set c.args.arrowed.now c.args.s) (labelled_none c.args.s (marked c.args.onarrow.now) c.args.labels.now c.requires.in_grid.1))
 
 pub offer-count-requires : goal.offer-count-requires
 offer-count-requires c =
     let fits : c.args.h * c.args.w ≤ 1024 = area c.args.h c.args.w c.requires.in_grid.0.tall c.requires.in_grid.0.wide in
     let small : c.args.s < 1024 = omega (arith, c.requires.in_grid.0.within, fits) in
-    record { cell = small; seed = small; room = omega (arith, how_many-le unlabelled c.args.labels.now, c.requires.labels_len.0) }
+    record { cell = small; seed = small; room = omega (arith, how_many-le unlabelled c.args.labels.now, c.requires.lengths.0) }
 
 pub loop-count-init : goal.loop-count-init
 loop-count-init c =
     let fits : c.args.h * c.args.w ≤ 1024 = area c.args.h c.args.w c.requires.in_grid.0.tall c.requires.in_grid.0.wide in
     let small : c.args.s < 1024 = omega (arith, c.requires.in_grid.0.within, fits) in
-    let empty : 0 + free c.args.labels.now ≤ 1024 = omega (arith, how_many-le unlabelled c.args.labels.now, c.requires.labels_len.0) in
+    let empty : 0 + free c.args.labels.now ≤ 1024 = omega (arith, how_many-le unlabelled c.args.labels.now, c.requires.lengths.0) in
     record {
       keeps = λ p L₀ F. F;
       stays = λ h. h;
-      squares = Offered-counts c.args.s (marked c.args.cells.now) small empty c.offer-count.ensures (Counting-none c.args.s (marked c.args.cells.now) c.requires.labels_len.0 c.requires.labels_len.1 c.requires.in_grid.1);
-      crossings = Offered-counts c.args.s (marked c.args.onarrow.now) small empty c.offer-count.ensures (Counting-none c.args.s (marked c.args.onarrow.now) c.requires.labels_len.0 c.requires.labels_len.1 c.requires.in_grid.1);
+      squares = Offered-counts c.args.s (marked c.args.cells.now) small empty c.offer-count.ensures (Counting-none c.args.s (marked c.args.cells.now) c.requires.lengths.0 c.requires.lengths.1 c.requires.in_grid.1);
+      crossings = Offered-counts c.args.s (marked c.args.onarrow.now) small empty c.offer-count.ensures (Counting-none c.args.s (marked c.args.onarrow.now) c.requires.lengths.0 c.requires.lengths.1 c.requires.in_grid.1);
     }
 
 pub offset_bounds-stack-count : goal.offset_bounds-stack-count
@@ -68,7 +68,7 @@ offset_bounds-stack-count c =
     let fits : c.args.h * c.args.w ≤ 1024 = area c.args.h c.args.w c.requires.in_grid.0.tall c.requires.in_grid.0.wide in
     let small : c.args.s < 1024 = omega (arith, c.requires.in_grid.0.within, fits) in
     let floods : (p : ℕ → Bool) → Only p c.args.labels.now
-    → Flooding (sized c.args.h c.args.w) p c.args.s c.args.labels.now 1024 c.loop-count.labels c.loop-count.stack c.loop-count.count = λ p only. c.loop-count.invariant.keeps p c.args.labels.now (flood_starts small c.requires.labels_len c.offer-count.ensures only) in
+    → Flooding (sized c.args.h c.args.w) p c.args.s c.args.labels.now 1024 c.loop-count.labels c.loop-count.stack c.loop-count.count = λ p only. c.loop-count.invariant.keeps p c.args.labels.now (flood_starts small c.requires.lengths c.offer-count.ensures only) in
     let room : c.loop-count.count ≤ 1024 = omega (arith, (floods (λ _. true) (λ _ _. refl)).room) in
     omega (arith, room)
 
@@ -77,7 +77,7 @@ bounds-stack-count c =
     let fits : c.args.h * c.args.w ≤ 1024 = area c.args.h c.args.w c.requires.in_grid.0.tall c.requires.in_grid.0.wide in
     let small : c.args.s < 1024 = omega (arith, c.requires.in_grid.0.within, fits) in
     let floods : (p : ℕ → Bool) → Only p c.args.labels.now
-    → Flooding (sized c.args.h c.args.w) p c.args.s c.args.labels.now 1024 c.loop-count.labels c.loop-count.stack c.loop-count.count = λ p only. c.loop-count.invariant.keeps p c.args.labels.now (flood_starts small c.requires.labels_len c.offer-count.ensures only) in
+    → Flooding (sized c.args.h c.args.w) p c.args.s c.args.labels.now 1024 c.loop-count.labels c.loop-count.stack c.loop-count.count = λ p only. c.loop-count.invariant.keeps p c.args.labels.now (flood_starts small c.requires.lengths c.offer-count.ensures only) in
     let room : c.loop-count.count ≤ 1024 = omega (arith, (floods (λ _. true) (λ _ _. refl)).room) in
     omega (arith, room)
 
@@ -86,7 +86,7 @@ unfolding size
 bounds-cells-i c =
     let small : c.args.s < 1024 = omega (arith, c.requires.in_grid.0.within, (fits (goal.at.bounds-cells-i c).Else-labels-s-ne-UNLABELLED)) in
     let floods : (p : ℕ → Bool) → Only p c.args.labels.now
-    → Flooding (sized c.args.h c.args.w) p c.args.s c.args.labels.now 1024 c.loop-count.labels c.loop-count.stack c.loop-count.count = λ p only. c.loop-count.invariant.keeps p c.args.labels.now (flood_starts small c.requires.labels_len c.offer-count.ensures only) in
+    → Flooding (sized c.args.h c.args.w) p c.args.s c.args.labels.now 1024 c.loop-count.labels c.loop-count.stack c.loop-count.count = λ p only. c.loop-count.invariant.keeps p c.args.labels.now (flood_starts small c.requires.lengths c.offer-count.ensures only) in
     let top : get_or c.loop-count.stack (c.loop-count.count - 1) 0 < c.args.h * c.args.w = linked_size (sized c.args.h c.args.w) (λ _. true) c.requires.in_grid.0.within ((floods (λ _. true) (λ _ _. refl)).waiting (c.loop-count.count - 1) (omega (arith, c.loop-count-test.true))) in
     omega (arith, c.wide-i.ensures.0, top, (fits (goal.at.bounds-cells-i c).Else-labels-s-ne-UNLABELLED))
 
@@ -106,7 +106,7 @@ spread-count-requires c =
     let fits : c.args.h * c.args.w ≤ 1024 = area c.args.h c.args.w c.requires.in_grid.0.tall c.requires.in_grid.0.wide in
     let small : c.args.s < 1024 = omega (arith, c.requires.in_grid.0.within, fits) in
     let floods : (p : ℕ → Bool) → Only p c.args.labels.now
-    → Flooding (sized c.args.h c.args.w) p c.args.s c.args.labels.now 1024 c.loop-count.labels c.loop-count.stack c.loop-count.count = λ p only. c.loop-count.invariant.keeps p c.args.labels.now (flood_starts small c.requires.labels_len c.offer-count.ensures only) in
+    → Flooding (sized c.args.h c.args.w) p c.args.s c.args.labels.now 1024 c.loop-count.labels c.loop-count.stack c.loop-count.count = λ p only. c.loop-count.invariant.keeps p c.args.labels.now (flood_starts small c.requires.lengths c.offer-count.ensures only) in
     let F = floods (λ _. true) (λ _ _. refl) in
     record {
       tall = c.requires.in_grid.0.tall;
@@ -126,7 +126,7 @@ loop-count-preserved c =
     let fits : c.args.h * c.args.w ≤ 1024 = area c.args.h c.args.w c.requires.in_grid.0.tall c.requires.in_grid.0.wide in
     let small : c.args.s < 1024 = omega (arith, c.requires.in_grid.0.within, fits) in
     let floods : (p : ℕ → Bool) → Only p c.args.labels.now
-    → Flooding (sized c.args.h c.args.w) p c.args.s c.args.labels.now 1024 c.loop-count.labels c.loop-count.stack c.loop-count.count = λ p only. c.loop-count.invariant.keeps p c.args.labels.now (flood_starts small c.requires.labels_len c.offer-count.ensures only) in
+    → Flooding (sized c.args.h c.args.w) p c.args.s c.args.labels.now 1024 c.loop-count.labels c.loop-count.stack c.loop-count.count = λ p only. c.loop-count.invariant.keeps p c.args.labels.now (flood_starts small c.requires.lengths c.offer-count.ensures only) in
     let room : c.loop-count.count ≤ 1024 = omega (arith, (floods (λ _. true) (λ _ _. refl)).room) in
     let A = c.loop-count.invariant in
     let S = c.spread-count.ensures (λ _. true) in
@@ -145,17 +145,17 @@ overflow_cast-squares c = omega (arith, Counting-few c.args.s (marked c.args.cel
 pub overflow_cast-arrowed : goal.overflow_cast-arrowed
 overflow_cast-arrowed c = omega (arith, Counting-few c.args.s (marked c.args.onarrow.now) c.loop-count.invariant.crossings)
 
-pub returns-clause-by_index : goal.returns-clause-by_index
+pub returns-clause-walked : goal.returns-clause-walked
 unfolding size
-returns-clause-by_index c =
-    let small : c.args.s < 1024 = omega (arith, c.requires.in_grid.0.within, (fits (goal.at.returns-clause-by_index c).Else-labels-s-ne-UNLABELLED)) in
+returns-clause-walked c =
+    let small : c.args.s < 1024 = omega (arith, c.requires.in_grid.0.within, (fits (goal.at.returns-clause-walked c).Else-labels-s-ne-UNLABELLED)) in
     let A = c.loop-count.invariant in
-    let none : c.loop-count.count ≡ 0 = omega (arith, c.loop-count-test.false) in λ p only. flood_ends (fits (goal.at.returns-clause-by_index c).Else-labels-s-ne-UNLABELLED) none ((floods (goal.at.returns-clause-by_index c).After-way_told-2-1) p only) (A.stays (Offered-labelled small c.offer-count.ensures))
+    let none : c.loop-count.count ≡ 0 = omega (arith, c.loop-count-test.false) in λ p only. flood_ends (fits (goal.at.returns-clause-walked c).Else-labels-s-ne-UNLABELLED) none ((floods (goal.at.returns-clause-walked c).After-way_told-2-1) p only) (A.stays (Offered-labelled small c.offer-count.ensures))
 
-pub returns-clause-stack_len : goal.returns-clause-stack_len
+pub returns-clause-counted : goal.returns-clause-counted
 unfolding size
-returns-clause-stack_len c =
-    let small : c.args.s < 1024 = omega (arith, c.requires.in_grid.0.within, (fits (goal.at.returns-clause-stack_len c).Else-labels-s-ne-UNLABELLED)) in
+returns-clause-counted c =
+    let small : c.args.s < 1024 = omega (arith, c.requires.in_grid.0.within, (fits (goal.at.returns-clause-counted c).Else-labels-s-ne-UNLABELLED)) in
     let A = c.loop-count.invariant in
     let none : c.loop-count.count ≡ 0 = omega (arith, c.loop-count-test.false) in (
       A.squares.stack_long,

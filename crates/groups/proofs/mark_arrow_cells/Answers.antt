@@ -1,6 +1,5 @@
 -- `groups::mark_arrow_cells` meets its contract: the cells passed are marked.
 -- Assumes nothing.
-use Prim.Native.Nat.{◌-◌}
 use native.Mathlib.Omega.{arith}
 use Rattle.grid.specs.Lists.{any, member}
 use Rattle.grid.proofs.MarkLaws.{Marks-none, Marks-next}

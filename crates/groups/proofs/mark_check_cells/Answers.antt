@@ -1,6 +1,5 @@
 -- `groups::mark_check_cells` meets its contract: the cells passed are told.
 -- Assumes nothing.
-use Prim.Native.Nat.{◌-◌}
 use native.Mathlib.Omega.{arith}
 use Rattle.groups.proofs.FloodLaws.{Marked-none}
 use Rattle.groups.proofs.mark_check_cells.Goals as goal

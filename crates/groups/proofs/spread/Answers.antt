@@ -1,6 +1,6 @@
 -- `groups::spread` meets its contract: the neighbours in the directions before k have been offered.
 -- Assumes nothing.
-use Prim.Native.Nat.{◌-◌, ◌/◌, ◌%◌}
+use Prim.Native.Nat.{◌/◌, ◌%◌}
 use mathlib.Core.Path.{◌≡◌}
 use mathlib.Core.Bool.{true}
 use native.Mathlib.Omega.{arith}
@@ -11,8 +11,8 @@ use Rattle.groups.proofs.spread.Goals as goal
 pub loop-k-init : goal.loop-k-init
 loop-k-init c = (λ p. Offers-none (omega (arith, c.requires.room)), omega arith)
 
-pub offer_toward-waiting-requires-clause-s_bound : goal.offer_toward-waiting-requires-clause-s_bound
-offer_toward-waiting-requires-clause-s_bound c =
+pub offer_toward-waiting-requires-clause-name_and_room : goal.offer_toward-waiting-requires-clause-name_and_room
+offer_toward-waiting-requires-clause-name_and_room c =
     let place : InPlace c.args.h c.args.w (c.wide-i.result / c.args.w) (c.wide-i.result % c.args.w) = top c.requires c.wide-i.ensures.0 in
     (c.requires.seed, (c.loop-k.invariant.0 (λ _. true)).room)
 

@@ -2,7 +2,7 @@
 -- Assumes nothing.
 use Rattle.growth.proofs.count_reach.Goals as goal
 
-pub returns-clause-by_index : goal.returns-clause-by_index
-returns-clause-by_index c =
+pub returns-clause-answer : goal.returns-clause-answer
+returns-clause-answer c =
     let a = c.args in
-    (λ lines cells held sizes own arrow. c.reach_size.ensures a.h a.w lines cells a.kinds.now a.owners.now _ c.requires.0 held sizes own (c.near_floats-count.ensures.by_index lines cells held) arrow)
+    (λ lines cells held sizes own arrow. c.reach_size.ensures a.h a.w lines cells a.kinds.now a.owners.now _ c.requires.0 held sizes own (c.near_floats-count.ensures.answer lines cells held) arrow)

@@ -1,6 +1,6 @@
 -- `join::append_ends` meets its contract: the first t ends stand behind the others.
 -- Assumes nothing.
-use Prim.Native.Nat.{ℕ, ◌+◌, ◌-◌}
+use Prim.Native.Nat.{ℕ, ◌+◌}
 use native.Mathlib.Omega.{arith}
 use mathlib.Core.Path.{ap}
 use Rattle.join.proofs.PieceLaws.{Behind-none, Behind-more}

@@ -1,6 +1,5 @@
 -- `join::append_line` meets its contract: the first t cells stand behind the others.
 -- Assumes nothing.
-use Prim.Native.Nat.{◌-◌}
 use native.Mathlib.Omega.{arith}
 use mathlib.Core.Path.{ap, ◌∙◌}
 use Rattle.join.specs.Join.{placed}

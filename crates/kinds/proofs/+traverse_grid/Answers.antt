@@ -4,7 +4,6 @@ use native.Mathlib.Omega.{arith}
 use lib.ListN.{set}
 use mathlib.Core.Path.{refl}
 use mathlib.Core.Bool.{true}
-use Prim.Native.Nat.{◌-◌}
 use Rattle.grid.specs.Side.{sized}
 use Rattle.groups.proofs.LabellingLaws.{set_still, Added-Only}
 use Rattle.grid.proofs.ArrayLaws.{fewer_set}
@@ -33,14 +32,14 @@ loop-k-preserved t c =
           let T = c.loop-k.invariant.1 p o only in
           elim c.match-side.branch [
             | in-At v ↦ side_at c.requires.cell c.loop-k.k c.toward-side.result c.toward-side.ensures (Turn (sized c.args.h c.args.w) p c.args.i c.args.name named c.match-side.owners) _ v.in-At.is
-                (rw v.owners-is (Turn-more c.requires.small o (side_Adjacent c.requires.cell c.loop-k.k c.toward-side.result c.toward-side.ensures _ v.in-At.is) (v.traverse_grid.ensures.by_index p (Added-Only T.added only)) v.traverse_grid.ensures.owners_bound T))
+                (rw v.owners-is (Turn-more c.requires.small o (side_Adjacent c.requires.cell c.loop-k.k c.toward-side.result c.toward-side.ensures _ v.in-At.is) (v.traverse_grid.ensures.walked p (Added-Only T.added only)) v.traverse_grid.ensures.fewer_free T))
             | in-Off v ↦ side_off c.requires.cell c.loop-k.k c.toward-side.result c.toward-side.ensures (Turn (sized c.args.h c.args.w) p c.args.i c.args.name named c.match-side.owners) v.in-Off.is
                 (rw v.owners-is T)
           ],
     )
 
-pub returns-clause-by_index : goal.returns-clause-by_index
-returns-clause-by_index t c =
+pub returns-clause-walked : goal.returns-clause-walked
+returns-clause-walked t c =
     let u = c.if-owners-i-ne-UNNAMED.false in
     let fall = fewer_set c.args.owners.now c.args.i c.args.name u (λ e. omega (arith, e, c.requires.small)) (omega arith) in λ p only.
     let o = only c.args.i u in
@@ -48,7 +47,7 @@ returns-clause-by_index t c =
     (sides_all (Turn (sized c.args.h c.args.w) p c.args.i c.args.name (set c.args.owners.now c.args.i c.args.name) c.loop-k.owners) (sized c.args.h c.args.w) c.args.i c.loop-k.k c.loop-k.invariant.0 c.loop-k-test.false
     (c.loop-k.invariant.1 p o (λ j x. only j (set_still c.args.owners.now c.args.i c.args.name u j x))))
 
-pub returns-clause-owners_bound : goal.returns-clause-owners_bound
-returns-clause-owners_bound t c =
+pub returns-clause-fewer_free : goal.returns-clause-fewer_free
+returns-clause-fewer_free t c =
     let u = c.if-owners-i-ne-UNNAMED.false in
     let fall = fewer_set c.args.owners.now c.args.i c.args.name u (λ e. omega (arith, e, c.requires.small)) (omega arith) in omega (arith, fall, (c.loop-k.invariant.1 (λ _. true) refl (λ _ _. refl)).fewer)

@@ -1,6 +1,6 @@
 -- `kinds::compute_cell_kinds` meets its contract: the kinds of the cells passed are written.
 -- Assumes nothing.
-use Prim.Native.Nat.{◌<◌, ◌-◌}
+use Prim.Native.Nat.{◌<◌}
 use mathlib.Core.Path.{◌∙◌}
 use native.Mathlib.Omega.{arith}
 use Rattle.grid.proofs.SideLaws.{area}

@@ -1,6 +1,6 @@
 -- `kinds::look_around` meets its contract: the arrow blocks of the neighbours in the directions passed are met.
 -- Assumes nothing.
-use Prim.Native.Nat.{ℕ, ◌-◌}
+use Prim.Native.Nat.{ℕ}
 use mathlib.Core.List.{List}
 use native.Mathlib.Omega.{arith}
 use Rattle.grid.specs.Side.{sized}

@@ -1,6 +1,6 @@
 -- `kinds::name_floating_groups` meets its contract: the floating groups of the cells passed are named.
 -- Assumes nothing.
-use Prim.Native.Nat.{◌<◌, ◌-◌, ◌*◌}
+use Prim.Native.Nat.{◌<◌, ◌*◌}
 use mathlib.Core.Path.{◌≡◌}
 use native.Mathlib.Omega.{arith}
 use Rattle.grid.proofs.SideLaws.{area}
@@ -16,7 +16,7 @@ loop-i-preserved c =
       λ p u.
           let S = c.loop-i.invariant.1 p u in
           let small : c.loop-i.i < 1024 = omega (arith, area c.args.h c.args.w c.requires.tall c.requires.wide, t) in
-          elim c.if-owners-i-eq-UNNAMED.branch [ then-owners-i-eq-UNNAMED v ↦ rw v.owners-is (Sofar-more S (v.traverse_grid.ensures.by_index p S.only)) | else-owners-i-eq-UNNAMED v ↦ rw v.owners-is (Sofar-more S (Walked-not small (λ _ e. v.if-owners-i-eq-UNNAMED.false e))) ],
+          elim c.if-owners-i-eq-UNNAMED.branch [ then-owners-i-eq-UNNAMED v ↦ rw v.owners-is (Sofar-more S (v.traverse_grid.ensures.walked p S.only)) | else-owners-i-eq-UNNAMED v ↦ rw v.owners-is (Sofar-more S (Walked-not small (λ _ e. v.if-owners-i-eq-UNNAMED.false e))) ],
     )
 
 pub returns : goal.returns

@@ -1,6 +1,5 @@
 -- `near::count_cells` meets its contract: the cells passed are counted.
 -- Assumes nothing.
-use Prim.Native.Nat.{◌-◌}
 use native.Mathlib.Omega.{arith}
 use Rattle.reach.proofs.NearLaws.{Sizes-none}
 use Rattle.near.proofs.count_cells.Goals as goal

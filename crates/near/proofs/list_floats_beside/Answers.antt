@@ -1,6 +1,5 @@
 -- `near::list_floats_beside` meets its contract: the floating groups in the directions before k are listed.
 -- Assumes nothing.
-use Prim.Native.Nat.{◌-◌}
 use native.Mathlib.Nat.{div-add-mod'}
 use native.Mathlib.Omega.{arith}
 use mathlib.Core.Path.{◌≡◌}

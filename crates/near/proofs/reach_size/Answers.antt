@@ -1,6 +1,5 @@
 -- `near::reach_size` meets its contract: the squares of f, its size and those of the groups passed are added.
 -- Assumes nothing.
-use Prim.Native.Nat.{◌-◌}
 use mathlib.Core.Path.{◌≡◌, ◌∙◌}
 use native.Mathlib.Omega.{arith}
 use lib.ListN.{get_or}

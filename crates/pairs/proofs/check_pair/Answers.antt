@@ -30,19 +30,19 @@ at_other k v p h e = rw (ne_eqb k 0 h, ne_eqb k 1 e) (or-none (reason4a_at v p))
     or-none none = refl
     or-none (some r) = refl
 
-pub returns-then-stage-eq0-clause-by_index : goal.returns-then-stage-eq0-clause-by_index
-returns-then-stage-eq0-clause-by_index c = (λ lines k. rw (at-0 c.args.stage (let a = c.args in view_on a.h a.w lines a.cells.now) (let a = c.args in pair_at a.arrows.now a.last a.cur) c.if-stage-eq0.true) (c.check_shift.ensures.by_index lines k))
+pub returns-then-stage-eq0-clause-answer : goal.returns-then-stage-eq0-clause-answer
+returns-then-stage-eq0-clause-answer c = (λ lines k. rw (at-0 c.args.stage (let a = c.args in view_on a.h a.w lines a.cells.now) (let a = c.args in pair_at a.arrows.now a.last a.cur) c.if-stage-eq0.true) (c.check_shift.ensures.answer lines k))
 
-pub returns-then-stage-ne1-clause-by_index : goal.returns-then-stage-ne1-clause-by_index
-returns-then-stage-ne1-clause-by_index c = (λ lines k. rw (at_other c.args.stage (let a = c.args in view_on a.h a.w lines a.cells.now) (let a = c.args in pair_at a.arrows.now a.last a.cur) c.if-stage-eq0.false c.if-stage-ne1.true) (c.check_growth-finding.ensures.by_index lines k))
+pub returns-then-stage-ne1-clause-answer : goal.returns-then-stage-ne1-clause-answer
+returns-then-stage-ne1-clause-answer c = (λ lines k. rw (at_other c.args.stage (let a = c.args in view_on a.h a.w lines a.cells.now) (let a = c.args in pair_at a.arrows.now a.last a.cur) c.if-stage-eq0.false c.if-stage-ne1.true) (c.check_growth-finding.ensures.answer lines k))
 
-pub returns-in-Nothing-clause-by_index : goal.returns-in-Nothing-clause-by_index
-returns-in-Nothing-clause-by_index c = (λ lines k. rw (at_1 c.args.stage (let a = c.args in view_on a.h a.w lines a.cells.now) (let a = c.args in pair_at a.arrows.now a.last a.cur) c.if-stage-eq0.false c.if-stage-ne1.false)
-    (found_next (reason4a_at (let a = c.args in view_on a.h a.w lines a.cells.now) (let a = c.args in pair_at a.arrows.now a.last a.cur)) (reason4b_at (let a = c.args in view_on a.h a.w lines a.cells.now) (let a = c.args in pair_at a.arrows.now a.last a.cur)) (subst (FoundAs _ _ _) c.in-Nothing.is (c.check_growth-finding.ensures.by_index lines k)) (c.check_gap.ensures.by_index lines k)))
+pub returns-in-Nothing-clause-answer : goal.returns-in-Nothing-clause-answer
+returns-in-Nothing-clause-answer c = (λ lines k. rw (at_1 c.args.stage (let a = c.args in view_on a.h a.w lines a.cells.now) (let a = c.args in pair_at a.arrows.now a.last a.cur) c.if-stage-eq0.false c.if-stage-ne1.false)
+    (found_next (reason4a_at (let a = c.args in view_on a.h a.w lines a.cells.now) (let a = c.args in pair_at a.arrows.now a.last a.cur)) (reason4b_at (let a = c.args in view_on a.h a.w lines a.cells.now) (let a = c.args in pair_at a.arrows.now a.last a.cur)) (subst (FoundAs _ _ _) c.in-Nothing.is (c.check_growth-finding.ensures.answer lines k)) (c.check_gap.ensures.answer lines k)))
 
-pub returns-in-Reason-clause-by_index : goal.returns-in-Reason-clause-by_index
-returns-in-Reason-clause-by_index c = (λ lines k. rw (at_1 c.args.stage (let a = c.args in view_on a.h a.w lines a.cells.now) (let a = c.args in pair_at a.arrows.now a.last a.cur) c.if-stage-eq0.false c.if-stage-ne1.false)
-    (found_first (reason4a_at (let a = c.args in view_on a.h a.w lines a.cells.now) (let a = c.args in pair_at a.arrows.now a.last a.cur)) (reason4b_at (let a = c.args in view_on a.h a.w lines a.cells.now) (let a = c.args in pair_at a.arrows.now a.last a.cur)) (subst (FoundAs _ _ _) c.in-Reason.is (c.check_growth-finding.ensures.by_index lines k))))
+pub returns-in-Reason-clause-answer : goal.returns-in-Reason-clause-answer
+returns-in-Reason-clause-answer c = (λ lines k. rw (at_1 c.args.stage (let a = c.args in view_on a.h a.w lines a.cells.now) (let a = c.args in pair_at a.arrows.now a.last a.cur) c.if-stage-eq0.false c.if-stage-ne1.false)
+    (found_first (reason4a_at (let a = c.args in view_on a.h a.w lines a.cells.now) (let a = c.args in pair_at a.arrows.now a.last a.cur)) (reason4b_at (let a = c.args in view_on a.h a.w lines a.cells.now) (let a = c.args in pair_at a.arrows.now a.last a.cur)) (subst (FoundAs _ _ _) c.in-Reason.is (c.check_growth-finding.ensures.answer lines k))))
 
-pub returns-in-Refused-clause-by_index : goal.returns-in-Refused-clause-by_index
-returns-in-Refused-clause-by_index c = (λ lines k. absurd (not_refused (reason4a_at (let a = c.args in view_on a.h a.w lines a.cells.now) (let a = c.args in pair_at a.arrows.now a.last a.cur)) (subst (FoundAs _ _ _) c.in-Refused.is (c.check_growth-finding.ensures.by_index lines k))))
+pub returns-in-Refused-clause-answer : goal.returns-in-Refused-clause-answer
+returns-in-Refused-clause-answer c = (λ lines k. absurd (not_refused (reason4a_at (let a = c.args in view_on a.h a.w lines a.cells.now) (let a = c.args in pair_at a.arrows.now a.last a.cur)) (subst (FoundAs _ _ _) c.in-Refused.is (c.check_growth-finding.ensures.answer lines k))))

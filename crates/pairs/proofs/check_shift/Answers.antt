@@ -22,15 +22,15 @@ shift_fits-requires c =
       c.requires.3 _ (omega (arith, name, small)) (scene_kind pair.line.scene c.args.last (omega arith) (omega (arith, pair.order)) pair.first),
     )
 
-pub returns-then-shift_fits-clause-by_index : goal.returns-then-shift_fits-clause-by_index
-returns-then-shift_fits-clause-by_index c =
+pub returns-then-shift_fits-clause-answer : goal.returns-then-shift_fits-clause-answer
+returns-then-shift_fits-clause-answer c =
     let p = c.requires.1 in
     (λ lines k. no_shift k p.order p.first p.second _ _ refl refl
-    (sym (c.shift_fits.ensures.by_index lines (take (c.args.h * c.args.w) c.args.cells.now) k.held (scene_kind k c.args.cur (omega (arith, p.order)) (omega arith) p.second)) ∙ c.if-shift_fits.true))
+    (sym (c.shift_fits.ensures.answer lines (take (c.args.h * c.args.w) c.args.cells.now) k.held (scene_kind k c.args.cur (omega (arith, p.order)) (omega arith) p.second)) ∙ c.if-shift_fits.true))
 
-pub returns-clause-by_index : goal.returns-clause-by_index
-returns-clause-by_index c =
+pub returns-clause-answer : goal.returns-clause-answer
+returns-clause-answer c =
     let p = c.requires.1 in
     (λ lines k. shift_found k p.order p.first p.second _ _ refl refl
-    (sym (c.shift_fits.ensures.by_index lines (take (c.args.h * c.args.w) c.args.cells.now) k.held (scene_kind k c.args.cur (omega (arith, p.order)) (omega arith) p.second)) ∙ c.if-shift_fits.false)
+    (sym (c.shift_fits.ensures.answer lines (take (c.args.h * c.args.w) c.args.cells.now) k.held (scene_kind k c.args.cur (omega (arith, p.order)) (omega arith) p.second)) ∙ c.if-shift_fits.false)
     (c.reason_for_pair-literals.ensures lines k.held))

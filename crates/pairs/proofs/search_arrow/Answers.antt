@@ -1,9 +1,8 @@
 -- `pairs::search_arrow` meets its contract: the pairs before `last` give no reason, so that the first from there on is the first of all.
 -- Assumes nothing.
-use Prim.Native.Nat.{◌-◌, ◌≤◌, ◌<◌}
+use Prim.Native.Nat.{◌≤◌, ◌<◌}
 use native.Mathlib.Omega.{arith}
 use mathlib.Core.Path.{refl, subst, ◌∙◌}
-use mathlib.Core.Bool.{true}
 use lib.Arith.{lt_of_le-ne}
 use lib.ListN.{length}
 use Rattle.literals.specs.Inside.{FoundAs}
@@ -18,8 +17,8 @@ loop-last-init c =
     let n = c.next_square-last.ensures in
     record { low = n.low; high = n.high; first = n.some; work = c.requires.3; same = refl; passed = λ lines k. search_start c.args.stage k long n }
 
-pub returns-then-cur-to-clause-by_index : goal.returns-then-cur-to-clause-by_index
-returns-then-cur-to-clause-by_index c =
+pub returns-then-cur-to-clause-answer : goal.returns-then-cur-to-clause-answer
+returns-then-cur-to-clause-answer c =
     let long : c.args.to ≤ length c.args.arrows.now = omega (arith, c.requires.1.short, c.requires.1.places.long) in
     (λ lines k.
     rw (c.loop-last.invariant.passed lines k ∙ search_end c.args.stage k long c.loop-last.last c.loop-last.invariant.low c.loop-last-test.true (c.loop-last.invariant.first c.loop-last-test.true) c.next_square-cur.ensures c.if-cur-to.true, c.loop-last.invariant.same)
@@ -36,26 +35,26 @@ loop-last-preserved c =
       high = n.high;
       first = n.some;
       work = c.check_pair-finding.ensures.work;
-      same = (nothing_found _ (subst (FoundAs _ _ _) c.in-Nothing.is (c.check_pair-finding.ensures.by_index c.requires.1.lines (Scene-part c.requires.1.scene c.loop-last.invariant.low (omega (arith, more)))))).1 ∙ c.loop-last.invariant.same;
+      same = (nothing_found _ (subst (FoundAs _ _ _) c.in-Nothing.is (c.check_pair-finding.ensures.answer c.requires.1.lines (Scene-part c.requires.1.scene c.loop-last.invariant.low (omega (arith, more)))))).1 ∙ c.loop-last.invariant.same;
       passed = λ lines k. c.loop-last.invariant.passed lines k
-          ∙ search_more c.args.stage k long c.loop-last.last c.loop-last.invariant.low within (c.loop-last.invariant.first within) n more (subst (FoundAs _ _ _) c.in-Nothing.is (c.check_pair-finding.ensures.by_index lines (Scene-part k c.loop-last.invariant.low (omega (arith, more)))));
+          ∙ search_more c.args.stage k long c.loop-last.last c.loop-last.invariant.low within (c.loop-last.invariant.first within) n more (subst (FoundAs _ _ _) c.in-Nothing.is (c.check_pair-finding.ensures.answer lines (Scene-part k c.loop-last.invariant.low (omega (arith, more)))));
     }
 
-pub returns-in-Reason-clause-by_index : goal.returns-in-Reason-clause-by_index
-returns-in-Reason-clause-by_index c =
+pub returns-in-Reason-clause-answer : goal.returns-in-Reason-clause-answer
+returns-in-Reason-clause-answer c =
     let long : c.args.to ≤ length c.args.arrows.now = omega (arith, c.requires.1.short, c.requires.1.places.long) in
     let more : c.next_square-cur.result < c.args.to = lt_of_le-ne c.next_square-cur.ensures.high c.if-cur-to.false in
     let within = c.loop-last-test.true in
     (λ lines k.
     rw (c.loop-last.invariant.passed lines k) (found_same c.loop-last.invariant.same (search_found c.args.stage k long c.loop-last.last c.loop-last.invariant.low within (c.loop-last.invariant.first within) c.next_square-cur.ensures more
-    (subst (FoundAs _ _ _) c.in-Reason.is (c.check_pair-finding.ensures.by_index lines (Scene-part k c.loop-last.invariant.low (omega (arith, more))))))))
+    (subst (FoundAs _ _ _) c.in-Reason.is (c.check_pair-finding.ensures.answer lines (Scene-part k c.loop-last.invariant.low (omega (arith, more))))))))
 
-pub returns-in-Refused-clause-by_index : goal.returns-in-Refused-clause-by_index
-returns-in-Refused-clause-by_index c =
+pub returns-in-Refused-clause-answer : goal.returns-in-Refused-clause-answer
+returns-in-Refused-clause-answer c =
     let more : c.next_square-cur.result < c.args.to = lt_of_le-ne c.next_square-cur.ensures.high c.if-cur-to.false in
-    (λ lines k. absurd (not_refused _ (subst (FoundAs _ _ _) c.in-Refused.is (c.check_pair-finding.ensures.by_index lines (Scene-part k c.loop-last.invariant.low (omega (arith, more)))))))
+    (λ lines k. absurd (not_refused _ (subst (FoundAs _ _ _) c.in-Refused.is (c.check_pair-finding.ensures.answer lines (Scene-part k c.loop-last.invariant.low (omega (arith, more)))))))
 
-pub returns-clause-by_index : goal.returns-clause-by_index
-returns-clause-by_index c =
+pub returns-clause-answer : goal.returns-clause-answer
+returns-clause-answer c =
     let long : c.args.to ≤ length c.args.arrows.now = omega (arith, c.requires.1.short, c.requires.1.places.long) in
     (λ lines k. rw (c.loop-last.invariant.passed lines k ∙ search_done c.args.stage k long c.loop-last.last c.loop-last-test.false, c.loop-last.invariant.same) (found_none c.args.buffer.now))

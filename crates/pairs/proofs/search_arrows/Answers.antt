@@ -1,6 +1,6 @@
 -- `pairs::search_arrows` meets its contract: the arrows passed give no reason, so that the first from there on is the first of all.
 -- Assumes nothing.
-use Prim.Native.Nat.{◌-◌, ◌*◌}
+use Prim.Native.Nat.{◌*◌}
 use native.Mathlib.Omega.{arith}
 use mathlib.Core.Path.{subst, ◌∙◌}
 use lib.ListN.{get_or, take}
@@ -30,7 +30,7 @@ loop-a-preserved c =
     (λ to. FoundAs (first_found_of (reason_at c.args.stage (view_on c.args.h c.args.w (lines_of c.args.arrows.now c.args.ends.now c.args.number) c.args.cells.now)) (pairs (take (c.args.h * c.args.w) c.args.cells.now) (slice c.loop-a.from to c.args.arrows.now))) c.loop-a.buffer
     c.search_arrow-finding.new.buffer c.search_arrow-finding.result)
     c.wide-to.ensures.0
-    (c.search_arrow-finding.ensures.by_index (lines_of c.args.arrows.now c.args.ends.now c.args.number) scene) in
+    (c.search_arrow-finding.ensures.answer (lines_of c.args.arrows.now c.args.ends.now c.args.number) scene) in
     let within = c.loop-a-test.true in
     let end = c.wide-to.ensures.0 in
     let none = subst (FoundAs _ _ _) c.in-Nothing.is found in
@@ -51,7 +51,7 @@ returns-in-Reason-clause-found_as c =
     (λ to. FoundAs (first_found_of (reason_at c.args.stage (view_on c.args.h c.args.w (lines_of c.args.arrows.now c.args.ends.now c.args.number) c.args.cells.now)) (pairs (take (c.args.h * c.args.w) c.args.cells.now) (slice c.loop-a.from to c.args.arrows.now))) c.loop-a.buffer
     c.search_arrow-finding.new.buffer c.search_arrow-finding.result)
     c.wide-to.ensures.0
-    (c.search_arrow-finding.ensures.by_index (lines_of c.args.arrows.now c.args.ends.now c.args.number) scene) in
+    (c.search_arrow-finding.ensures.answer (lines_of c.args.arrows.now c.args.ends.now c.args.number) scene) in
     let some = subst (FoundAs _ _ _) c.in-Reason.is found in rw c.loop-a.invariant.passed (found_same c.loop-a.invariant.same (rest_found (reason_at c.args.stage (view_on c.args.h c.args.w (lines_of c.args.arrows.now c.args.ends.now c.args.number) c.args.cells.now)) (take (c.args.h * c.args.w) c.args.cells.now) c.args.arrows.now c.args.ends.now c.args.number c.loop-a.from c.loop-a.a c.loop-a-test.true c.requires.1.drawn.ends_long some))
 
 pub returns-in-Refused-clause-found_as : goal.returns-in-Refused-clause-found_as
@@ -62,7 +62,7 @@ returns-in-Refused-clause-found_as c =
     (λ to. FoundAs (first_found_of (reason_at c.args.stage (view_on c.args.h c.args.w (lines_of c.args.arrows.now c.args.ends.now c.args.number) c.args.cells.now)) (pairs (take (c.args.h * c.args.w) c.args.cells.now) (slice c.loop-a.from to c.args.arrows.now))) c.loop-a.buffer
     c.search_arrow-finding.new.buffer c.search_arrow-finding.result)
     c.wide-to.ensures.0
-    (c.search_arrow-finding.ensures.by_index (lines_of c.args.arrows.now c.args.ends.now c.args.number) scene) in
+    (c.search_arrow-finding.ensures.answer (lines_of c.args.arrows.now c.args.ends.now c.args.number) scene) in
     absurd (not_refused _ (subst (FoundAs _ _ _) c.in-Refused.is found))
 
 pub returns-clause-found_as : goal.returns-clause-found_as

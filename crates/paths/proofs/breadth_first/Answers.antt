@@ -2,7 +2,7 @@
 -- Assumes nothing.
 use Rattle.grid.proofs.SideLaws.{area}
 use mathlib.Core.Path.{◌∙◌}
-use Prim.Native.Nat.{◌*◌, ◌-◌}
+use Prim.Native.Nat.{◌*◌}
 use native.Mathlib.Omega.{arith}
 use Rattle.grid.specs.Grid.{size}
 use Rattle.grid.specs.Side.{sized}

@@ -2,7 +2,7 @@
 -- Assumes nothing.
 use Rattle.grid.proofs.Turns.{Turn, turn, turn_count, in_size}
 use mathlib.Core.Path.{◌≡◌, sym, ◌∙◌, subst}
-use Prim.Native.Nat.{◌*◌, ◌-◌, ◌<◌}
+use Prim.Native.Nat.{◌*◌, ◌<◌}
 use native.Mathlib.Omega.{arith}
 use lib.ListN.{length, get_or, take}
 use Rattle.grid.specs.Grid.{size, neighbours}

@@ -1,6 +1,5 @@
 -- `paths::next_arrow_cell` meets its contract: no cell passed is one, so that the first from i on is the first from the start on.
 -- Assumes nothing.
-use Prim.Native.Nat.{◌-◌}
 use mathlib.Core.Path.{sym, ◌∙◌}
 use native.Mathlib.Omega.{arith}
 use Rattle.paths.specs.Ends.{arrow_cell_of}

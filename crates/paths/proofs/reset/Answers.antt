@@ -1,6 +1,5 @@
 -- `paths::reset` meets its contract: the places passed are 1024, and those behind them are as they were.
 -- Assumes nothing.
-use Prim.Native.Nat.{◌-◌}
 use native.Mathlib.Omega.{arith}
 use Rattle.paths.proofs.Breadth.{fill_more}
 use Rattle.paths.proofs.reset.Goals as goal

@@ -1,6 +1,6 @@
 -- What holds at each turn of the loop of `reach::chain_cells`, and what falls from turn to turn.
 -- Assumes nothing.
-use Prim.Native.Nat.{◌≤◌, ◌-◌}
+use Prim.Native.Nat.{◌≤◌}
 use Rattle.reach.specs.Chains.{ChainsFrom}
 use Rattle.reach.proofs.chain_cells.Given as goal
 

@@ -1,6 +1,5 @@
 -- `reach::mark_floats_beside` meets its contract: the floating groups of the neighbours in the directions passed are marked.
 -- Assumes nothing.
-use Prim.Native.Nat.{◌-◌}
 use native.Mathlib.Omega.{arith}
 use borrow.Author.Tests.{ne_eqb}
 use Rattle.grid.specs.Side.{sized}

@@ -1,6 +1,5 @@
 -- `reach::mark_near_floats` meets its contract: the floating groups that touch a neighbour of f among the cells passed are marked.
 -- Assumes nothing.
-use Prim.Native.Nat.{◌-◌}
 use native.Mathlib.Omega.{arith}
 use Rattle.grid.proofs.MarkLaws.{Marks-none}
 use Rattle.reach.proofs.Counting.{among_near_none, among_near_more}

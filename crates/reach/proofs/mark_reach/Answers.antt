@@ -1,6 +1,5 @@
 -- `reach::mark_reach` meets its contract: the cells passed are marked and counted.
 -- Assumes nothing.
-use Prim.Native.Nat.{◌-◌}
 use native.Mathlib.Omega.{arith}
 use Rattle.reach.proofs.Counting.{Reached-none, Reached-more, Reached-few}
 use Rattle.reach.proofs.mark_reach.Goals as goal

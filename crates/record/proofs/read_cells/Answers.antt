@@ -1,6 +1,6 @@
 -- `record::read_cells` meets its contract: the first i codes are in the array, and what is left makes of them what the whole makes.
 -- Assumes nothing.
-use Prim.Native.Nat.{◌+◌, ◌-◌, ◌*◌}
+use Prim.Native.Nat.{◌+◌, ◌*◌}
 use native.Mathlib.Omega.{arith}
 use mathlib.Core.Path.{◌≡◌}
 use Rattle.fields.specs.Fields.{ok}

@@ -1,6 +1,5 @@
 -- `shades::write_pairs` meets its contract: the numbers of the cells passed stand in front, and behind them nothing changed.
 -- Assumes nothing.
-use Prim.Native.Nat.{◌-◌}
 use native.Mathlib.Omega.{arith}
 use borrow.Author.Rules.{rules}
 use Rattle.shades.proofs.PairLaws.{pairs_none, pairs_next}

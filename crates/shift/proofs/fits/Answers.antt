@@ -1,9 +1,7 @@
 -- `shift::fits` meets its contract: no shift to a cell of the block itself or of the groups passed fits.
 -- Assumes nothing.
-use Prim.Native.Nat.{◌-◌}
 use native.Mathlib.Omega.{arith}
 use mathlib.Core.Path.{sym, ◌∙◌}
-use mathlib.Core.Bool.{false}
 use Rattle.kinds.specs.Inside.{Limits}
 use Rattle.shift.proofs.ShiftChains.{fits_own, fits_float, fits_none}
 use Rattle.shift.proofs.fits.Goals as goal

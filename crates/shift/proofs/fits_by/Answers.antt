@@ -2,12 +2,10 @@
 -- Assumes nothing.
 use mir.Syntax.{w32}
 use mir.ValLaws.{to_z-of_z}
-use Prim.Native.Nat.{◌-◌}
 use native.Mathlib.Omega.{arith}
 use mathlib.Core.Path.{◌≡◌, sym, ◌∙◌}
-use mathlib.Core.Bool.{true}
 use Rattle.reach.specs.Inside.{reaches_at}
-use Rattle.shift.specs.Shift.{lands_in, all_land}
+use Rattle.shift.specs.Shift.{all_land}
 use Rattle.shift.proofs.Shifts.{all-upto, not_all}
 use Rattle.shift.proofs.fits_by.Goals as goal
 use Rattle.shift.proofs.fits_by.Invariants.{test}

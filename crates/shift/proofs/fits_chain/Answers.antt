@@ -1,8 +1,7 @@
 -- `shift::fits_chain` meets its contract: no shift to a cell of the chain that was passed fits.
 -- Assumes nothing.
-use Prim.Native.Nat.{◌-◌, ◌*◌}
+use Prim.Native.Nat.{◌*◌}
 use mathlib.Core.Path.{refl, sym, ap, ◌∙◌}
-use mathlib.Core.Bool.{false}
 use mathlib.Core.List.{[], ◌∷◌, ◌++◌}
 use Rattle.grid.specs.Lists.{any}
 use Rattle.grid.proofs.ListLaws.{mem-any}

@@ -38,10 +38,10 @@ fits-requires c =
       c.near_floats-total.ensures.names,
     )
 
-pub returns-clause-by_index : goal.returns-clause-by_index
+pub returns-clause-answer : goal.returns-clause-answer
 unfolding block_in
-returns-clause-by_index c =
+returns-clause-answer c =
     let many : let a = c.args in c.wide-count.result ≡ length (block_in a.kinds.now a.owners.now (a.h * a.w) a.f) = c.wide-count.ensures.0 ∙ c.requires.5 in
     let a = c.args in
     let gathered = c.gather_block.ensures a.owners.now (a.h * a.w) c.requires.1 many in
-    λ lines cells held arrow. c.fits.ensures lines cells held (c.near_floats-total.ensures.by_index lines cells held) arrow (Gathered-view a.h a.w lines cells held a.f gathered)
+    λ lines cells held arrow. c.fits.ensures lines cells held (c.near_floats-total.ensures.answer lines cells held) arrow (Gathered-view a.h a.w lines cells held a.f gathered)

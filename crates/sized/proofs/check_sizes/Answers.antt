@@ -1,6 +1,6 @@
 -- `sized::check_sizes` meets its contract: the cells passed give no reason, so that the first from there on is the first of all.
 -- Assumes nothing.
-use Prim.Native.Nat.{ℕ, ◌-◌}
+use Prim.Native.Nat.{ℕ}
 use native.Mathlib.Omega.{arith}
 use mathlib.Core.Path.{subst, ◌∙◌}
 use mathlib.Core.List.{List}
@@ -24,7 +24,7 @@ pub loop-i-preserved : goal.loop-i-preserved
 loop-i-preserved c =
     let nothing : (lines : List (List ℕ))
     → (let a = c.args in
-    Board a.h a.w lines a.lowest.now a.highest.now a.cells.now a.kinds.now a.owners.now) → FoundAs (reason5_in (view_on c.args.h c.args.w lines c.args.cells.now) c.args.lowest.now c.args.highest.now c.loop-i.i) c.loop-i.buffer c.check_size-finding.new.buffer Nothing = λ lines k. subst (FoundAs _ _ _) c.in-Nothing.is (c.check_size-finding.ensures.by_index lines k) in
+    Board a.h a.w lines a.lowest.now a.highest.now a.cells.now a.kinds.now a.owners.now) → FoundAs (reason5_in (view_on c.args.h c.args.w lines c.args.cells.now) c.args.lowest.now c.args.highest.now c.loop-i.i) c.loop-i.buffer c.check_size-finding.new.buffer Nothing = λ lines k. subst (FoundAs _ _ _) c.in-Nothing.is (c.check_size-finding.ensures.answer lines k) in
     let a = c.args in
     record {
       high = omega (arith, c.loop-i-test.true);
@@ -37,12 +37,12 @@ pub returns-in-Reason : goal.returns-in-Reason
 returns-in-Reason c =
     let a = c.args in
     λ lines k.
-    let some = subst (FoundAs _ _ _) c.in-Reason.is (c.check_size-finding.ensures.by_index lines k) in
+    let some = subst (FoundAs _ _ _) c.in-Reason.is (c.check_size-finding.ensures.answer lines k) in
     rw (ahead_all (view_on c.args.h c.args.w lines c.args.cells.now) a.lowest.now a.highest.now (length a.lowest.now) ∙ c.loop-i.invariant.passed lines k)
     (found_same c.loop-i.invariant.same (ahead_found (view_on c.args.h c.args.w lines c.args.cells.now) a.lowest.now a.highest.now (length a.lowest.now) c.loop-i.i c.loop-i-test.true some))
 
 pub returns-in-Refused : goal.returns-in-Refused
-returns-in-Refused c = λ lines k. absurd (not_refused _ (subst (FoundAs _ _ _) c.in-Refused.is (c.check_size-finding.ensures.by_index lines k)))
+returns-in-Refused c = λ lines k. absurd (not_refused _ (subst (FoundAs _ _ _) c.in-Refused.is (c.check_size-finding.ensures.answer lines k)))
 
 pub returns : goal.returns
 returns c =

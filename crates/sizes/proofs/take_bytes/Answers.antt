@@ -1,6 +1,6 @@
 -- `sizes::take_bytes` meets its contract: what is left of the bytes makes of the ranges so far what the whole makes.
 -- Assumes nothing.
-use Prim.Native.Nat.{◌+◌, ◌-◌}
+use Prim.Native.Nat.{◌+◌}
 use native.Mathlib.Omega.{arith}
 use lib.ListN.{drop}
 use Rattle.sizes.specs.Inside.{ranges_in}

@@ -1,6 +1,5 @@
 -- `text::write_text` meets its contract: the bytes passed are written.
 -- Assumes nothing.
-use Prim.Native.Nat.{◌-◌}
 use native.Mathlib.Omega.{arith}
 use mathlib.Core.Path.{sym}
 use borrow.Author.Rules.{rules}

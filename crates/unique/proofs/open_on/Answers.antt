@@ -1,6 +1,5 @@
 -- `unique::open_on` meets its contract: the cells that are not empty counted so far and those from k on are all of them.
 -- Assumes nothing.
-use Prim.Native.Nat.{◌-◌}
 use native.Mathlib.Omega.{arith}
 use mathlib.Core.Path.{◌≡◌, ap}
 use mathlib.Core.Bool.{not}

@@ -1,6 +1,6 @@
 -- `unique::two_open_on_each` meets its contract: `good` says of the arrows passed that two cells or more of each are not empty.
 -- Assumes nothing.
-use Prim.Native.Nat.{◌-◌, ◌<◌}
+use Prim.Native.Nat.{◌<◌}
 use native.Mathlib.Omega.{arith}
 use mathlib.Core.Path.{◌≡◌, sym, ◌∙◌}
 use lib.ListN.{length, get_or, take}

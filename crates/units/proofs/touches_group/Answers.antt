@@ -1,8 +1,6 @@
 -- `units::touches_group` meets its contract: no neighbour in the directions passed is in the group.
 -- Assumes nothing.
 use mathlib.Core.Path.{◌≡◌, refl, sym, ◌∙◌}
-use mathlib.Core.Bool.{false}
-use Prim.Native.Nat.{◌-◌}
 use native.Mathlib.Omega.{arith}
 use Rattle.grid.specs.Lists.{upto}
 use Rattle.grid.proofs.ListLaws.{mem-any, mem-upto}

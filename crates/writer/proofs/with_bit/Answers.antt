@@ -1,7 +1,6 @@
 -- `writer::with_bit` meets its contract.
 -- Assumes nothing.
 use native.Mathlib.Omega.{arith}
-use Prim.Native.Nat.{◌-◌}
 use borrow.Author.Rules.{rules}
 use Rattle.writer.proofs.PutLaws.{sum_small}
 use Rattle.writer.proofs.with_bit.Goals as goal

@@ -1,6 +1,5 @@
 -- `groups_replay::rounds::label_in_rounds` names the groups in each round. The rounds run out.
 -- Assumes nothing.
-use Prim.Native.Nat.{◌-◌}
 use Rattle.grid.specs.Side.{sized}
 use Rattle.grid.proofs.GridLaws.{size_most}
 use Rattle.groups.proofs.TableLaws.{table_few}
