@@ -1,11 +1,11 @@
 -- The text of document 01's example, and of the answers beside it.
 -- Assumes nothing.
 use Prim.Native.Nat.{ℕ}
-use mathlib.Core.Path.{refl}
+use mathlib.Core.Path.{◌≡◌, refl}
 use mathlib.Core.List.{List, [], ◌∷◌, ◌++◌}
 use Rattle.grid.specs.Lists.{range, upto, filter, any, all, last, init, tail, flat_map, member, once}
 use Rattle.grid.specs.Grid.{size, cells_of, row, col, only, up, down, left, right, neighbours, touches}
-use Rattle.record.specs.Record.{unless, bit, number, field, cell_codes, there, step_from, step_cells, arrow_at, filler, arrows_at, read_record}
+use Rattle.record.specs.Record.{◌>>=◌, unless, bit, number, field, cell_codes, there, step_from, step_cells, arrow_at, filler, arrows_at, read_record}
 use Rattle.grid.specs.Cells.{empty, square, undecided, potential}
 use Rattle.board.specs.Board.{value_at, cells_after, decided, after, refusal, after_all, enough}
 use Rattle.groups.specs.Groups.{rename, join, join_all, edges, labels, group, names}

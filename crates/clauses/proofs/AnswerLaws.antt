@@ -9,7 +9,7 @@ use lib.ListN.{length, take, drop}
 use borrow.Author.Tests.{le-leb, lt-leb}
 use Rattle.grid.specs.Lists.{last, member}
 use Rattle.grid.specs.Marks.{Marks}
-use Rattle.record.specs.Record.{ok, refused, unless, Puzzle, read_record}
+use Rattle.record.specs.Record.{ok, refused, ◌>>=◌, unless, Puzzle, read_record}
 use Rattle.record.specs.Valid.{Valid}
 use Rattle.record.specs.Problem.{problem_of}
 use Rattle.record.specs.declared.Problem.{Problem}

@@ -1,12 +1,12 @@
 -- Sheets by computing: the strip S, a grid of 2 by 3 with two arrows, an arrow of one cell, no arrow; and the refusals.
 -- Assumes nothing.
 use Prim.Native.Nat.{ℕ}
-use mathlib.Core.Path.{refl}
+use mathlib.Core.Path.{◌≡◌, refl}
 use mathlib.Core.List.{List, [], ◌∷◌}
 use Rattle.grid.specs.Lists.{range, upto, filter, any, flat_map, member}
 use Rattle.grid.specs.Grid.{size, cells_of, row, col, only, up, down, left, right}
 use Rattle.grid.specs.Cells.{word}
-use Rattle.record.specs.Record.{Outcome, ok, refused, unless, bit, number, field, cell_codes, there, step_from, step_cells, arrow_at, filler, arrows_at, read_record}
+use Rattle.record.specs.Record.{Outcome, ok, refused, ◌>>=◌, unless, bit, number, field, cell_codes, there, step_from, step_cells, arrow_at, filler, arrows_at, read_record}
 use Rattle.groups.specs.Arrows.{on_arrow}
 use Rattle.exported.specs.Written.{bytes_of}
 use Rattle.clauses.specs.Clauses.{given_at, onwards, touching_at, around, pairs_of, between_at, others_of, arrow_clauses, given_part, touching_part, between_part, arrow_part, sheet, clause_bytes, clauses_bytes, sheet_bytes, sheet_within, sheet_for}

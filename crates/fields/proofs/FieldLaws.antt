@@ -13,7 +13,7 @@ use Rattle.grid.proofs.ListLaws.{split}
 use lib.Pow.{pow_mono, shr-shr, mod-pow-add}
 use lib.ListN.{length, get_or}
 use borrow.Author.Tests.{ltb-true, ltb-false, lt-ltb, le-ltb, le-leb, lt-leb}
-use Rattle.fields.specs.Fields.{unless, bit, number, field, filler, bytes_for, rest_zero}
+use Rattle.fields.specs.Fields.{unless, ◌>>=◌, bit, number, field, filler, bytes_for, rest_zero}
 use Rattle.fields.specs.Inside.{field_of, cell_code}
 use Rattle.fields.specs.declared.Field.TheVariants.{Value, Fault}
 

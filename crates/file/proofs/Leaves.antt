@@ -6,7 +6,7 @@ use mathlib.Core.List.{List, [], ◌∷◌, ◌++◌}
 use Rattle.grid.specs.Lists.{range, upto, any, all, filter, flat_map, member}
 use Rattle.grid.specs.Grid.{size, cells_of, row, col, only, up, down, left, right, neighbours}
 use Rattle.grid.specs.Cells.{square}
-use Rattle.fields.specs.Fields.{Outcome, ok, refused, unless, bit, number, field, there, step_from, filler, bytes_for, rest_zero}
+use Rattle.fields.specs.Fields.{Outcome, ok, refused, ◌>>=◌, unless, bit, number, field, there, step_from, filler, bytes_for, rest_zero}
 use Rattle.record.specs.Record.{Puzzle, cell_codes, step_cells, arrow_at}
 use Rattle.record.specs.Leaf.{is_edition}
 use Rattle.record.specs.Problem.{arrow_cells}

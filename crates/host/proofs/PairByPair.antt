@@ -1,7 +1,7 @@
 -- Reason 4 goes pair by pair, (a) and then (b) for each, in the order of the record: a board that tells it from the other readings.
 -- Assumes nothing.
 use Prim.Native.Nat.{ℕ}
-use mathlib.Core.Path.{refl}
+use mathlib.Core.Path.{◌≡◌, refl}
 use mathlib.Core.List.{List, [], ◌∷◌}
 use mathlib.Core.Option.{some}
 use lib.ListN.{replicate}

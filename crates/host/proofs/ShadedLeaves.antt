@@ -1,12 +1,12 @@
 -- Document 02, §4: the bytes of the shades on small leaves, as one computed theorem.
 -- Assumes nothing.
 use Prim.Native.Nat.{ℕ}
-use mathlib.Core.Path.{refl}
+use mathlib.Core.Path.{◌≡◌, refl}
 use mathlib.Core.List.{List, [], ◌∷◌}
 use Rattle.grid.specs.Lists.{range, upto, filter, any, flat_map, member}
 use Rattle.grid.specs.Grid.{size, cells_of, col, only, up, down, left, right, neighbours}
 use Rattle.grid.specs.Cells.{square}
-use Rattle.record.specs.Record.{unless, bit, number, field, cell_codes, there, step_from, step_cells, arrow_at, filler, arrows_at, read_record, Outcome, ok, refused}
+use Rattle.record.specs.Record.{◌>>=◌, unless, bit, number, field, cell_codes, there, step_from, step_cells, arrow_at, filler, arrows_at, read_record, Outcome, ok, refused}
 use Rattle.board.specs.Board.{value_at, cells_after, decided, after, refusal}
 use Rattle.groups.specs.Groups.{rename, join, join_all, edges, labels, group}
 use Rattle.shades.specs.Shades.{block_first, block_count, shade_of, shades_on}

@@ -1,14 +1,14 @@
 -- A certificate of one solution for a leaf of two rows of three cells with one arrow along the first row: what the call returns for it and for what is changed in it, as computed theorems.
 -- Assumes nothing.
 use Prim.Native.Nat.{ℕ, ◌+◌, ◌/◌, ◌%◌}
-use mathlib.Core.Path.{refl}
+use mathlib.Core.Path.{◌≡◌, refl}
 use mathlib.Core.List.{List, [], ◌∷◌, ◌++◌, map}
 use lib.IntN.{ℤ, pos, neg_ℤ}
 use lib.ListN.{length, take, drop}
 use Rattle.grid.specs.Lists.{range, upto, filter, any, all, last, init, tail, flat_map, member, how_many, once, array_of}
 use Rattle.grid.specs.Grid.{size, cells_of, row, col, only, up, down, left, right, neighbours, touches}
 use Rattle.grid.specs.Cells.{empty, square, undecided, potential}
-use Rattle.record.specs.Record.{unless, bit, number, field, cell_codes, there, step_cells, arrow_at, filler, arrows_at, read_record}
+use Rattle.record.specs.Record.{◌>>=◌, unless, bit, number, field, cell_codes, there, step_cells, arrow_at, filler, arrows_at, read_record}
 use Rattle.record.specs.Record as records
 use Rattle.record.specs.Leaf.{is_edition, range_test, ranges_from, sizes_of}
 use Rattle.groups.specs.Groups.{rename, join, join_all, edges, labels, group, names}

@@ -9,7 +9,7 @@ use Rattle.grid.specs.Grid.{Grid}
 use Rattle.grid.specs.Side.{sized}
 use Rattle.grid.specs.Lists.{array_of}
 use Rattle.grid.specs.Cells.{Literal}
-use Rattle.record.specs.Record.{Outcome, ok, refused, Puzzle, read_record}
+use Rattle.record.specs.Record.{Outcome, ok, refused, Puzzle, read_record, ◌>>=◌}
 use Rattle.record.specs.Leaf.{Leaf, leaf_with, in_edition}
 use Rattle.record.specs.Sizes.{kept_ranges}
 use Rattle.record.specs.declared.Answer.{Answer}

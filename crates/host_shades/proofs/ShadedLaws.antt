@@ -11,7 +11,7 @@ use Rattle.grid.specs.Grid.{Grid, size}
 use Rattle.grid.specs.Side.{sized}
 use Rattle.grid.specs.Cells.{Literal}
 use Rattle.grid.specs.Lists.{array_of}
-use Rattle.record.specs.Record.{ok, refused, Puzzle, read_record}
+use Rattle.record.specs.Record.{ok, refused, ◌>>=◌, Puzzle, read_record}
 use Rattle.record.specs.Leaf.{Leaf, in_edition}
 use Rattle.record.specs.Problem.{problem_of, read_of}
 use Rattle.record.specs.Valid.{Valid}

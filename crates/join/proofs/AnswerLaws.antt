@@ -6,7 +6,7 @@ use mathlib.Core.List.{List}
 use lib.Dec.{eqb, leb}
 use lib.ListN.{length}
 use borrow.Author.Tests.{eqb-true, eq-eqb, ne_eqb, leb-true, le-leb, lt-leb}
-use Rattle.fields.specs.Fields.{ok, refused, unless}
+use Rattle.fields.specs.Fields.{ok, refused, ◌>>=◌, unless}
 use Rattle.fields.proofs.OutcomeLaws.{bind_ok, unless-ok, ok-eq}
 use Rattle.record.specs.Record.{Puzzle, read_record}
 use Rattle.record.specs.Write.{write_record}

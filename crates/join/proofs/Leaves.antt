@@ -1,12 +1,12 @@
 -- Leaves for joining: a 2 by 1 and a 2 by 2 record, each with an arrow, joined in both orders; the widest that is taken; the order of the refusals; and the halves of a board.
 -- Assumes nothing.
 use Prim.Native.Nat.{ℕ}
-use mathlib.Core.Path.{refl}
+use mathlib.Core.Path.{◌≡◌, refl}
 use mathlib.Core.List.{List, [], ◌∷◌}
 use Rattle.grid.specs.Lists.{range, upto, any, flat_map, member}
 use Rattle.grid.specs.Grid.{size, cells_of, row, col, only, up, down, left, right}
 use Rattle.grid.specs.Side.{sized}
-use Rattle.fields.specs.Fields.{Outcome, ok, refused, unless, bit, number, field, there, step_from, filler}
+use Rattle.fields.specs.Fields.{Outcome, ok, refused, ◌>>=◌, unless, bit, number, field, there, step_from, filler}
 use Rattle.record.specs.Record.{cell_codes, step_cells, arrow_at, arrows_at, read_record}
 use Rattle.record.specs.Write.{bits_of, value_of, pack, direction, step_bits, arrow_bits, record_bits, write_record}
 use Rattle.join.specs.Join.{placed, cut, code_beside, codes_beside, join_puzzles, join_record}

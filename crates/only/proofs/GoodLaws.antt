@@ -14,7 +14,7 @@ use borrow.Author.Tests.{eq-eqb, ne_eqb, lt-ltb, ltb-true}
 use Rattle.grid.specs.Grid.{size}
 use Rattle.grid.proofs.ListLaws.{split}
 use Rattle.fields.proofs.OutcomeLaws.{bind_ok, unless-ok}
-use Rattle.record.specs.Record.{Outcome, ok, refused, unless}
+use Rattle.record.specs.Record.{Outcome, ok, refused, ◌>>=◌, unless}
 use Rattle.record.specs.Leaf.{Leaf}
 use Rattle.record.proofs.LeafLaws.{ValidLeaf}
 use Rattle.finished.specs.Finished.{finished_test}

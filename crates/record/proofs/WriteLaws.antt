@@ -15,7 +15,7 @@ use Rattle.grid.proofs.ListLaws.{So-false, member-mem, split, mem-member}
 use Rattle.grid.specs.Lists.{member, any, flat_map}
 use Rattle.grid.specs.Grid.{Grid, size, row, col, only, up, down, left, right, neighbours}
 use Rattle.grid.proofs.GridLaws.{row_below, col_below, index}
-use Rattle.fields.specs.Fields.{Outcome, ok, unless, field, there, step_from, filler}
+use Rattle.fields.specs.Fields.{◌>>=◌, Outcome, ok, unless, field, there, step_from, filler}
 use Rattle.record.specs.Record.{Puzzle, cell_codes, step_cells, arrow_at, arrows_at, read_record, Bytes}
 use Rattle.record.specs.Valid.{Walk, on, Fresh, Arrow, arrow, Arrows, Valid}
 use Rattle.record.proofs.FreshLaws.{together, arrows_length, one_length}

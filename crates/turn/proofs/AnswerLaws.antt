@@ -12,7 +12,7 @@ use lib.ListN.{length, get_or}
 use lib.Seq.{ext_get_or}
 use borrow.Author.Tests.{le-leb, leb-true, lt-ltb, ltb-true}
 use Rattle.grid.proofs.ListLaws.{So-false, mem_at}
-use Rattle.fields.specs.Fields.{ok, refused, unless}
+use Rattle.fields.specs.Fields.{ok, refused, ◌>>=◌, unless}
 use Rattle.record.specs.Record.{Puzzle, read_record, Bytes}
 use Rattle.record.specs.Valid.{Valid}
 use Rattle.exported.specs.Written.{written, output_with}

@@ -7,7 +7,7 @@ use mathlib.Core.List.{List}
 use lib.Dec.{ltb, leb}
 use lib.ListN.{length}
 use borrow.Author.Tests.{lt-ltb, ltb-true, le-leb, leb-true}
-use Rattle.fields.specs.Fields.{Outcome, ok, refused, unless}
+use Rattle.fields.specs.Fields.{Outcome, ok, refused, ◌>>=◌, unless}
 use Rattle.fields.proofs.OutcomeLaws.{bind_ok, unless-ok, ok-eq}
 use Rattle.record.specs.Record.{Puzzle, read_record, Bytes}
 use Rattle.record.specs.Write.{write_record}

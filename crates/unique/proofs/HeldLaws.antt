@@ -13,7 +13,7 @@ use Rattle.grid.specs.Grid.{size}
 use Rattle.grid.specs.Side.{sized}
 use Rattle.grid.proofs.ArrayLaws.{array_length, array_in, array_take}
 use Rattle.grid.proofs.FilledLaws.{filled_same}
-use Rattle.record.specs.Record.{Outcome, refused, unless}
+use Rattle.record.specs.Record.{Outcome, refused, ◌>>=◌, unless}
 use Rattle.record.specs.Problem.{problem_of, puzzle_of}
 use Rattle.record.specs.Leaf.{Leaf, leaf_with}
 use Rattle.record.specs.Sizes.{kept_ranges}

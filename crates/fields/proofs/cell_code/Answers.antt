@@ -2,7 +2,7 @@
 -- Assumes nothing.
 use mathlib.Core.Path.{refl}
 use Rattle.fields.proofs.FieldLaws.{no_code}
-use Rattle.fields.specs.Fields.{unless}
+use Rattle.fields.specs.Fields.{unless, ◌>>=◌}
 use Rattle.fields.specs.Inside.{field_of, cell_code}
 use Rattle.fields.proofs.cell_code.Goals as goal
 
