@@ -1,3 +1,4 @@
+pub mod Values
 pub mod Leaves
 pub mod PairByPair
 pub mod Returns
