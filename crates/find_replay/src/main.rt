@@ -109,7 +109,8 @@ fn go_through(list: &[u8]) -> Tally {
 }
 
 fn main(rt: HostRuntime) -> io::Result<()> {
-    let list = replay::read_list(rt.alloc(), rt.reader())?;
-    let (_, written) = go_through(list.as_slice()).print(b" boards, ", b"", &mut io::writer(&rt));
+    let mut space = replay::room();
+    let list = replay::read_list(rt.reader(), &mut space)?;
+    let (_, written) = go_through(list).print(b" boards, ", b"", &mut io::writer(&rt));
     written
 }

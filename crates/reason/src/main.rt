@@ -5,19 +5,22 @@ ghost use Rattle.std.specs.Prelude.{◌≡◌, length, take, OnOk, IfOk, IfSome}
 ghost use Rattle.std.specs.Io.KnownBytes.{Appends};
 ghost use Rattle.answer.specs.Program.{printed};
 
-use std::alloc::Global;
 use std::io;
 use std::io::{Read, Write};
 
-// The input to its end, or one byte further than the longest.
-fn read_input<R: Read + Drop>(alloc: Global, input: R) -> io::Result<Vec<u8>>
-    ensures { IfOk result (λ v. IfSome (R.remaining input) (λ bytes. v.items ≡ take 8193 bytes)) }
+// Room for the longest input and one byte more.
+fn input_room() -> [u8; answer::INPUT + 1]
+    ensures { 8193 ≡ length result }
 {
-    let mut bytes = Vec::new(alloc);
-    input
-        .take(answer::INPUT as u64 + 1)
-        .read_to_end(&mut bytes)?;
-    Ok(bytes)
+    [0; answer::INPUT + 1]
+}
+
+// The input to its end, or one byte further than the longest.
+fn read_input<R: Read + Drop>(mut input: R, room: &mut [u8; answer::INPUT + 1]) -> io::Result<&[u8]>
+    ensures { IfOk result (λ read. IfSome (R.remaining input) (λ bytes. read.now ≡ take 8193 bytes)) }
+{
+    let n = text::read_full(&mut input, room)?;
+    Ok(&room[..n])
 }
 
 // Room for the longest text.
@@ -38,14 +41,15 @@ fn write_answer<W: Write>(input: &[u8], output: &mut W) -> io::Result<()>
 
 // Reads an input to its end, or as far as it takes to see that it is too long, and writes the text for it.
 #[tactic(auto, using(crate::proofs::InputLaws::printed_taken))]
-fn run<R: Read + Drop, W: Write>(alloc: Global, input: R, output: &mut W) -> io::Result<()>
+fn run<R: Read + Drop, W: Write>(input: R, output: &mut W) -> io::Result<()>
     ensures { OnOk result (IfSome (R.remaining input) (λ bytes.
         Appends (W.contents output.old) (W.contents output.new) (printed bytes))) }
 {
-    let bytes = read_input(alloc, input)?;
-    write_answer(bytes.as_slice(), output)
+    let mut room = input_room();
+    let bytes = read_input(input, &mut room)?;
+    write_answer(bytes, output)
 }
 
 fn main(rt: HostRuntime) -> io::Result<()> {
-    run(rt.alloc(), rt.reader(), &mut io::writer(&rt))
+    run(rt.reader(), &mut io::writer(&rt))
 }

@@ -13,7 +13,6 @@ ghost use Rattle.replay.specs.Lists.{area_of, number_at, data_start, byte_in, nu
 ghost use Rattle.replay.specs.Printed.{count_text, parts_text, damage_text, tally_text};
 
 use record::Answer;
-use std::alloc::Global;
 use std::io;
 use std::io::{Read, Write};
 
@@ -43,12 +42,11 @@ pub fn room() -> [u8; 524288]
 }
 
 // Reads a list to its end, or as far as there is room for the longest.
-pub fn read_list<R: Read + Drop>(alloc: Global, input: R) -> io::Result<Vec<u8>>
-    ensures { IfOk result (λ v. IfSome (R.remaining input) (λ bytes. v.items ≡ take 524288 bytes)) }
+pub fn read_list<R: Read + Drop>(mut input: R, room: &mut [u8; 524288]) -> io::Result<&[u8]>
+    ensures { IfOk result (λ list. IfSome (R.remaining input) (λ bytes. list.now ≡ take 524288 bytes)) }
 {
-    let mut list = Vec::new(alloc);
-    input.take(524288).read_to_end(&mut list)?;
-    Ok(list)
+    let n = text::read_full(&mut input, room)?;
+    Ok(&room[..n])
 }
 
 // A number that is no literal stands in every place of a fresh buffer.

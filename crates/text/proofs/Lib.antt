@@ -5,4 +5,4 @@ pub mod Digits
 pub mod Lines
 pub mod Codes
 pub mod ToldLaws
-pub mod KnownLaws
+pub mod ReadLaws

@@ -1,12 +1,51 @@
-// The text that the program `reason` prints for what the host call says: numbers, words and lines. The replaying programs write their
-// numbers and words by the same functions.
+// The text that the program `reason` prints for what the host call says: numbers, words and lines; and how its input is read. The replaying
+// programs read their lists, and write their numbers and words, by the same functions.
 #![tactic(auto)]
 
-ghost use Rattle.std.specs.Prelude.{◌≡◌, ◌∷◌, ◌++◌, [], ◌+◌, ◌*◌, ◌%◌, ◌≤◌, ◌<◌, length, take};
+ghost use Rattle.std.specs.Prelude.{◌≡◌, ◌∷◌, ◌++◌, [], ◌+◌, ◌*◌, ◌%◌, ◌≤◌, ◌<◌, length, take, IfOk, IfSome};
+ghost use Rattle.std.specs.Io.KnownBytes.{Consumes, IsAtEnd};
 ghost use Rattle.grid.specs.Lists.{flat_map};
 ghost use Rattle.std.specs.Int.Signed.{mag};
 ghost use Rattle.text.specs.Told.{told_by, count_of, told_text};
 ghost use Rattle.text.specs.Text.{Written, digits_within, digits, literal_in, literals_in, literal_line};
+
+use std::io;
+use std::io::{ErrorKind, Read};
+
+// One read, tried again where it was interrupted.
+fn read_once<R: Read>(input: &mut R, room: &mut [u8]) -> io::Result<usize>
+    ensures within { IfOk result (λ n. n ≤ length room.new) }
+    ensures taken { IfOk result (λ n. Consumes (R.remaining input.old) (R.remaining input.new) (take n room.new)) }
+    ensures end { IfOk result (λ n. n ≡ 0 → 0 < length room.old → IsAtEnd (R.remaining input.new)) }
+{
+    for _ in 0..u64::MAX {
+        match input.read(room) {
+            Ok(n) => return Ok(n),
+            Err(e) => {
+                if e.kind() != ErrorKind::Interrupted {
+                    return Err(e);
+                }
+            }
+        }
+    }
+    input.read(room)
+}
+
+// Reads what an input has, as far as there is room for it, and returns how many bytes that is. An error is one of the input's own reads.
+pub fn read_full<R: Read>(input: &mut R, room: &mut [u8]) -> io::Result<usize>
+    ensures within { IfOk result (λ n. n ≤ length room.old) }
+    ensures read { IfOk result (λ n. IfSome (R.remaining input.old) (λ bytes. take n room.new ≡ take (length room.old) bytes)) }
+{
+    let mut n = 0;
+    while n < room.len() {
+        let count = read_once(input, &mut room[n..])?;
+        if count == 0 {
+            return Ok(n);
+        }
+        n += count;
+    }
+    Ok(n)
+}
 
 // Writes one byte, and returns the place behind it.
 fn put(out: &mut [u8], at: usize, byte: u8) -> usize

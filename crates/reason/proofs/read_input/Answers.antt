@@ -1,8 +1,8 @@
--- `reason::read_input` meets its contract: what is read behind nothing is the first bytes of the input.
+-- `reason::read_input` meets its contract: the room that is filled has 8,193 places.
 -- Assumes nothing.
-use Rattle.text.proofs.KnownLaws.{known_taken}
+use native.Mathlib.Omega.{arith}
+use Rattle.text.proofs.ReadLaws.{read_known}
 use Rattle.reason.proofs.read_input.Goals as goal
 
 pub returns : goal.returns
-returns g c = known_taken g.R.Read.remaining c.take.result.inner c.args.input c.take.result.limit 8193 c.new-bytes.result.items
-    c.read_to_end.new.buf.items c.take.ensures.inner c.take.ensures.limit c.new-bytes.ensures.items c.in_ok-read_to_end.ensures.bytes
+returns g c = read_known _ _ _ _ 8193 _ c.in_ok-n.ensures.read (omega (arith, c.told-room, c.in_ok-n.ensures.within)) (omega (arith, c.told-room))

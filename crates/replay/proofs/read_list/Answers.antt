@@ -1,8 +1,8 @@
--- `replay::read_list` meets its contract: what is read behind nothing is the first bytes of the input.
+-- `replay::read_list` meets its contract: the room that is filled has 524,288 places.
 -- Assumes nothing.
-use Rattle.text.proofs.KnownLaws.{known_taken}
+use native.Mathlib.Omega.{arith}
+use Rattle.text.proofs.ReadLaws.{read_known}
 use Rattle.replay.proofs.read_list.Goals as goal
 
 pub returns : goal.returns
-returns g c = known_taken g.R.Read.remaining c.take.result.inner c.args.input c.take.result.limit 524288 c.new-list.result.items
-    c.read_to_end.new.buf.items c.take.ensures.inner c.take.ensures.limit c.new-list.ensures.items c.in_ok-read_to_end.ensures.bytes
+returns g c = read_known _ _ _ _ 524288 _ c.in_ok-n.ensures.read (omega (arith, c.told-room, c.in_ok-n.ensures.within)) (omega (arith, c.told-room))
