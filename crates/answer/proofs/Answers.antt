@@ -2,21 +2,20 @@
 -- Assumes nothing.
 use Prim.Native.Nat.{ℕ, zero, suc, ◌+◌, ◌*◌, ◌/◌, ◌%◌, ◌≤◌, ◌<◌}
 use native.Mathlib.Omega.{arith}
-use mathlib.Core.Path.{◌≡◌, refl, ap, ◌∙◌}
+use mathlib.Core.Path.{◌≡◌, refl, sym, ap, ◌∙◌, subst}
 use mathlib.Core.List.{List, [], ◌∷◌, ◌++◌, map, Memᴰ}
-use lib.IntN.{ℤ}
-use lib.ListN.{length, drop, length-append, length-drop}
+use lib.ListN.{length, drop}
 use lib.Seq.{take_at}
-use lib.Signed.{mag}
+use Rattle.std.specs.Prelude.{Ok, Err, IfOk, IfErr}
+use Rattle.std.specs.declared.result.Result.{Result}
 use Rattle.grid.specs.Lists.{flat_map}
-use Rattle.record.specs.Record.{Outcome}
+use Rattle.record.specs.Record.{Outcome, refused}
 use Rattle.grid.specs.Cells.{Literal, word}
 use Rattle.literals.specs.Literals.{Found}
 use Rattle.exported.specs.Written.{bytes_of}
 use Rattle.host_find.specs.Host.{returned, output_after}
 use Rattle.text.specs.Text.{digits, line, two_words, reason_text, literal_line, literal_in, literals_in}
-use Rattle.text.specs.Told.{told_by, count_of, told_text}
-use Rattle.text.specs.declared.Told.{Told}
+use Rattle.text.specs.Told.{told_by, told_text}
 use Rattle.answer.specs.Program.{text_of, program_finds, printed}
 use Rattle.host.specs.Returns.{refusals, Possible, refusal_of, value_of}
 use Rattle.answer.proofs.Finds.{Printable, nothing, reason, program_finds_lem, refusal_small}
@@ -42,26 +41,25 @@ unfolding bytes_of flat_map
 bytes_long [] = refl
 bytes_long (l ∷ r) = omega (arith, bytes_long r)
 
-small : {o : Outcome Found} → Possible (8 ∷ refusals) Printable o → mag (returned o) < 4096
-unfolding returned
-small (refusal_of {k = zero} m) = omega arith
-small (refusal_of {k = suc k} m) = omega (arith, (refusal_small (suc k) m).1)
-small (value_of nothing) = omega arith
-small (value_of (reason p q h)) = omega arith
-
-few : {o : Outcome Found} → Possible (8 ∷ refusals) Printable o → count_of (told_by (returned o)) ≤ 3073
-unfolding returned told_by count_of
+few : {o : Outcome Found} → Possible (8 ∷ refusals) Printable o → IfOk (told_by (returned o)) (λ n. n ≤ 3073)
+unfolding returned told_by
 few (refusal_of {k = zero} m) = omega arith
-few (refusal_of {k = suc k} m) = omega arith
+few (refusal_of {k = suc k} m) = tt
 few (value_of nothing) = omega arith
-few (value_of (reason {r = []} p q h)) = omega arith
-few (value_of (reason {r = l ∷ r} p q h)) = q
+few (value_of (reason p q h)) = q
 
-long : {o : Outcome Found} (before : List ℕ) → Possible (8 ∷ refusals) Printable o → 6146 ≤ length before → 6146 ≤ length (output_after o before)
-unfolding output_after
-long before (refusal_of m) h = h
-long before (value_of nothing) h = h
-long before (value_of (reason {r} p q k)) h = omega (arith, length-append (bytes_of (map word r)) (drop (2 * length r) before), length-drop (2 * length r) before, bytes_long r)
+small : {o : Outcome Found} → Possible (8 ∷ refusals) Printable o → IfErr (told_by (returned o)) (λ k. k < 10000)
+unfolding returned told_by
+small (refusal_of {k = zero} m) = tt
+small (refusal_of {k = suc k} m) = omega (arith, (refusal_small (suc k) m).1)
+small (value_of nothing) = tt
+small (value_of (reason p q h)) = tt
+
+-- a refusal that the program finds is not 0, so that its number reads back
+refusal_back : (k : ℕ) → Possible (8 ∷ refusals) Printable (refused k) → told_by (returned (refused k)) ≡ Err k
+unfolding returned told_by
+refusal_back zero (refusal_of m) = absurd (omega (arith, (refusal_small zero m).0))
+refusal_back (suc k) p = refl
 
 text : {o : Outcome Found} (before : List ℕ) → Possible (8 ∷ refusals) Printable o → told_text (told_by (returned o)) (output_after o before) ≡ text_of o
 unfolding returned output_after told_by told_text text_of
@@ -73,21 +71,31 @@ text before (value_of (reason {r = l ∷ r} p q h)) =
     ap (λ (m : List Literal). line (two_words reason_text (digits (length (l ∷ r)))) ++ flat_map literal_line m)
     (ap literals_in (take_at (bytes_of (map word (l ∷ r))) (drop (2 * length (l ∷ r)) before) (2 * length (l ∷ r)) (bytes_long (l ∷ r))) ∙ literals_back (l ∷ r) h)
 
-module _ (input : List ℕ) {code : ℤ} (e : code ≡ returned (program_finds input)) where
-  -- the number returned is small
-  pub code_small : mag code < 4096
-  code_small = rw e (small (program_finds_lem input))
+roomy : (told : Result ℕ ℕ) (found : List ℕ) → 6146 ≤ length found → IfOk told (λ n. n ≤ 3073) → IfOk told (λ n. (n ≤ 3073) × (2 * n ≤ length found))
+roomy (Ok n) found h f = (f, omega (arith, h, f))
+roomy (Err k) found h f = tt
 
-  module _ {t : Told} (f : t ≡ told_by code) where
-    -- at most 3,073 literals are told of
-    pub count_small : count_of t ≤ 3073
-    count_small = rw (f, e) (few (program_finds_lem input))
+-- what the program finds where the input is refused
+module _ (input : List ℕ) (k : ℕ) (e : program_finds input ≡ refused k) where
+  pub refusal_told : ◌≡◌ {A = Result ℕ ℕ} (Err k) (told_by (returned (program_finds input)))
+  refusal_told = rw e (sym (refusal_back k (subst (Possible (8 ∷ refusals) Printable) e (program_finds_lem input))))
 
-    -- the text for them is what the program prints
-    pub text_printed : (before after : List ℕ) → after ≡ output_after (program_finds input) before → told_text t after ≡ printed input
-    unfolding printed
-    text_printed before after g = rw (f, e, g) (text before (program_finds_lem input))
+  pub refusal_leaves : (found : List ℕ) → found ≡ output_after (program_finds input) found
+  unfolding output_after
+  refusal_leaves found = rw e refl
 
--- the output stays long enough
-pub output_long : (input before after : List ℕ) → length before ≡ 6146 → after ≡ output_after (program_finds input) before → 6146 ≤ length after
-output_long input before after h g = rw g (long before (program_finds_lem input) (omega arith))
+module _ (input : List ℕ) {told : Result ℕ ℕ} (e : told ≡ told_by (returned (program_finds input))) where
+  -- at most 3,073 literals are told of, for which the output has room
+  pub count_small : (found : List ℕ) → 6146 ≤ length found → IfOk told (λ n. (n ≤ 3073) × (2 * n ≤ length found))
+  count_small found h =
+      let f : IfOk told (λ n. n ≤ 3073) = rw e (few (program_finds_lem input)) in
+      roomy told found h f
+
+  -- a refusal's number is small
+  pub number_small : IfErr told (λ k. k < 10000)
+  number_small = rw e (small (program_finds_lem input))
+
+  -- the text for them is what the program prints
+  pub text_printed : (before after : List ℕ) → after ≡ output_after (program_finds input) before → told_text told after ≡ printed input
+  unfolding printed
+  text_printed before after g = rw (e, g) (text before (program_finds_lem input))

@@ -1,13 +1,21 @@
 -- What the program finds, by the tests of the input.
 -- Assumes nothing.
-use Prim.Native.Nat.{ℕ, suc, ◌+◌, ◌-◌, ◌*◌, ◌≤◌, ◌<◌}
+use Prim.Native.Nat.{ℕ, suc, ◌+◌, ◌*◌, ◌≤◌, ◌<◌}
 use native.Mathlib.Omega.{arith}
-use mathlib.Core.Path.{◌≡◌, refl, sym}
+use mathlib.Core.Path.{◌≡◌, refl, sym, ap, ◌∙◌}
 use mathlib.Core.List.{List, [], ◌∷◌}
-use lib.ListN.{length, take, drop}
+use lib.ListN.{length, get_or, take, drop, length-drop}
+use lib.Seq.{drop-drop}
 use borrow.Author.Tests.{lt-ltb, le-ltb}
-use borrow.Author.Rules.{part_to_end}
-use Rattle.record.specs.Record.{refused}
+use denote.Bor.{Bor}
+use Rattle.std.specs.Prelude.{None, Some, MatchOption, MatchResult}
+use Rattle.std.specs.declared.option.Option.{Option}
+use Rattle.std.specs.declared.result.Result.{Result}
+use Rattle.std.specs.Option.{ok_or}
+use Rattle.std.specs.List.{IsSplitAt}
+use Rattle.refusal.specs.Refusals.{refused, number_of}
+use Rattle.refusal.specs.declared.Refusal.{Refusal}
+use Rattle.refusal.specs.declared.Refusal.TheVariants.{RecordEnds}
 use Rattle.host_find.specs.Host.{host_finds}
 use Rattle.answer.specs.Program.{length_said, output_limit, answer_of, input_answer, program_finds}
 
@@ -54,9 +62,32 @@ module _ (input : List ℕ) (fits : length input ≤ 8192) where
   unfolding program_finds
   whole_input h = rw (le-ltb 8192 (length input) fits) (whole input h)
 
-  -- the same, with the record and the decisions as parts of the input from one index to another, and an output of k bytes
-  pub whole_parts : (n k : ℕ) → n ≡ length_said input → k ≡ 6146 → 2 + n ≤ length input
-      → host_finds (take (2 + n - 2) (drop 2 input)) (take (length input - (2 + n)) (drop (2 + n) input)) k ≡ program_finds input
-  whole_parts n k e f h =
-      let z : 2 + n - 2 ≡ n = omega arith in
-      rw (z, part_to_end input (2 + n), f, e) (sym (whole_input (omega arith)))
+  -- the same, with the record and the decisions as parts of what stands behind the first two bytes
+  pub parted : (n : ℕ) {leaf decisions : List ℕ} → n ≡ length_said input → 2 + n ≤ length input → leaf ≡ take n (drop 2 input) → decisions ≡ drop n (drop 2 input)
+      → program_finds input ≡ host_finds leaf decisions output_limit
+  unfolding output_limit
+  parted n e h r d = rw (r, d, drop-drop n 2 input, e) (whole_input (omega (arith, e, h)))
+
+  -- the same of an input that is cut where its length says, if it can be
+  pub cut_apart : (n : ℕ) {r : Result (Bor (List ℕ) × Bor (List ℕ)) Refusal} (o : Option (Bor (List ℕ) × Bor (List ℕ))) {rest : List ℕ}
+      → n ≡ length_said input → 2 ≤ length input → rest ≡ drop 2 input
+      → MatchOption o (length rest < n) (λ p. IsSplitAt rest n p.0.now p.1.now) → r ≡ ok_or o RecordEnds
+      → MatchResult r (λ parts. program_finds input ≡ host_finds parts.0.now parts.1.now output_limit) (λ refusal. program_finds input ≡ refused (number_of refusal))
+  cut_apart n None {rest} e two s h v =
+      let short : length rest + 2 ≡ length input = ap (λ (l : List ℕ). length l + 2) s ∙ omega (arith, length-drop 2 input, two) in
+      rw v (cut_short two (omega (arith, h, short, e)))
+  cut_apart n (Some p) {rest} e two s h v =
+      let short : length rest + 2 ≡ length input = ap (λ (l : List ℕ). length l + 2) s ∙ omega (arith, length-drop 2 input, two) in
+      rw v (parted n e (omega (arith, h.0, short)) (h.1 ∙ ap (take n) s) (h.2 ∙ ap (drop n) s))
+
+-- the host call with an output that is long enough for every record
+pub host_program : (input leaf decisions found : List ℕ) → program_finds input ≡ host_finds leaf decisions output_limit → length found ≡ 6146
+    → host_finds leaf decisions (length found) ≡ program_finds input
+unfolding output_limit
+host_program input leaf decisions found e h = rw h (sym e)
+
+-- the length that the first two bytes say
+pub said_in : (input : List ℕ) → get_or (take 2 input) 0 0 * 256 + get_or (take 2 input) 1 0 ≡ length_said input
+said_in [] = refl
+said_in (a ∷ []) = refl
+said_in (a ∷ b ∷ input) = refl

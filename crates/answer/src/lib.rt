@@ -1,10 +1,15 @@
 // The text that the program `reason` prints for its input.
 #![tactic(auto)]
 
-ghost use Rattle.std.specs.Prelude.{◌≡◌, ◌+◌, ◌*◌, ◌<◌, length};
-ghost use Rattle.host_find.specs.Host.{returned, output_after};
-ghost use Rattle.answer.specs.Program.{program_finds, printed};
+ghost use Rattle.std.specs.Prelude.{◌≡◌, MatchResult};
+ghost use Rattle.refusal.specs.Refusals.{refused, number_of};
+ghost use Rattle.host_find.specs.Host.{host_finds, returned, output_after};
+ghost use Rattle.answer.specs.Program.{output_limit, program_finds, printed};
 ghost use Rattle.text.specs.Text.{Written};
+ghost use Rattle.text.specs.Told.{told_by};
+
+use refusal::Refusal;
+use text::Text;
 
 // The length of the longest text: a first line of 12 bytes, and 7 for each of 3,073 literals.
 pub const TEXT: usize = 21523;
@@ -12,45 +17,46 @@ pub const TEXT: usize = 21523;
 // The length of the longest input that is not refused for it.
 pub const INPUT: usize = 8192;
 
-// Room for the literals of the longest reason, two bytes each.
-fn no_bytes() -> [u8; 6146]
-    ensures { length result ≡ 6146 }
-{
-    [0; 6146]
-}
+// The length of the literals of the longest reason, two bytes each.
+const FOUND: usize = 6146;
 
-// The record's length that the first two bytes of the input say, high byte first.
-fn record_length(high: u8, low: u8) -> usize
-    ensures { (result ≡ high * 256 + low) × (result < 65536) }
+// The record in an input, whose length the first two bytes say, high byte first, and the decisions behind it. Input that is too long or too
+// short is refused as the host call refuses.
+fn parts(input: &[u8]) -> Result<(&[u8], &[u8]), Refusal>
+    ensures { MatchResult result
+        (λ parts. program_finds input.now ≡ host_finds parts.0.now parts.1.now output_limit)
+        (λ refusal. program_finds input.now ≡ refused (number_of refusal)) }
 {
-    grid::byte(high) * 256 + grid::byte(low)
+    if INPUT < input.len() {
+        return Err(Refusal::Decision);
+    }
+    let Some((length, rest)) = input.split_first_chunk::<2>() else {
+        return Err(Refusal::RecordEnds);
+    };
+    rest.split_at_checked(usize::from(u16::from_be_bytes(*length)))
+        .ok_or(Refusal::RecordEnds)
 }
 
 // Takes the input apart and calls the host call, with an output that is long enough for every record.
-// Input that is too long or too short is answered as the host call answers a refusal.
-fn find_in(input: &[u8], found: &mut [u8]) -> i32
-    requires { length found.old ≡ 6146 }
-    ensures { (result ≡ returned (program_finds input.now)) × (found.new ≡ output_after (program_finds input.now) found.old) }
+fn find_in(input: &[u8], found: &mut [u8; FOUND]) -> Result<usize, usize>
+    ensures told { result ≡ told_by (returned (program_finds input.now)) }
+    ensures found { found.new ≡ output_after (program_finds input.now) found.old }
 {
-    if INPUT < input.len() {
-        return -12;
+    match parts(input) {
+        Ok((record, decisions)) => {
+            text::read_code(host::evolmino_find(record, decisions, found))
+        }
+        Err(refusal) => Err(usize::from(refusal.number())),
     }
-    if input.len() < 2 {
-        return -1;
-    }
-    let decisions = 2 + record_length(input[0], input[1]);
-    if input.len() < decisions {
-        return -1;
-    }
-    host::evolmino_find(&input[2..decisions], &input[decisions..], found)
 }
 
 // Writes what the program `reason` prints for its input, and returns how many bytes that are. The bytes behind them stay as they were.
 pub fn respond(input: &[u8], out: &mut [u8; TEXT]) -> usize
     ensures { Written out.old 0 (printed input.now) out.new result }
 {
-    let mut found = no_bytes();
-    let code = find_in(input, &mut found);
-    let told = text::read_code(code);
-    text::write_told(out, told, &found)
+    let mut found = [0; FOUND];
+    let told = find_in(input, &mut found);
+    let mut text = Text { out, len: 0 };
+    text.push_told(told, &found);
+    text.len
 }

@@ -8,9 +8,9 @@
 ghost use Rattle.std.specs.Prelude.{◌≤◌, ◌<◌, ◌≡◌, length, replicate};
 ghost use Rattle.replay.specs.Comparisons.{DiffersUnless};
 ghost use Rattle.replay.specs.Lists.{byte_in, differs};
-ghost use Rattle.answer_replay.specs.Answers.{AnswersSo};
+ghost use Rattle.answer_replay.specs.Answers.{AnswersSo, EntrySo};
 
-use replay::{Run, Tally};
+use replay::{Cursor, Entries, Run};
 use std::io;
 
 // A byte that no text has stands in every place of a fresh room for the text.
@@ -38,37 +38,31 @@ fn entry_differs(list: &[u8], input: &[u8], at: usize, count: usize) -> bool
     n != count || text_differs(list, at, count, &text)
 }
 
-// Goes through the entry at `at`.
-fn run_entry(list: &[u8], at: usize) -> Run
-    requires { at < length list.now }
-{
-    let text = at + 2 + replay::number_at(list, at);
-    if list.len() < text {
-        return Run::broken();
-    }
-    let count = replay::number_at(list, text);
-    let end = text + 2 + count;
-    if list.len() < end {
-        return Run::broken();
-    }
-    Run::of(
-        entry_differs(list, &list[at + 2..text], text + 2, count),
-        end,
-    )
-}
+// Inputs of the program, each with its text.
+#[derive(Drop)]
+struct Inputs;
 
-// Goes through the entries.
-fn go_through(list: &[u8]) -> Tally {
-    let mut tally = Tally::of(list, 0);
-    while tally.at < list.len() {
-        tally = tally.with(run_entry(list, tally.at), list.len());
+impl Entries for Inputs {
+    ghost counts = { λ _. EntrySo };
+
+    ghost BEFORE = { 0 };
+
+    const BEFORE: usize = 0;
+
+    fn of(_data: &[u8]) -> Inputs {
+        Inputs
     }
-    tally
+
+    fn run(&self, list: &[u8], at: usize) -> Option<Run> {
+        let mut cursor = Cursor { list, at };
+        let input = cursor.counted()?;
+        let count = cursor.number()?;
+        let text = cursor.at;
+        cursor.take(count)?;
+        Some(Run::of(entry_differs(list, input, text, count), cursor.at))
+    }
 }
 
 fn main(rt: HostRuntime) -> io::Result<()> {
-    let mut space = replay::room();
-    let list = replay::read_list(rt.reader(), &mut space)?;
-    let (_, written) = go_through(list).print(b" inputs, ", b"", &mut io::writer(&rt));
-    written
+    replay::replay::<Inputs, _, _>(rt.reader(), &mut io::writer(&rt), " inputs, ", "")
 }

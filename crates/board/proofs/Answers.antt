@@ -7,7 +7,7 @@ use lib.ListN.{get_or}
 use borrow.Author.Tests.{lt-ltb, le-ltb, le-leb, lt-leb, eq-eqb, ne_eqb}
 use Rattle.record.specs.declared.Answer.TheVariants.{Done, Refused}
 use Rattle.board.specs.declared.Board.{Board}
-use Rattle.board.specs.declared.Decided.{Decided}
+use Rattle.board.specs.Answers.{Decided}
 use Rattle.board.specs.Form.{well_formed}
 use Rattle.board.specs.Decide.{area, decide_refusal, undo_refusal, placed, removed, answered, decide_of, undo_of}
 

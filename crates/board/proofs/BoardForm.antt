@@ -1,6 +1,6 @@
 -- A board passes the test exactly when it is that of a valid puzzle with standing decisions.
 -- Assumes nothing.
-use Prim.Native.Nat.{ℕ, ◌-◌, ◌≤◌, ◌<◌}
+use Prim.Native.Nat.{ℕ, ◌*◌, ◌-◌, ◌≤◌, ◌<◌}
 use native.Mathlib.Omega.{arith}
 use mathlib.Core.Logic.{◌⊎◌, inl, inr}
 use mathlib.Core.Path.{◌≡◌, refl, sym, ap, ap₂, ◌∙◌, subst}
@@ -290,6 +290,24 @@ module _ (b : Board) (w : Whole b) where
   pub whole_most : size (grid_of b.problem) ≤ 1024
   unfolding g
   whole_most = most
+
+-- ---- what the code needs of a board that passes
+
+module _ (b : Board) (w : well_formed b ≡ true) where
+  pub formed_area : b.problem.height * b.problem.width ≤ 1024
+  unfolding grid_of size
+  formed_area = whole_most b (Whole-is b w)
+
+  pub formed_few : b.decided ≤ 1024
+  formed_few = (Whole-is b w).few
+
+  pub formed_room : (i : ℕ) → i < b.problem.height * b.problem.width → get_or b.cells i 0 ≡ 2 → b.decided < 1024
+  unfolding grid_of size
+  formed_room = whole_room b (Whole-is b w)
+
+  pub formed_latest : 0 < b.decided → get_or b.order (b.decided - 1) 0 < 1024
+  unfolding grid_of size
+  formed_latest h = omega (arith, whole_latest b (Whole-is b w) h, whole_most b (Whole-is b w))
 
 -- ---- and the other way round
 

@@ -15,7 +15,7 @@ use Rattle.record.specs.Problem.{grid_of}
 use Rattle.record.specs.declared.Answer.{Answer}
 use Rattle.record.specs.declared.Answer.TheVariants.{Done, Refused}
 use Rattle.board.specs.declared.Board.{Board}
-use Rattle.board.specs.declared.Decided.{Decided}
+use Rattle.board.specs.Answers.{Decided}
 use Rattle.board.specs.Kept.{sizes_on}
 use Rattle.board.specs.Form.{Counts, sizes_good, well_formed}
 use Rattle.board.specs.Decide.{with_decisions, decide_refusal, undo_refusal, placed, removed, answered, decide_of, undo_of, refused_with, onward, placed_from, decide_all_of}

@@ -2,29 +2,24 @@
 -- Assumes nothing.
 use Prim.Native.Nat.{ℕ, zero, suc, ◌+◌, ◌-◌, ◌≤◌}
 use native.Mathlib.Omega.{arith}
-use mathlib.Core.Path.{◌≡◌, refl, sym, ap, ◌∙◌}
+use mathlib.Core.Path.{◌≡◌, refl, ap, ◌∙◌}
 use mathlib.Core.Bool.{true, false}
 use mathlib.Core.List.{List, [], ◌∷◌, map}
 use lib.ListN.{replicate, length-replicate, replicate-append-replicate}
 use Rattle.grid.specs.Lists.{range, upto, array_of}
 use Rattle.grid.specs.Grid.{Grid, size, cells_of}
-use Rattle.record.specs.Record.{Puzzle, ok, refused, read_record}
+use Rattle.record.specs.Record.{Puzzle, Outcome, ok, refused, read_record}
 use Rattle.record.specs.Leaf.{Range, Leaf, leaf_with, is_edition, sizes_of}
-use Rattle.record.specs.Problem.{problem_of, reading, read_of}
+use Rattle.record.specs.Problem.{problem_of}
 use Rattle.record.specs.declared.Problem.{Problem}
-use Rattle.record.specs.declared.Reading.{Reading}
-use Rattle.record.specs.declared.Answer.{Answer}
-use Rattle.record.specs.declared.Answer.TheVariants.{Done, Refused}
-use Rattle.record.proofs.ProblemLaws.{read_refused, read_done}
 use Rattle.record.proofs.RecordLaws.{record_Valid, Valid-size}
-use Rattle.record.proofs.ArrowLaws.{Answered-done, Answered-fault}
 use Rattle.record.proofs.LeafLaws.{ok_leaf, leaf_refused, leaf_16, leaf_sizes}
 use Rattle.sizes.specs.Kept.{lowest_of, highest_of}
-use Rattle.sizes.specs.Inside.{Drawn, SizesRead}
+use Rattle.sizes.specs.Inside.{Keeps}
 use Rattle.board.specs.declared.Board.{Board}
-use Rattle.board.specs.declared.Opened.{Opened}
+use Rattle.board.specs.Answers.{opened_as}
 use Rattle.board.specs.Board.{value_at, cells_after}
-use Rattle.board.specs.Kept.{no_hints, board_of, blank_board, opening, open_of}
+use Rattle.board.specs.Kept.{no_hints, board_of, opening, open_of}
 use Rattle.board.specs.Inside.{fresh_of}
 
 -- no cell is decided
@@ -44,53 +39,30 @@ pub fresh_leaf : (l : Leaf) → size l.puzzle.grid ≤ 1024 → fresh_of (proble
 unfolding board_of
 fresh_leaf l h = rw (fresh_cells l.puzzle.grid h) (unfold array_of in refl)
 
--- what is opened
-opened_fresh : (s : List ℕ) (e : ℕ) (ns : List ℕ) (p : Puzzle) (rs : List Range) → read_record s ≡ ok p → is_edition e ≡ true → sizes_of p ns ≡ ok rs
-    → {q : Problem} {a : Answer} {b : Board} {low high : List ℕ} → q ≡ problem_of p → a ≡ Done → low ≡ lowest_of rs → high ≡ highest_of rs → b ≡ fresh_of q e low high
-    → ◌≡◌ {A = Opened} (record { answer = a; board = b }) (open_of s e ns)
-unfolding open_of opening
-opened_fresh s e ns p rs r h z i a l u f =
-    rw (f, i, a, l, u, ok_leaf s e ns p rs r h z) (ap (λ (b : Board). record { answer = Done; board = b }) (fresh_leaf (leaf_with e rs p) (Valid-size (record_Valid s r))))
+-- the problem that was read keeps its puzzle
+pub read_Keeps : (s : List ℕ) (p : Puzzle) {q : Problem} → read_record s ≡ ok p → q ≡ problem_of p → Keeps p q
+read_Keeps s p r e = record { valid = record_Valid s r; is = e }
 
--- the arrays of what was read hold its arrows
-read_Drawn : (s : List ℕ) (p : Puzzle) {q : Problem} → read_record s ≡ ok p → q ≡ problem_of p → Drawn p q.arrows q.ends q.count
-read_Drawn s p r e =
-    record { valid = record_Valid s r; line = ap (λ (q : Problem). q.arrows) e; cuts = ap (λ (q : Problem). q.ends) e; number = ap (λ (q : Problem). q.count) e }
-
--- what stands beside a refusal
-pub opened_not : {r : Reading} {b : Board} {low high : List ℕ} (k : ℕ) → r ≡ reading (refused k) → low ≡ replicate 1024 0 → high ≡ replicate 1024 0 → b ≡ fresh_of r.problem 1 low high
-    → ◌≡◌ {A = Opened} (record { answer = Refused k; board = b }) (opening (refused k))
-unfolding reading opening blank_board array_of
-opened_not k e l h f = rw (f, e, l, h) refl
-
-module _ (s : List ℕ) (e : ℕ) (ns : List ℕ) (r : Reading) (is : r ≡ read_of s) where
+module _ (s : List ℕ) (e : ℕ) (ns : List ℕ) where
   -- the record is refused
-  pub open_refused : {k : ℕ} → r.answer ≡ Refused k → opening (refused k) ≡ open_of s e ns
-  unfolding open_of
-  open_refused {k} a = ap opening (sym (leaf_refused s e ns (read_refused s r is k a)))
+  pub open_refused : {k : ℕ} → read_record s ≡ refused k → refused k ≡ opened_as (open_of s e ns)
+  unfolding open_of opening
+  open_refused r = rw (leaf_refused s e ns r) refl
 
-  module _ (a : r.answer ≡ Done) where
+  module _ (p : Puzzle) (r : read_record s ≡ ok p) where
     -- the edition is refused
-    pub open_16 : is_edition e ≡ false → opening (refused 16) ≡ open_of s e ns
-    unfolding open_of
-    open_16 h = let p = read_done s r is a in ap opening (sym (leaf_16 s e ns p.0 p.1 h))
+    pub open_16 : is_edition e ≡ false → refused 16 ≡ opened_as (open_of s e ns)
+    unfolding open_of opening
+    open_16 h = rw (leaf_16 s e ns p r h) refl
 
-    -- the sizes are read for the puzzle of the record
-    pub open_Drawn : (p : Puzzle) × Drawn p r.problem.arrows r.problem.ends r.problem.count
-    open_Drawn = let p = read_done s r is a in (p.0, read_Drawn s p.0 p.1 p.2)
-
-    module _ (h : is_edition e ≡ true) {low high : List ℕ} {z : Answer}
-        (t : (p : Puzzle) → Drawn p r.problem.arrows r.problem.ends r.problem.count → SizesRead (sizes_of p ns) low high z) where
-      -- they are refused
-      pub open_22 : {k : ℕ} → z ≡ Refused k → opening (refused k) ≡ open_of s e ns
-      unfolding open_of
-      open_22 {k} q =
-          let p = read_done s r is a in
-          ap opening (sym (leaf_sizes s e ns p.0 p.1 h (Answered-fault (t p.0 (read_Drawn s p.0 p.1 p.2)) q)))
+    module _ (h : is_edition e ≡ true) where
+      -- the sizes are refused
+      pub open_22 : {k : ℕ} → sizes_of p ns ≡ refused k → refused k ≡ opened_as (open_of s e ns)
+      unfolding open_of opening
+      open_22 z = rw (leaf_sizes s e ns p r h z) refl
 
       -- a fresh board
-      pub open_fresh : z ≡ Done → {b : Board} → b ≡ fresh_of r.problem e low high → ◌≡◌ {A = Opened} (record { answer = r.answer; board = b }) (open_of s e ns)
-      open_fresh q f =
-          let p = read_done s r is a in
-          let d = Answered-done (t p.0 (read_Drawn s p.0 p.1 p.2)) q in
-          opened_fresh s e ns p.0 d.0 p.1 h d.1 p.2 a d.2.0 d.2.1 f
+      pub open_fresh : {rs : List Range} {q : Problem} {low high : List ℕ} → sizes_of p ns ≡ ok rs → q ≡ problem_of p → low ≡ lowest_of rs → high ≡ highest_of rs
+          → ok (fresh_of q e low high) ≡ opened_as (open_of s e ns)
+      unfolding open_of opening
+      open_fresh {rs} z a l u = rw (a, l, u, ok_leaf s e ns p rs r h z) (ap {B = Outcome Board} ok (fresh_leaf (leaf_with e rs p) (Valid-size (record_Valid s r))))

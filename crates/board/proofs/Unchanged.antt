@@ -11,7 +11,7 @@ use Rattle.record.specs.Problem.{number_of}
 use Rattle.record.specs.declared.Answer.{Answer}
 use Rattle.record.specs.declared.Answer.TheVariants.{Done, Refused}
 use Rattle.board.specs.declared.Board.{Board}
-use Rattle.board.specs.declared.Decided.{Decided}
+use Rattle.board.specs.Answers.{Decided}
 use Rattle.board.specs.Kept.{opening, open_of}
 use Rattle.board.specs.Form.{well_formed}
 use Rattle.board.specs.Decide.{decide_refusal, undo_refusal, placed, removed, answered, decide_of, undo_of, refused_with, onward, placed_from, decide_all_of}

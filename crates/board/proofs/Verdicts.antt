@@ -1,23 +1,39 @@
 -- The test of a board, taken part by part: a law for each way out of the code.
 -- Assumes nothing.
-use mathlib.Core.Path.{◌≡◌, refl, sym, ap}
-use mathlib.Core.Bool.{Bool, true, false, ◌&&◌}
+use Prim.Native.Nat.{ℕ, ◌*◌, ◌≤◌}
+use Rattle.std.specs.Prelude.{Ok, Err, is_err}
+use Rattle.std.specs.declared.result.Result.{Result}
+use Rattle.refusal.specs.declared.Refusal.{Refusal}
+use Rattle.sizes.specs.Edition.{EditionOf}
+use Rattle.sizes.specs.declared.Edition.{Edition}
+use mathlib.Core.Path.{◌≡◌, refl, sym}
+use mathlib.Core.Bool.{Bool, true, false, ◌&&◌, true≢false, false≢true}
 use lib.ListN.{length, take}
 use borrow.Author.Tests.{eq-eqb}
 use Rattle.grid.specs.Grid.{size}
 use Rattle.grid.specs.Lists.{all, upto}
+use Rattle.grid.proofs.GridLaws.{size_most}
 use Rattle.record.specs.Arrows.{on_arrow}
-use Rattle.record.specs.Problem.{grid_of, problem_of, puzzle_of}
-use Rattle.record.specs.declared.Problem.{Problem}
+use Rattle.record.specs.Problem.{grid_of, puzzle_of}
 use Rattle.record.specs.Leaf.{is_edition}
 use Rattle.form.specs.Form.{long, problem_formed, stated, ordered}
 use Rattle.form.proofs.Verdicts.{decisions_formed}
 use Rattle.form.proofs.ProblemForm.{Formed-is, formed_Valid, formed_again}
-use Rattle.sizes.specs.Inside.{Drawn}
+use Rattle.sizes.specs.Inside.{Keeps}
 use Rattle.sizes.specs.Form.{sized_cell, sizes_formed}
 use Rattle.board.specs.declared.Board.{Board}
 use Rattle.board.specs.Form.{Counts, counts_formed, sizes_good, well_formed}
 use Rattle.board.proofs.HintLaws.{is_Counts}
+
+-- the number of an edition, by whether it was read
+module _ (n : ℕ) where
+  pub edition_none : (r : Result Edition Refusal) → EditionOf n r → is_err r ≡ true → is_edition n ≡ false
+  edition_none (Ok e) h q = absurd (false≢true q)
+  edition_none (Err r) h q = h.0
+
+  pub edition_one : (r : Result Edition Refusal) → EditionOf n r → is_err r ≡ false → is_edition n ≡ true
+  edition_one (Ok e) h q = h.0
+  edition_one (Err r) h q = absurd (true≢false q)
 
 module _ (b : Board) where
   pub board_problem : problem_formed b.problem ≡ false → false ≡ well_formed b
@@ -33,12 +49,17 @@ module _ (b : Board) where
       go true false = refl
       go false t = refl
 
-  -- the arrays of a problem that passes hold the arrows of its puzzle
-  pub board_Drawn : problem_formed b.problem ≡ true → Drawn (puzzle_of b.problem) b.problem.arrows b.problem.ends b.problem.count
-  board_Drawn e =
+  -- a problem that passes keeps its puzzle
+  pub board_Keeps : problem_formed b.problem ≡ true → Keeps (puzzle_of b.problem) b.problem
+  board_Keeps e =
       let f = Formed-is b.problem e in
-      let q : b.problem ≡ problem_of (puzzle_of b.problem) = sym (formed_again b.problem f) in
-      record { valid = formed_Valid b.problem f; line = ap (λ (z : Problem). z.arrows) q; cuts = ap (λ (z : Problem). z.ends) q; number = ap (λ (z : Problem). z.count) q }
+      record { valid = formed_Valid b.problem f; is = sym (formed_again b.problem f) }
+
+  pub board_area : problem_formed b.problem ≡ true → b.problem.height * b.problem.width ≤ 1024
+  unfolding grid_of size
+  board_area e =
+      let f = Formed-is b.problem e in
+      size_most (grid_of b.problem) f.sizes.high.0 f.sizes.high.1
 
   pub board_sizes : sizes_good b ≡ false → false ≡ well_formed b
   unfolding well_formed

@@ -6,7 +6,7 @@ use Rattle.record.specs.Problem.{grid_of}
 use Rattle.record.specs.declared.Answer.{Answer}
 use Rattle.record.specs.declared.Answer.TheVariants.{Done, Refused}
 use Rattle.board.specs.declared.Board.{Board}
-use Rattle.board.specs.declared.Decided.{Decided}
+use Rattle.board.specs.Answers.{Decided}
 use Rattle.board.specs.Form.{well_formed}
 
 -- how many cells a board has

@@ -10,7 +10,7 @@ use Rattle.record.specs.Problem.{problem_of, puzzle_of, grid_of, blank}
 use Rattle.record.specs.declared.Answer.TheVariants.{Done, Refused}
 use Rattle.sizes.specs.Kept.{lowest_of, highest_of}
 use Rattle.board.specs.declared.Board.{Board}
-use Rattle.board.specs.declared.Opened.{Opened}
+use Rattle.board.specs.Answers.{Opened}
 use Rattle.grid.specs.Cells.{Literal}
 use Rattle.board.specs.Board.{cells_after}
 

@@ -1,4 +1,5 @@
 pub mod Board
+pub mod Answers
 pub mod Kept
 pub mod Form
 pub mod Decide

@@ -30,7 +30,11 @@ use Rattle.board.specs.Kept.{no_hints, board_of}
 use Rattle.board.specs.Decide.{with_decisions, decide_refusal, decide_of, answered, refused_with, onward, placed, placed_from, all_placed}
 use Rattle.board.specs.Inside.{fresh_of}
 use Rattle.board.specs.declared.Board.{Board}
-use Rattle.board.specs.declared.Decided.{Decided}
+use Rattle.board.specs.Answers.{Decided}
+use Rattle.board.specs.Inside.{Stands, whole, part}
+use Rattle.refusal.specs.Refusals as refusals
+use Rattle.refusal.specs.declared.Refusal.{Refusal}
+use Rattle.std.specs.Prelude.{Ok, Err}
 use Rattle.board.proofs.HintLaws.{no_hints_lem}
 use Rattle.board.proofs.OpenLaws.{fresh_leaf}
 use Rattle.board.proofs.Standing.{Standing, none, after-Standing, cells_valid}
@@ -126,6 +130,14 @@ module _ (p : Puzzle) (v : Valid p) where
   -- its board, as the code keeps it
   pub fresh_first : fresh_of (problem_of p) 1 (lowest_of []) (highest_of []) ≡ board_of (in_edition 1 p) [] no_hints
   fresh_first = fresh_leaf (in_edition 1 p) (Valid-size v)
+
+-- what stands in the arrays, by the answer of `place_all`
+pub stands_whole : {b : Board} {cells order : List ℕ} {d : Decided} {n : ℕ} → Stands b cells order n d (Ok tt) → d ≡ record { answer = Done; board = with_decisions b cells order n }
+stands_whole whole = refl
+
+pub stands_part : {b : Board} {cells order : List ℕ} {d : Decided} {n : ℕ} {r : Refusal} → Stands b cells order n d (Err r)
+    → d ≡ record { answer = Refused (refusals.number_of r); board = with_decisions b cells order n }
+stands_part part = refl
 
 -- ---- the arrays of an accepted record
 

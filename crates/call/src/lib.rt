@@ -8,6 +8,7 @@ ghost use Rattle.record.specs.Record.{Puzzle};
 ghost use Rattle.record.specs.Valid.{Valid};
 ghost use Rattle.call.specs.Inside.{edition_of, Decides};
 
+use board::Board;
 use record::Answer;
 
 // An edition as the rules take it, and 0 for one that is not 1 or 2.
@@ -27,7 +28,10 @@ pub fn decide_in_order(n: usize, decisions: &[u8], cells: &mut [u8; 1024]) -> An
     requires { ((p : Puzzle) × Valid p × (size p.grid ≡ n)) × (cells.old ≡ replicate 1024 2) }
     ensures { (p : Puzzle) → Valid p → size p.grid ≡ n → Decides p.grid decisions.now result cells.new }
 {
-    let mut order = [0u16; 1024];
-    let placed = board::place_all(cells, &mut order, n, 0, decisions);
-    placed.answer
+    let mut order = [0; Board::CELLS];
+    let mut decided = 0;
+    match board::place_all(cells, &mut order, n, &mut decided, decisions) {
+        Ok(()) => Answer::Done,
+        Err(refusal) => Answer::Refused(refusal.number()),
+    }
 }

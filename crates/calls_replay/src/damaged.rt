@@ -3,11 +3,13 @@
 ghost use Rattle.std.specs.Prelude.{◌≤◌, true, ◌≡◌};
 
 use super::boards;
-use board::{Board, Decided};
+use super::boards::Left;
+use board::Board;
 use certain::{Certainty, Facts};
 use finds::{Made, Way};
 use finished::Verdict;
 use record::Problem;
+use refusal::Refusal;
 use replay::Tally;
 use shades::Shaded;
 
@@ -20,11 +22,18 @@ const TO_PROBLEM: usize = 20;
 // How many are to the sizes.
 const TO_SIZES: usize = 6;
 
+// Whether a call by value is not refused with 6.
+fn decided(answer: Result<Board, Refusal>) -> bool {
+    match answer {
+        Ok(_) => true,
+        Err(refusal) => refusal.number() != 6,
+    }
+}
+
 // Whether an answer is not refusal 6 with the board b unchanged.
-fn taken(d: Decided, b: Board) -> bool {
-    let answer = d.answer;
-    let board = d.board;
-    replay::number(answer) != 6 || boards::boards_differ(board, b)
+fn taken(left: Left, b: Board) -> bool {
+    let board = left.board;
+    boards::answer_differs(left.answer, 6) || boards::boards_differ(board, b)
 }
 
 // Whether a find differs from refusal 6 with its buffer unchanged, or the board b is not unchanged.
@@ -35,22 +44,13 @@ fn found(m: Made, b: Board) -> bool {
 
 // Whether a verdict is not refusal 6.
 fn judged(verdict: Verdict) -> bool {
-    match verdict {
-        Verdict::Yes => true,
-        Verdict::No => true,
-        Verdict::Refused(k) => k != 6,
-    }
+    !matches!(verdict, Verdict::Refused(6))
 }
 
 // Whether what is told of certain cells is not refusal 6.
 fn told(facts: Facts) -> bool {
     let answer = facts.answer;
-    match answer {
-        Certainty::Told => true,
-        Certainty::Impossible => true,
-        Certainty::Spent => true,
-        Certainty::Refused(k) => k != 6,
-    }
+    !matches!(answer, Certainty::Refused(6))
 }
 
 // Whether shades are not refusal 6.
@@ -75,12 +75,12 @@ fn asked(b: Board, player: u8, size: usize) -> bool
 // Whether some call on the board is not refused with 6, or changes the board or a lent buffer. Finds of a player above 3 are among them, and
 // finds whose buffer is too short: 6 comes before 17 and before 11.
 fn accepted(b: Board) -> bool {
-    taken(b.decide(1, 1), b)
-        || taken(b.undo(), b)
+    decided(b.decide(1, 1))
+        || decided(b.undo())
         || taken(boards::decide_lent(b, 1, 1), b)
         || taken(boards::undo_lent(b), b)
-        || taken(b.decide_all(b""), b)
-        || taken(b.decide_all(b"\x80\x01"), b)
+        || decided(b.decide_all(b""))
+        || decided(b.decide_all(b"\x80\x01"))
         || asked(b, 0, 4096)
         || asked(b, 3, 0)
         || asked(b, 4, 4096)
@@ -109,6 +109,8 @@ fn with_problem(b: Board, problem: Problem) -> Board {
         highest,
     }
 }
+
+// The damages stay matches on their numbers: each is one to be tried by itself, and an enum of forty-one names would only repeat them.
 
 // The k-th damage to a problem: sizes, codes, arrow cells, ends, count, and what stands behind them.
 fn damaged_problem(q: Problem, k: usize) -> Problem {
@@ -206,28 +208,31 @@ fn count_accepted(b: Board) -> usize
     ensures { result ≤ 41 }
 {
     let mut count = 0;
-    let mut k = 0;
-    while k < DAMAGES {
+    for k in 0..DAMAGES {
         if accepted(damaged(b, k)) {
             count += 1;
         }
-        k += 1;
     }
     count
 }
 
-// Goes through the damaged boards: how many there are, and how many of them are accepted.
+// The board that is damaged: one cell of a strip of five is decided.
+fn whole_board() -> Result<Board, Refusal> {
+    Board::open(b"\x00\x80\x08\x00\x00\x05\xE0", 1, &[])?.decide(0, 1)
+}
+
+// Goes through the damaged boards: how many there are, and how many of them are accepted; all of them, where there is no board to damage.
 pub fn go_through() -> Tally
     ensures { (result.entries ≡ 41) × (result.parts ≡ 0) × (result.differ ≤ 41) × (result.whole ≡ true) }
 {
-    let o = Board::open(b"\x00\x80\x08\x00\x00\x05\xE0", 1, &[]);
-    let fresh = o.board;
-    let d = fresh.decide(0, 1);
-    let b = d.board;
+    let differ = match whole_board() {
+        Ok(board) => count_accepted(board),
+        Err(_) => DAMAGES,
+    };
     Tally {
         entries: DAMAGES,
         parts: 0,
-        differ: count_accepted(b),
+        differ,
         at: 0,
         whole: true,
     }

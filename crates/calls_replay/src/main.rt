@@ -15,36 +15,36 @@ mod damaged;
 
 ghost use Rattle.std.specs.Prelude.{◌≤◌, ◌<◌, length};
 
-use board::{Board, Decided, Opened};
+use board::Board;
+use boards::Left;
 use finds::{Made, Way};
-use replay::{Run, Tally};
+use refusal::Refusal;
+use replay::{Cursor, Entries, Report, Run};
 use std::io;
+use std::io::Write;
 
 // The most numbers of sizes that an entry may have.
 const SIZES: usize = 4096;
 
-// What a call left: the board, whether something differed, and where the call ends in the list, far behind it where the list ends
-// inside the call.
+// What a call left: the board, whether something differed, and where the call ends in the list, none where the list ends inside the call.
 #[derive(Clone, Copy)]
 struct Step {
     board: Board,
     differs: bool,
-    end: usize,
+    end: Option<usize>,
 }
 
-// The step of a call on the board b whose answer by value is d, and on a lent board l. A refused call leaves the board as it was.
-fn answered(b: Board, d: Decided, l: Decided, expected: usize, end: usize) -> Step {
-    let answer = d.answer;
+// The step of a call on the board b that by value answers and leaves d, and on a lent board l. A refused call leaves the board as it was.
+fn answered(b: Board, d: Left, l: Left, expected: usize, end: usize) -> Step {
     let board = d.board;
-    let lent_answer = l.answer;
     let lent = l.board;
     Step {
         board,
-        differs: replay::number(answer) != expected
-            || replay::number(lent_answer) != expected
+        differs: boards::answer_differs(d.answer, expected)
+            || boards::answer_differs(l.answer, expected)
             || boards::boards_differ(lent, board)
             || expected != 0 && boards::boards_differ(board, b),
-        end,
+        end: Some(end),
     }
 }
 
@@ -53,7 +53,7 @@ fn broken(board: Board) -> Step {
     Step {
         board,
         differs: true,
-        end: usize::MAX,
+        end: None,
     }
 }
 
@@ -68,9 +68,9 @@ fn make_decide(list: &[u8], at: usize, b: Board) -> Step
     let value = list[at + 3];
     answered(
         b,
-        b.decide(index, value),
+        boards::after_call(b, b.decide(index, value)),
         boards::decide_lent(b, index, value),
-        grid::byte(list[at + 4]),
+        usize::from(list[at + 4]),
         at + 5,
     )
 }
@@ -84,9 +84,9 @@ fn make_undo(list: &[u8], at: usize, b: Board) -> Step
     }
     answered(
         b,
-        b.undo(),
+        boards::after_call(b, b.undo()),
         boards::undo_lent(b),
-        grid::byte(list[at + 1]),
+        usize::from(list[at + 1]),
         at + 2,
     )
 }
@@ -101,7 +101,7 @@ fn found(b: Board, m: Made, l: Made, expected: usize, end: usize) -> Step {
             || l.differs
             || boards::boards_differ(lent, board)
             || expected != 0 && boards::boards_differ(board, b),
-        end,
+        end: Some(end),
     }
 }
 
@@ -117,7 +117,7 @@ fn make_find(list: &[u8], at: usize, b: Board) -> Step
     if 4096 < size {
         return broken(b);
     }
-    let refusal = grid::byte(list[at + 4]);
+    let refusal = usize::from(list[at + 4]);
     if refusal != 0 {
         return found(
             b,
@@ -150,7 +150,7 @@ fn compare_cells(list: &[u8], at: usize, b: Board) -> Step
     Step {
         board: b,
         differs: replay::cells_differ(list, at + 1, n, &cells, 2),
-        end: at + 1 + n,
+        end: Some(at + 1 + n),
     }
 }
 
@@ -171,15 +171,14 @@ fn make_call(list: &[u8], at: usize, b: Board) -> Step
 // The step, held against the counts of hints that stand behind the call in the list.
 fn counted(list: &[u8], s: Step) -> Step {
     let board = s.board;
-    let end = s.end;
-    if list.len() <= end {
-        return broken(board);
-    }
     let hints = board.hints;
-    Step {
-        board,
-        differs: s.differs || replay::numbers_differ(list, end, Board::PLAYERS, &hints, 0),
-        end: end + 2 * Board::PLAYERS,
+    match s.end {
+        Some(end) if end < list.len() => Step {
+            board,
+            differs: s.differs || replay::numbers_differ(list, end, Board::PLAYERS, &hints, 0),
+            end: Some(end + 2 * Board::PLAYERS),
+        },
+        _ => broken(board),
     }
 }
 
@@ -189,18 +188,21 @@ fn run_calls(list: &[u8], start: usize, calls: usize, fresh: Board) -> Run {
     let mut made = Run {
         parts: 0,
         differ: 0,
-        end: start,
+        end: Some(start),
     };
-    let mut i = 0;
-    while i < calls {
-        let at = made.end;
-        if list.len() <= at {
-            return Run::broken();
+    for _i in 0..calls {
+        match made.end {
+            Some(at) if at < list.len() => {
+                let s = counted(list, make_call(list, at, b));
+                b = s.board;
+                made = made.then(Run {
+                    parts: 0,
+                    differ: usize::from(s.differs),
+                    end: s.end,
+                });
+            }
+            _ => return Run::broken(),
         }
-        let s = counted(list, make_call(list, at, b));
-        b = s.board;
-        made = made.then(Run::of(s.differs, s.end));
-        i += 1;
     }
     made
 }
@@ -210,10 +212,8 @@ fn hints_at(list: &[u8], at: usize) -> [u16; Board::PLAYERS]
     requires { at < length list.now }
 {
     let mut hints = [0u16; Board::PLAYERS];
-    let mut player = 0;
-    while player < Board::PLAYERS {
+    for player in 0..Board::PLAYERS {
         hints[player] = replay::number_at(list, at + 2 * player) as u16;
-        player += 1;
     }
     hints
 }
@@ -223,67 +223,77 @@ fn sizes_at(list: &[u8], at: usize, count: usize) -> [u16; SIZES]
     requires { (at ≤ length list.now) × (count ≤ 4096) }
 {
     let mut sizes = [0u16; SIZES];
-    let mut i = 0;
-    while i < count {
+    for i in 0..count {
         sizes[i] = replay::number_at(list, at + 2 * i) as u16;
-        i += 1;
     }
     sizes
 }
 
 // What opening the record in the edition answers, with the sizes at `at`, so many numbers.
-fn opened(list: &[u8], record: &[u8], edition: u8, at: usize, count: usize) -> Opened
+fn opened(
+    list: &[u8],
+    record: &[u8],
+    edition: u8,
+    at: usize,
+    count: usize,
+) -> Result<Board, Refusal>
     requires { (at ≤ length list.now) × (count ≤ 4096) }
 {
     let sizes = sizes_at(list, at, count);
     Board::open(record, edition, &sizes[..count])
 }
 
-// Opens the record of the entry at `at` with its sizes, and where it is accepted makes its calls on the board with the counts of hints that it
-// is handed in with.
-fn run_entry(list: &[u8], at: usize) -> Run
-    requires { at < length list.now }
-{
-    let edition = at + 2 + replay::number_at(list, at);
-    let sizes = edition + 3;
-    if list.len() < sizes {
-        return Run::broken();
-    }
-    let count = replay::number_at(list, edition + 1);
-    let hints = sizes + 2 * count + 1;
-    if list.len() < hints || SIZES < count {
-        return Run::broken();
-    }
-    let o = opened(list, &list[at + 2..edition], list[edition], sizes, count);
-    let answer = o.answer;
-    let mut board = o.board;
-    let refusal = grid::byte(list[hints - 1]);
-    if refusal != 0 {
-        return Run::of(replay::number(answer) != refusal, hints);
-    }
-    let calls = hints + 2 * Board::PLAYERS;
-    if list.len() < calls + 2 || replay::number(answer) != 0 {
-        return Run::broken();
-    }
-    let handed = hints_at(list, hints);
-    board.hints = handed;
-    run_calls(list, calls + 2, replay::number_at(list, calls), board)
-}
+// Lists of calls, each with the record that they begin on.
+#[derive(Drop)]
+struct Lists;
 
-// Goes through the entries.
-fn go_through(list: &[u8]) -> Tally {
-    let mut tally = Tally::of(list, 0);
-    while tally.at < list.len() {
-        tally = tally.with(run_entry(list, tally.at), list.len());
+impl Entries for Lists {
+    ghost BEFORE = { 0 };
+
+    const BEFORE: usize = 0;
+
+    fn of(_data: &[u8]) -> Lists {
+        Lists
     }
-    tally
+
+    // Opens the record of the entry at `at` with its sizes, and where it is accepted makes its calls on the board with the counts of hints that
+    // it is handed in with.
+    fn run(&self, list: &[u8], at: usize) -> Option<Run> {
+        let mut cursor = Cursor { list, at };
+        let bytes = cursor.counted()?;
+        let edition = cursor.byte()?;
+        let count = cursor.number()?;
+        let sizes = cursor.at;
+        cursor.take(2 * count)?;
+        let refusal = usize::from(cursor.byte()?);
+        if SIZES < count {
+            return None;
+        }
+        let answer = opened(list, bytes, edition, sizes, count);
+        let hints = cursor.at;
+        if refusal != 0 {
+            let differs = match answer {
+                Ok(_) => true,
+                Err(refused) => usize::from(refused.number()) != refusal,
+            };
+            return Some(Run::of(differs, hints));
+        }
+        cursor.take(2 * Board::PLAYERS)?;
+        let calls = cursor.number()?;
+        let mut board = answer.ok()?;
+        let handed = hints_at(list, hints);
+        board.hints = handed;
+        Some(run_calls(list, cursor.at, calls, board))
+    }
 }
 
 fn main(rt: HostRuntime) -> io::Result<()> {
-    let mut space = replay::room();
-    let list = replay::read_list(rt.reader(), &mut space)?;
-    let (_, written) = go_through(list).print(b" lists, ", b" calls, ", &mut io::writer(&rt));
-    written?;
-    let (_, written) = damaged::go_through().print(b" damaged boards, ", b"", &mut io::writer(&rt));
-    written
+    let output = &mut io::writer(&rt);
+    replay::replay::<Lists, _, _>(rt.reader(), output, " lists, ", " calls, ")?;
+    let report = Report {
+        tally: damaged::go_through(),
+        entries: " damaged boards, ",
+        parts: "",
+    };
+    write!(output, "{report}")
 }

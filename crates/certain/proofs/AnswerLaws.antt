@@ -1,6 +1,6 @@
 -- What `certain` answers follows from its search: on the arrays of an accepted record, and on a board.
 -- Assumes nothing.
-use Prim.Native.Nat.{ℕ, ◌-◌, ◌*◌, ◌≤◌, ◌<◌}
+use Prim.Native.Nat.{suc, ℕ, ◌-◌, ◌*◌, ◌≤◌, ◌<◌}
 use native.Mathlib.Omega.{arith}
 use native.Mathlib.Nat.{mul-pos}
 use native.Mathlib.Decide.{dec_lt}
@@ -86,15 +86,15 @@ module _ (q : Problem) (f : Formed q) (edition : ℕ) {sizes : List Range} (good
   unfolding untold
   answer_spent e c = rw c (sym (by_spent n budget r (left_out r.steps budget x.left_is e)))
 
-  module _ (e : left ≡ 0 → ⊥) where
+  module _ {rest : ℕ} (e : left ≡ suc rest) where
     within : (r.steps ≤ budget) × (left - 1 ≡ budget - r.steps)
-    within = left_done r.steps budget x.left_is e
+    within = left_done r.steps budget x.left_is (λ z. omega (arith, e, z))
 
-    pub rest_within : left - 1 ≤ budget
-    rest_within = omega (arith, within.0, within.1)
+    pub rest_within : rest ≤ budget
+    rest_within = omega (arith, e, within.0, within.1)
 
-    steps_are : budget - (left - 1) ≡ r.steps
-    steps_are = omega (arith, within.0, within.1)
+    steps_are : budget - rest ≡ r.steps
+    steps_are = omega (arith, e, within.0, within.1)
 
     facts_are : facts ≡ facts_in n r.boards
     facts_are = x.gathers within.0 [] (nothing_yet n (few q f) blank)
@@ -106,13 +106,13 @@ module _ (q : Problem) (f : Formed q) (edition : ℕ) {sizes : List Range} (good
     low : (b : List ℕ) → Memᴰ b r.boards → get_or b 0 0 ≤ 1
     low b m = (search-Solves (leaf_with edition sizes (puzzle_of q)) (formed_Valid q f) good (take n states) (cells_valid q f edition sizes s) b m).finished.decided.each 0 (unfold puzzle_of grid_of size in some_cells)
 
-    pub answer_none : get_or facts 0 0 ≡ 3 → ◌≡◌ {A = Facts} (record { answer = Impossible; steps = budget - (left - 1); cells = facts }) (certain_by n budget r)
+    pub answer_none : get_or facts 0 0 ≡ 3 → ◌≡◌ {A = Facts} (record { answer = Impossible; steps = budget - rest; cells = facts }) (certain_by n budget r)
     unfolding known
     answer_none z =
         rw (steps_are, facts_are, certainty_none r.boards (no_boards r.boards 0 low (sym first_is ∙ z)))
         (sym (by_known n budget r within.0))
 
-    pub answer_told : (get_or facts 0 0 ≡ 3 → ⊥) → ◌≡◌ {A = Facts} (record { answer = Told; steps = budget - (left - 1); cells = facts }) (certain_by n budget r)
+    pub answer_told : (get_or facts 0 0 ≡ 3 → ⊥) → ◌≡◌ {A = Facts} (record { answer = Told; steps = budget - rest; cells = facts }) (certain_by n budget r)
     unfolding known
     answer_told z =
         rw (steps_are, facts_are, certainty_some r.boards (λ e. z (first_is ∙ ap (λ (bs : List (List ℕ)). fact_of bs 0) e ∙ fact_none 0)))

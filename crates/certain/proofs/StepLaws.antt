@@ -22,10 +22,8 @@ use Rattle.form.proofs.ProblemForm.{Formed}
 use Rattle.groups.specs.Arrays.{lines_of}
 use Rattle.kinds.specs.Inside.{puzzle_with}
 use Rattle.literals.specs.Literals.{Found}
-use Rattle.literals.specs.Buffer.{finding_by}
-use Rattle.literals.specs.Inside.{FoundAs}
-use Rattle.literals.specs.declared.Finding.{Finding}
-use Rattle.literals.specs.declared.Finding.TheVariants as finding
+use Rattle.literals.specs.Inside.{count_of, FoundAs}
+use Rattle.std.specs.Prelude.{Option, Some, None}
 use Rattle.literals.proofs.Findings.{nothing_found}
 use Rattle.reasons.specs.Reasons.{find_reason}
 use Rattle.reasons.proofs.BoardArrays.{codes_aside}
@@ -52,13 +50,13 @@ none_undecided n cells long e = go (Lowest-view cells)
     go (is_full a k) = k
 
 -- what was found with a reason is not none
-some_found : (f : Found) {b a : List ℕ} {k : ℕ} → FoundAs f b a (finding.Reason k) → f ≡ none → ⊥
-unfolding finding_by
+some_found : (f : Found) {b a : List ℕ} {k : ℕ} → FoundAs f b a (Some k) → f ≡ none → ⊥
+unfolding count_of
 some_found none x e = let z : ◌≡◌ {A = ℕ} 0 1 = cc x.answer in omega arith
 some_found (some r) x e = let z : ◌≡◌ {A = ℕ} 0 1 = cc in omega arith
 
 -- what was found, with the sizes that the slices are known to have, and the answer that it is known to be
-pub found_with : (edition : ℕ) (p : Puzzle) (cells : List ℕ) {lows lows' highs highs' b a : List ℕ} {r r' : Finding} → lows ≡ lows' → highs ≡ highs' → r ≡ r'
+pub found_with : (edition : ℕ) (p : Puzzle) (cells : List ℕ) {lows lows' highs highs' b a : List ℕ} {r r' : Option ℕ} → lows ≡ lows' → highs ≡ highs' → r ≡ r'
     → FoundAs (find_reason (leaf_with edition (kept_ranges lows highs (length lows)) p) cells) b a r → FoundAs (find_reason (leaf_with edition (kept_ranges lows' highs' (length lows')) p) cells) b a r'
 found_with edition p cells e f g x = rw (e, f, g) at x
 
@@ -99,11 +97,11 @@ module _ (q : Problem) (f : Formed q) (edition : ℕ) (sizes : List Range) {stat
   same = codes_aside leaf cells
 
   -- back on a reason
-  pub Meets-reason : {b a facts : List ℕ} {k : ℕ} → FoundAs Found-on b a (finding.Reason k) → Meets leaf n states facts facts Reason
+  pub Meets-reason : {b a facts : List ℕ} {k : ℕ} → FoundAs Found-on b a (Some k) → Meets leaf n states facts facts Reason
   Meets-reason x = reason (λ e. some_found Found-on x (same ∙ e)) refl
 
   -- no reason applies
-  module _ (good : GoodSizes (puzzle_of q) sizes) {b a : List ℕ} (x : FoundAs Found-on b a finding.Nothing) where
+  module _ (good : GoodSizes (puzzle_of q) sizes) {b a : List ℕ} (x : FoundAs Found-on b a None) where
     quiet : find_reason leaf cells ≡ none
     quiet = sym same ∙ (nothing_found Found-on x).0
 

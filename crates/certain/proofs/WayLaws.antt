@@ -125,15 +125,15 @@ module _ (n left : ℕ) (l : Leaf) (cells before : List ℕ) (long : length befo
   module _ (h : 0 < left) (size_is : length (take n cells) ≡ n) where
     -- one step, with these boards
     one_step : (boards : List (List ℕ)) {after : List ℕ} → search_of l (take n cells) ≡ record { boards = boards; steps = 1 } → length after ≡ 1024 → Gathers n boards before after
-        → Searched n left (search_of l (take n cells)) left cells cells before after
-    one_step boards e long' g = rw e (record { same = refl; long = long'; left_is = omega (arith, left_in 1 left (omega arith)); gathers = λ _. g })
+        → Searched n left (search_of l (take n cells)) (suc (left - 1)) cells cells before after
+    one_step boards e long' g = rw e (record { same = refl; long = long'; left_is = left_in 1 left (omega arith); gathers = λ _. g })
 
     -- back on a reason
-    pub way_back : {after : List ℕ} → Meets l n cells before after met.Reason → Searched n left (search_of l (take n cells)) left cells cells before after
+    pub way_back : {after : List ℕ} → Meets l n cells before after met.Reason → Searched n left (search_of l (take n cells)) (suc (left - 1)) cells cells before after
     way_back (reason q e) = one_step [] (search_back l (take n cells) q) (ap length e ∙ long) (Gathers-none n e)
 
     -- a full board
-    pub way_full : {after : List ℕ} → Meets l n cells before after met.Full → Searched n left (search_of l (take n cells)) left cells cells before after
+    pub way_full : {after : List ℕ} → Meets l n cells before after met.Full → Searched n left (search_of l (take n cells)) (suc (left - 1)) cells cells before after
     way_full (full q e long' g) = one_step (counted l (take n cells)).boards (search_full l (take n cells) q (none_undecided n (take n cells) size_is e)) long' g
 
     -- an undecided cell
@@ -191,20 +191,22 @@ module _ (n left : ℕ) (l : Leaf) (cells before : List ℕ) (long : length befo
           })
 
       -- both branches
-      pub way_both : {r last : ℕ} {cells₁ facts₁ cells₂ facts₂ : List ℕ} → (r ≡ 0 → ⊥)
-          → Searched n (left - 1) (search_of l (take n (set cells i 1))) r (set cells i 1) cells₁ after facts₁
-          → Searched n (r - 1) (search_of l (take n (set cells₁ i 0))) last (set cells₁ i 0) cells₂ facts₁ facts₂
+      pub way_both : {rest last : ℕ} {cells₁ facts₁ cells₂ facts₂ : List ℕ}
+          → Searched n (left - 1) (search_of l (take n (set cells i 1))) (suc rest) (set cells i 1) cells₁ after facts₁
+          → Searched n rest (search_of l (take n (set cells₁ i 0))) last (set cells₁ i 0) cells₂ facts₁ facts₂
           → Searched n left (search_of l (take n cells)) last cells (set cells₂ i 2) before facts₂
-      way_both {r} {last} {cells₁} {facts₁} {cells₂} {facts₂} e a b =
+      way_both {rest} {last} {cells₁} {facts₁} {cells₂} {facts₂} a b =
+          let p : suc rest - 1 ≡ rest = omega arith in
+          let e : suc rest ≡ 0 → ⊥ = λ z. omega (arith, z) in
           let first : Reached = search_of l (take n (set cells i 1)) in
           let second : Reached = search_of l (take n (set cells i 0)) in
           let zeroed : set cells₁ i 0 ≡ set cells i 0 = ap (λ (z : List ℕ). set z i 0) a.same ∙ set-set cells i 1 0 in
-          let b' : Searched n (r - 1) second last (set cells i 0) cells₂ facts₁ facts₂ =
-          subst (λ (z : List ℕ). Searched n (r - 1) (search_of l (take n z)) last z cells₂ facts₁ facts₂) zeroed b in
+          let b' : Searched n rest second last (set cells i 0) cells₂ facts₁ facts₂ =
+          subst (λ (z : List ℕ). Searched n rest (search_of l (take n z)) last z cells₂ facts₁ facts₂) zeroed b in
           let d = left_done first.steps (left - 1) a.left_is e in
           rw search_two (record {
             same = ap (λ (z : List ℕ). set z i 2) b'.same ∙ set_back 0;
             long = b'.long;
-            left_is = b'.left_is ∙ left_both first.steps second.steps left h e a.left_is;
+            left_is = b'.left_is ∙ ap (left_after second.steps) (sym p) ∙ left_both first.steps second.steps left h e a.left_is;
             gathers = λ k bs s. rw (← append_assoc) (b'.gathers (omega (arith, k, d.1)) (bs ++ first.boards) (a.gathers d.0 bs (spot.kept ∙ s)));
           })

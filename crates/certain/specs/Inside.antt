@@ -1,6 +1,6 @@
 -- What the functions of the search promise each other.
 -- Assumes nothing.
-use Rattle.std.specs.Prelude.{ℕ, suc, ◌-◌, ◌*◌, ◌≤◌, ◌<◌, ◌≡◌, Bool, true, false, cond, List, ◌++◌, eqb, leb, length, get_or, take}
+use Rattle.std.specs.Prelude.{ℕ, suc, ◌-◌, ◌*◌, ◌≤◌, ◌<◌, ◌≡◌, Bool, true, false, cond, List, ◌++◌, eqb, leb, length, get_or, take, Option, Some, None}
 use Rattle.std.proofs.Math.Option.{none}
 use Rattle.record.specs.Leaf.{Leaf, leaf_with}
 use Rattle.record.specs.Sizes.{kept_ranges}
@@ -13,6 +13,7 @@ use Rattle.reasons.specs.Reasons.{find_reason}
 use Rattle.finished.specs.Inside.{problem_on}
 use Rattle.certain.specs.Tree.{lowest, Reached, counted}
 use Rattle.certain.specs.Facts.{facts_in}
+use Rattle.certain.specs.declared.Shape.{Shape}
 use Rattle.certain.specs.declared.Met.{Met}
 use Rattle.certain.specs.declared.Met.TheVariants.{Reason, Full, Undecided}
 
@@ -20,38 +21,36 @@ use Rattle.certain.specs.declared.Met.TheVariants.{Reason, Full, Undecided}
 abbrev pub leaf_in : ℕ → List ℕ → List ℕ → ℕ → ℕ → List ℕ → List ℕ → List ℕ → ℕ → Leaf
 leaf_in edition lows highs h w codes arrows ends number = leaf_with edition (kept_ranges lows highs (length lows)) (puzzle_of (problem_on h w codes arrows ends number))
 
--- what of a leaf is a number and does not change in a search, in one array: its edition, how many arrows there are, its height and width, and how many of
--- its cells are lent with their sizes
-abbrev pub edition_by : List ℕ → ℕ
-edition_by shape = get_or shape 0 0
+-- what of a leaf is a number and does not change in a search
+abbrev pub edition_by : Shape → ℕ
+edition_by shape = shape.edition
 
-abbrev pub number_by : List ℕ → ℕ
-number_by shape = get_or shape 1 0
+abbrev pub number_by : Shape → ℕ
+number_by shape = shape.number
 
-abbrev pub height_by : List ℕ → ℕ
-height_by shape = get_or shape 2 0
+abbrev pub height_by : Shape → ℕ
+height_by shape = shape.height
 
-abbrev pub width_by : List ℕ → ℕ
-width_by shape = get_or shape 3 0
+abbrev pub width_by : Shape → ℕ
+width_by shape = shape.width
 
-abbrev pub sized_by : List ℕ → ℕ
-sized_by shape = get_or shape 4 0
+abbrev pub sized_by : Shape → ℕ
+sized_by shape = shape.sized
 
 -- how many cells it has
-abbrev pub cells_by : List ℕ → ℕ
+abbrev pub cells_by : Shape → ℕ
 cells_by shape = height_by shape * width_by shape
 
 -- the problem of these numbers and arrays, and the leaf
-abbrev pub problem_by : List ℕ → List ℕ → List ℕ → List ℕ → Problem
+abbrev pub problem_by : Shape → List ℕ → List ℕ → List ℕ → Problem
 problem_by shape codes arrows ends = problem_on (height_by shape) (width_by shape) codes arrows ends (number_by shape)
 
-abbrev pub leaf_by : List ℕ → List ℕ → List ℕ → List ℕ → List ℕ → List ℕ → Leaf
+abbrev pub leaf_by : Shape → List ℕ → List ℕ → List ℕ → List ℕ → List ℕ → Leaf
 leaf_by shape lows highs codes arrows ends =
     leaf_in (edition_by shape) (take (sized_by shape) lows) (take (sized_by shape) highs) (height_by shape) (width_by shape) codes arrows ends (number_by shape)
 
 -- they are those of an accepted record in an edition, with sizes that may stand
-pub record Given (shape lows highs codes arrows ends : List ℕ) : Type 0 where
-  pub byte : edition_by shape < 256
+pub record Given (shape : Shape) (lows highs codes arrows ends : List ℕ) : Type 0 where
   pub edition : edition_by shape ≡ 0 → ⊥
   pub formed : problem_formed (problem_by shape codes arrows ends) ≡ true
   pub room : sized_by shape ≤ 1024
@@ -61,6 +60,11 @@ pub record Given (shape lows highs codes arrows ends : List ℕ) : Type 0 where
 pub record States (cells : List ℕ) : Type 0 where
   pub long : length cells ≡ 1024
   pub three : (i : ℕ) → get_or cells i 0 ≤ 2
+
+-- a cell, or n where there is none
+abbrev pub lowest_or : ℕ → Option ℕ → ℕ
+lowest_or n None = n
+lowest_or n (Some i) = i
 
 -- what is known of a cell, where one more board has the value v there
 unfoldable pub joined_of : ℕ → ℕ → ℕ
@@ -87,6 +91,11 @@ pub data Meets (l : Leaf) (n : ℕ) (cells before after : List ℕ) : Met → Ty
   reason : (find_reason l (take n cells) ≡ none → ⊥) → after ≡ before → Meets l n cells before after Reason
   full : find_reason l (take n cells) ≡ none → lowest (take n cells) ≡ n → length after ≡ 1024 → Gathers n (counted l (take n cells)).boards before after → Meets l n cells before after Full
   undecided : {i : ℕ} → find_reason l (take n cells) ≡ none → i ≡ lowest (take n cells) → (i ≡ n → ⊥) → after ≡ before → Meets l n cells before after (Undecided i)
+
+-- what is left, as `left_after` counts
+abbrev pub left_number : Option ℕ → ℕ
+left_number None = 0
+left_number (Some k) = suc k
 
 -- what is left of `budget` after `steps`: 0 where they are more, else one more than what is left
 unfoldable pub left_after : ℕ → ℕ → ℕ

@@ -1,7 +1,8 @@
 // Cells that are certain: what holds in every finished board that agrees with the standing decisions.
 #![tactic(auto)]
 
-ghost use Rattle.std.specs.Prelude.{◌≡◌, true, ◌&&◌, ◌*◌, ◌≤◌, length, take, replicate};
+ghost use Rattle.std.specs.Prelude.{◌≡◌, true, ◌&&◌, ◌*◌, ◌<◌, ◌≤◌, length, take, replicate};
+ghost use Rattle.std.specs.Option.{ForSome};
 ghost use Rattle.grid.specs.Lists.{all};
 ghost use Rattle.form.specs.Form.{problem_formed};
 ghost use Rattle.sized.specs.Inside.{SizesOn};
@@ -10,10 +11,9 @@ ghost use Rattle.finished.specs.Finished.{keeps_all, two_squares};
 ghost use Rattle.finished.specs.Inside.{problem_on};
 ghost use Rattle.certain.specs.Tree.{lowest, search_of};
 ghost use Rattle.certain.specs.Facts.{certain_by, certain_of};
-ghost use Rattle.certain.specs.Inside.{leaf_in, leaf_by, cells_by, Given, States, joined_of, Noted, Beyond, Meets, Searched};
+ghost use Rattle.certain.specs.Inside.{lowest_or, left_number, leaf_in, leaf_by, cells_by, Given, States, joined_of, Noted, Beyond, Meets, Searched};
 
 use board::Board;
-use literals::Finding;
 
 // The answer of `certain`: the cells are told, there is no finished board that agrees with the decisions, the budget is spent, or a refusal by
 // document 01's number.
@@ -35,23 +35,23 @@ pub struct Facts {
 }
 
 // What a step meets: a reason, a full board, or the lowest undecided cell.
-#[derive(Clone, Copy)]
+#[derive(Clone, Copy, Debug, PartialEq, Eq)]
 enum Met {
     Reason,
     Full,
     Undecided(usize),
 }
 
-// The places of the numbers that don't change in a search.
-const EDITION: usize = 0;
-
-const ARROWS: usize = 1;
-
-const HEIGHT: usize = 2;
-
-const WIDTH: usize = 3;
-
-const SIZES: usize = 4;
+// The numbers of a leaf, which don't change in a search: its edition, how many arrows there are, its height and width, and how many of its cells are lent with
+// their sizes.
+#[derive(Clone, Copy, Debug, PartialEq, Eq)]
+struct Shape {
+    edition: u8,
+    number: usize,
+    height: usize,
+    width: usize,
+    sized: usize,
+}
 
 // Nothing is known of any cell.
 fn nothing_known() -> [u8; 1024]
@@ -61,16 +61,17 @@ fn nothing_known() -> [u8; 1024]
 }
 
 // What is known of a cell, where one more board has the value there.
+#[tactic(auto, unfolding(crate::specs::Inside::joined_of))]
 fn joined(known: u8, value: u8) -> u8
     ensures { result ≡ joined_of known value }
 {
     if known == 3 {
-        return value;
+        value
+    } else if known == value {
+        known
+    } else {
+        2
     }
-    if known == value {
-        return known;
-    }
-    2
 }
 
 // Joins a board to what is known of the first n cells.
@@ -83,19 +84,18 @@ fn note_board(cells: &[u8; 1024], n: usize, facts: &mut [u8; 1024])
     }
 }
 
-// The lowest undecided of the first n cells, n where there is none.
-fn lowest_undecided(cells: &[u8; 1024], n: usize) -> usize
+// The lowest undecided of the first n cells, if one is undecided.
+fn lowest_undecided(cells: &[u8; 1024], n: usize) -> Option<usize>
     requires { (n ≤ 1024) × (length cells.now ≡ 1024) }
-    ensures { result ≡ lowest (take n cells.now) }
+    ensures lowest { lowest_or n result ≡ lowest (take n cells.now) }
+    ensures below { ForSome result (λ i. i < n) }
 {
-    let mut i = 0;
-    while i < n {
+    for i in 0..n {
         if cells[i] == 2 {
-            return i;
+            return Some(i);
         }
-        i += 1;
     }
-    n
+    None
 }
 
 // What lies beyond a board of n cells with no reason: its lowest undecided cell, or nothing where it is full. Then it is noted, if it meets all
@@ -113,8 +113,7 @@ fn beyond<'a>(
     ensures { Beyond n cells.now (keeps_all n codes.now cells.now
         && all (two_squares cells.now) (lines_of arrows.now ends.now number)) facts.old facts.new result }
 {
-    let i = lowest_undecided(cells, n);
-    if i != n {
+    if let Some(i) = lowest_undecided(cells, n) {
         return Met::Undecided(i);
     }
     let counts = finished::all_but_rules(codes, cells, arrows, ends, number, n);
@@ -126,7 +125,7 @@ fn beyond<'a>(
 
 // One step of the search: find on a board, and what it meets.
 fn step<'a>(
-    shape: &'a [usize; 5],
+    shape: &'a Shape,
     lowest: &'a [u16; 1024],
     highest: &'a [u16; 1024],
     cells: &'a [u8; 1024],
@@ -140,12 +139,12 @@ fn step<'a>(
     ensures { Meets (leaf_by shape.now lowest.now highest.now codes.now arrows.now ends.now) (cells_by shape.now) cells.now facts.old facts.new result
         × (length buffer.new ≡ 3073) }
 {
-    let number = shape[ARROWS];
-    let h = shape[HEIGHT];
-    let w = shape[WIDTH];
-    let n = shape[SIZES];
+    let number = shape.number;
+    let h = shape.height;
+    let w = shape.width;
+    let n = shape.sized;
     let finding = inconsistency::find_inconsistency(
-        shape[EDITION] as u8,
+        shape.edition,
         reasons::first_sizes(lowest, n),
         reasons::first_sizes(highest, n),
         cells,
@@ -157,17 +156,15 @@ fn step<'a>(
         buffer,
     );
     match finding {
-        Finding::Nothing => beyond(cells, codes, arrows, ends, number, h * w, facts),
-        Finding::Reason(_) => Met::Reason,
-        Finding::Refused(_) => Met::Reason,
+        None => beyond(cells, codes, arrows, ends, number, h * w, facts),
+        Some(_) => Met::Reason,
     }
 }
 
-// The search from a board with at most `left` steps: 0 where it has more, else one more than what is left of them. What it sets in the cells it takes back.
-// It is as deep as there are undecided cells, and each call of it keeps what it is lent. So the numbers that don't change stand in one array, and what is
-// left is told by a number: an enum that holds one comes back in memory.
+// The search from a board with at most `left` steps: what is left of them, or None where it has more. What it sets in the cells it takes back.
+// It is as deep as there are undecided cells, and each call of it keeps what it is lent: so the numbers that don't change are lent as one.
 fn search_from<'a>(
-    shape: &'a [usize; 5],
+    shape: &'a Shape,
     lowest: &'a [u16; 1024],
     highest: &'a [u16; 1024],
     cells: &mut [u8; 1024],
@@ -177,20 +174,20 @@ fn search_from<'a>(
     facts: &mut [u8; 1024],
     buffer: &mut [u16; Board::LITERALS],
     left: u64,
-) -> u64
+) -> Option<u64>
     requires { Given shape.now lowest.now highest.now codes.now arrows.now ends.now × States cells.old × (length facts.old ≡ 1024) × (length buffer.old ≡ 3073) }
-    ensures { Searched (cells_by shape.now) left (search_of (leaf_by shape.now lowest.now highest.now codes.now arrows.now ends.now) (take (cells_by shape.now) cells.old)) result
+    ensures { Searched (cells_by shape.now) left (search_of (leaf_by shape.now lowest.now highest.now codes.now arrows.now ends.now) (take (cells_by shape.now) cells.old)) (left_number result)
         cells.old cells.new facts.old facts.new × (length buffer.new ≡ 3073) }
 {
     if left == 0 {
-        return 0;
+        return None;
     }
     let met = step(
         shape, lowest, highest, cells, codes, arrows, ends, facts, buffer,
     );
     match met {
-        Met::Reason => left,
-        Met::Full => left,
+        Met::Reason => Some(left - 1),
+        Met::Full => Some(left - 1),
         Met::Undecided(i) => {
             cells[i] = 1;
             let first = search_from(
@@ -205,25 +202,20 @@ fn search_from<'a>(
                 buffer,
                 left - 1,
             );
-            if first == 0 {
-                cells[i] = 2;
-                return 0;
+            match first {
+                None => {
+                    cells[i] = 2;
+                    None
+                }
+                Some(rest) => {
+                    cells[i] = 0;
+                    let second = search_from(
+                        shape, lowest, highest, cells, codes, arrows, ends, facts, buffer, rest,
+                    );
+                    cells[i] = 2;
+                    second
+                }
             }
-            cells[i] = 0;
-            let second = search_from(
-                shape,
-                lowest,
-                highest,
-                cells,
-                codes,
-                arrows,
-                ends,
-                facts,
-                buffer,
-                first - 1,
-            );
-            cells[i] = 2;
-            second
         }
     }
 }
@@ -251,8 +243,14 @@ pub fn certain_cells<'a>(
 {
     let mut facts = nothing_known();
     let mut buffer = reasons::no_literals();
-    let shape = [edition as usize, number, h, w, sized];
-    let rest = search_from(
+    let shape = Shape {
+        edition,
+        number,
+        height: h,
+        width: w,
+        sized,
+    };
+    let left = search_from(
         &shape,
         lowest,
         highest,
@@ -264,25 +262,27 @@ pub fn certain_cells<'a>(
         &mut buffer,
         budget,
     );
-    if rest == 0 {
-        return Facts {
+    match left {
+        None => Facts {
             answer: Certainty::Spent,
             steps: budget,
             cells: nothing_known(),
-        };
-    }
-    let steps = budget - (rest - 1);
-    if facts[0] == 3 {
-        return Facts {
-            answer: Certainty::Impossible,
-            steps,
-            cells: facts,
-        };
-    }
-    Facts {
-        answer: Certainty::Told,
-        steps,
-        cells: facts,
+        },
+        Some(rest) => {
+            let steps = budget - rest;
+            if facts[0] == 3 {
+                return Facts {
+                    answer: Certainty::Impossible,
+                    steps,
+                    cells: facts,
+                };
+            }
+            Facts {
+                answer: Certainty::Told,
+                steps,
+                cells: facts,
+            }
+        }
     }
 }
 

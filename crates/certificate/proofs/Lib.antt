@@ -1,4 +1,3 @@
 pub mod Words
-pub mod Looks
-pub mod Steps
+pub mod Hints
 pub mod Heads

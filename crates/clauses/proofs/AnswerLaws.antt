@@ -4,17 +4,19 @@ use Prim.Native.Nat.{ℕ, ◌≤◌, ◌<◌}
 use native.Mathlib.Omega.{arith}
 use mathlib.Core.Path.{◌≡◌, refl, ap, subst, ◌∙◌}
 use mathlib.Core.List.{List, [], ◌++◌}
-use lib.IntN.{ℤ, pos, neg_ℤ}
 use lib.ListN.{length, take, drop}
 use borrow.Author.Tests.{le-leb, lt-leb}
 use Rattle.grid.specs.Lists.{last, member}
 use Rattle.grid.specs.Marks.{Marks}
+use Rattle.std.specs.Prelude.{Ok, Err}
+use Rattle.refusal.specs.declared.Refusal.TheVariants.{SheetShort}
 use Rattle.record.specs.Record.{ok, refused, ◌>>=◌, unless, Puzzle, read_record}
 use Rattle.record.specs.Valid.{Valid}
 use Rattle.record.specs.Problem.{problem_of}
 use Rattle.record.specs.declared.Problem.{Problem}
 use Rattle.groups.specs.Arrays.{Line}
-use Rattle.exported.proofs.WrittenLaws.{Told, Told-refused, Told-ok}
+use Rattle.exported.specs.Written.{Writes}
+use Rattle.exported.proofs.WrittenLaws.{Writes-refused, Writes-ok}
 use Rattle.clauses.specs.Clauses.{sheet_bytes, sheet_within, sheet_for}
 use Rattle.clauses.specs.Inside.{Appends, sheet_piece}
 use Rattle.clauses.proofs.BytesLaws.{sheeted}
@@ -34,7 +36,7 @@ module _ (p : Puzzle) (v : Valid p) (q : Problem) (e : q ≡ problem_of p) (tota
   module _ (M : List ℕ) (K : Marks M (λ i. member i (take total q.arrows))) where
     -- what the code writes
     abbrev code : List ℕ
-    code = sheet_piece q.height q.width q.cells M q.arrows q.ends q.count
+    code = sheet_piece q M
 
     whole : code ≡ sheet_bytes p
     whole = (sheeted p v q e).piece M (subst (λ n. Marks M (λ i. member i (take n q.arrows))) t K)
@@ -43,16 +45,16 @@ module _ (p : Puzzle) (v : Valid p) (q : Problem) (e : q ≡ problem_of p) (tota
     long a = a.place ∙ omega (arith, ap length whole)
 
     -- too short an output
-    pub Told-13 : {o u : List ℕ} {n : ℕ} (old : List ℕ) {r : ℤ} → Appends 0 2246656 code o u n → length old < n → r ≡ neg_ℤ (pos 13) → Told (sheet_within (length old) p) r old old
-    Told-13 old {r} a h f = Told-refused (sheet_within (length old) p) 13 r old (within_13 (length old) p (omega (arith, long a))) f
+    pub Writes-13 : {o u : List ℕ} {n : ℕ} (old : List ℕ) → Appends 0 2246656 code o u n → length old < n → Writes (sheet_within (length old) p) (Err SheetShort) old old
+    Writes-13 old a h = Writes-refused (sheet_within (length old) p) old SheetShort (within_13 (length old) p (omega (arith, long a)))
 
     -- an output with room: what was counted before is what is written
-    pub Told-written : {o u : List ℕ} {n m : ℕ} (old new : List ℕ) {r : ℤ} → Appends 0 2246656 code o u n → n ≤ length old → Appends 0 2246656 code old new m → r ≡ pos m
-        → Told (sheet_within (length old) p) r old new
-    Told-written {n = n} {m = m} old new {r} a h b f =
+    pub Writes-sheet : {o u : List ℕ} {n m : ℕ} (old new : List ℕ) → Appends 0 2246656 code o u n → n ≤ length old → Appends 0 2246656 code old new m
+        → Writes (sheet_within (length old) p) (Ok m) old new
+    Writes-sheet {n = n} {m = m} old new a h b =
         let c = long b in
         let w = b.wrote old [] refl refl (omega (arith, long a, c)) in
-        Told-ok (sheet_within (length old) p) (sheet_bytes p) old new r (within_ok (length old) p (omega (arith, long a))) (f ∙ ap pos c)
+        Writes-ok (sheet_within (length old) p) old (sheet_bytes p) new m (within_ok (length old) p (omega (arith, long a))) c (omega (arith, b.place, b.most))
         (w ∙ ap (λ (l : List ℕ). l ++ drop m old) whole ∙ ap (λ (k : ℕ). sheet_bytes p ++ drop k old) c)
 
 -- the record's refusals, and its puzzle
@@ -60,9 +62,6 @@ pub sheet_refused : (n : ℕ) (s : List ℕ) (k : ℕ) → read_record s ≡ ref
 unfolding sheet_for ◌>>=◌
 sheet_refused n s k e = rw e refl
 
-sheet_read : (n : ℕ) (s : List ℕ) (p : Puzzle) → read_record s ≡ ok p → sheet_for n s ≡ sheet_within n p
+pub sheet_read : (n : ℕ) (s : List ℕ) (p : Puzzle) → read_record s ≡ ok p → sheet_for n s ≡ sheet_within n p
 unfolding sheet_for ◌>>=◌
 sheet_read n s p e = rw e refl
-
-pub Told-read : (n : ℕ) (s : List ℕ) (p : Puzzle) (old : List ℕ) {r z : ℤ} {new : List ℕ} → read_record s ≡ ok p → z ≡ r → Told (sheet_within n p) r old new → Told (sheet_for n s) z old new
-Told-read n s p old e f w = rw (sheet_read n s p e) (f ∙ w.0, w.1)

@@ -3,17 +3,21 @@
 use Prim.Native.Nat.{ℕ, suc, ◌+◌, ◌-◌, ◌*◌, ◌/◌, ◌%◌, ◌≤◌, ◌<◌}
 use native.Mathlib.Omega.{arith}
 use native.Mathlib.Nat.{suc-mul}
-use mathlib.Core.Path.{◌≡◌, refl, ap, subst, ◌∙◌}
+use mathlib.Core.Path.{◌≡◌, refl, sym, ap, subst, ◌∙◌}
 use mathlib.Core.List.{List, [], ◌++◌, append_assoc, append-nil}
-use lib.ListN.{length, get_or, set, drop, length-append, length-drop, length-set}
+use lib.ListN.{length, get_or, set, take, drop, length-append, length-drop, length-set}
+use lib.Seq.{ext_get_or}
+use Rattle.std.proofs.lemmas.List.{length-take, get_or-take, get_or-drop}
+use Rattle.grid.proofs.ListLaws.{length-map-upto, map-upto_at}
 use Rattle.grid.specs.Lists.{flat_map, upto, range}
 use Rattle.grid.specs.Side.{sized}
 use Rattle.grid.proofs.AppendLaws.{flat_map_more}
 use Rattle.grid.proofs.SideLaws.{area}
+use Rattle.record.specs.declared.Problem.{Problem}
 use Rattle.record.specs.Lines.{start_at, Lines}
 use Rattle.exported.specs.Written.{bytes_of}
 use Rattle.exported.proofs.BytesLaws.{two_set}
-use Rattle.clauses.specs.Inside.{Appends, word_bytes, given_piece, touching_piece, between_piece, arrow_piece, line_piece, sheet_piece}
+use Rattle.clauses.specs.Inside.{Appends, word_bytes, given_piece, touching_piece, between_piece, part, arrow_piece, line_piece, sheet_piece}
 
 -- the output is as long as the old one
 old_length : {at : ℕ} (old b entry : List ℕ) → length b ≡ at → entry ≡ b ++ drop at old → at ≤ length old → length entry ≡ length old
@@ -79,12 +83,24 @@ pub Appends-all : (F : ℕ → List ℕ) (i n k : ℕ) {at r : ℕ} {x y : List 
 Appends-all F i n k {at} {r} {x} {y} e a = subst (λ m. Appends at (m * k) (flat_map F (upto m)) x y r) e a
 
 -- the arrow that starts and ends there is arrow k
-pub same_line : (line ends : List ℕ) (k from to : ℕ) → from ≡ start_at ends k → to ≡ get_or ends k 0 → arrow_piece line from (to - from) ≡ line_piece line ends k
+pub same_line : (line ends : List ℕ) (k from to : ℕ) → from ≡ start_at ends k → to ≡ get_or ends k 0 → arrow_piece (part line from (to - from)) ≡ line_piece line ends k
 same_line line ends k from to p q = rw (p, q) refl
 
+-- a part of the line, place by place
+pub part_long : (line : List ℕ) (from to : ℕ) → from ≤ to → to ≤ length line → length (take (to - from) (drop from line)) ≡ to - from
+part_long line from to h l = omega (arith, length-take (to - from) (drop from line), length-drop from line)
+
+pub part_is : (line : List ℕ) (from to : ℕ) → from ≤ to → to ≤ length line → take (to - from) (drop from line) ≡ part line from (to - from)
+part_is line from to h l =
+    let long = part_long line from to h l in
+    ext_get_or 0 (take (to - from) (drop from line)) (part line from (to - from)) (long ∙ sym (length-map-upto (λ t. get_or line (from + t) 0) (to - from)))
+    (λ t m. get_or-take (to - from) (drop from line) t 0 (omega (arith, long)) ∙ get_or-drop from line t 0 ∙ sym (map-upto_at (λ t. get_or line (from + t) 0) (to - from) t 0 (omega (arith, long))))
+
 -- the four parts
-pub sheet_Appends : (codes marks : List ℕ) {h w : ℕ} {line ends : List ℕ} {count a b c d : ℕ} {o p q s t : List ℕ} → Lines h w line ends count → Appends 0 (h * w * 4) (flat_map (given_piece codes) (upto (h * w))) o p a
-    → Appends a (h * w * 12) (flat_map (touching_piece marks (sized h w)) (upto (h * w))) p q b → Appends b (h * w * 128) (flat_map (between_piece marks (sized h w)) (upto (h * w))) q s c
-    → Appends c 2099200 (flat_map (line_piece line ends) (upto count)) s t d → Appends 0 2246656 (sheet_piece h w codes marks line ends count) o t d
+pub sheet_Appends : (q : Problem) (marks : List ℕ) {a b c d : ℕ} {o p r s t : List ℕ} → Lines q.height q.width q.arrows q.ends q.count
+    → Appends 0 (q.height * q.width * 4) (flat_map (given_piece q.cells) (upto (q.height * q.width))) o p a
+    → Appends a (q.height * q.width * 12) (flat_map (touching_piece marks (sized q.height q.width)) (upto (q.height * q.width))) p r b
+    → Appends b (q.height * q.width * 128) (flat_map (between_piece marks (sized q.height q.width)) (upto (q.height * q.width))) r s c
+    → Appends c 2099200 (flat_map (line_piece q.arrows q.ends) (upto q.count)) s t d → Appends 0 2246656 (sheet_piece q marks) o t d
 unfolding sheet_piece
-sheet_Appends codes marks {h} {w} L x y z u = Appends-most 2246656 (omega (arith, area h w L.tall L.wide)) (Appends-then x (Appends-then y (Appends-then z u)))
+sheet_Appends q marks L x y z u = Appends-most 2246656 (omega (arith, area q.height q.width L.tall L.wide)) (Appends-then x (Appends-then y (Appends-then z u)))

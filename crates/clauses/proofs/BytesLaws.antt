@@ -7,13 +7,14 @@ use mathlib.Core.Bool.{Bool, true, false, cond, not}
 use mathlib.Core.List.{List, [], ◌∷◌, ◌++◌, map, Memᴰ}
 use lib.Dec.{eqb}
 use lib.ListN.{length, get_or, take, length-map}
+use lib.Seq.{ext_get_or}
 use borrow.Author.Tests.{eq-eqb, eqb-true}
 use Rattle.groups.specs.Arrays.{Line}
 use Rattle.grid.specs.Lists.{flat_map, filter, upto, last, member, array_of}
 use Rattle.grid.specs.Marks.{Marks}
 use Rattle.grid.specs.Grid.{Grid, size, cells_of, neighbours}
 use Rattle.grid.specs.Cells.{Literal, word}
-use Rattle.grid.proofs.ListLaws.{upto-mem, mem-upto, at_mem, filter-mem, mem-filter, filter_split, only_one, Distinct-filter, Distinct-upto}
+use Rattle.grid.proofs.ListLaws.{length-map-upto, map-upto_at, upto-mem, mem-upto, at_mem, filter-mem, mem-filter, filter_split, only_one, Distinct-filter, Distinct-upto}
 use Rattle.grid.proofs.AppendLaws.{filter_agree, flat_map_agree, upto-length}
 use Rattle.grid.proofs.ArrayLaws.{array_in, array_take, array_length}
 use Rattle.grid.proofs.MarkLaws.{mark_is}
@@ -31,7 +32,7 @@ use Rattle.record.specs.Lines.{Lines}
 use Rattle.record.proofs.LinesLaws.{line, ends, Stands, Lines-of, by_arrows}
 use Rattle.form.proofs.ProblemForm.{ends_taken, last_end, line_below}
 use Rattle.clauses.specs.Clauses.{given_at, onwards, touching_at, around, between_at, others_of, arrow_clauses, given_part, touching_part, between_part, arrow_part, sheet, clause_bytes, clauses_bytes, sheet_bytes}
-use Rattle.clauses.specs.Inside.{word_bytes, marked, given_piece, touching_piece, between_piece, other_piece, clause_piece, arrow_piece, line_piece, sheet_piece}
+use Rattle.clauses.specs.Inside.{word_bytes, marked, given_piece, touching_piece, between_piece, other_piece, clause_piece, part, arrow_piece, line_piece, sheet_piece}
 use Rattle.clauses.proofs.AroundLaws.{around_near, onwards_near}
 use Rattle.clauses.proofs.PieceLaws.{clause_bytes_lem, clauses_append, word_1}
 use Rattle.clauses.proofs.NearLaws.{flat_pieces, map_pieces}
@@ -56,22 +57,31 @@ others_count n k h =
     (λ y m. eqb-true y k (filter-mem (λ t. eqb t k) (upto n) m).1) in
     omega (arith, filter_split (λ t. eqb t k) (upto n), one, upto-length n)
 
-clause_there : (line : List ℕ) (from : ℕ) (a : List ℕ) (k : ℕ) → k < length a → Stands line from a → clause_piece line from (length a) k ≡ clause_bytes (others_of a k)
+clause_there : (a : List ℕ) (k : ℕ) → k < length a → clause_piece a k ≡ clause_bytes (others_of a k)
 unfolding others_of
-clause_there line from a k h e =
+clause_there a k h =
     let n : length (others_of a k) ≡ length a - 1 = length-map (filter (λ t. not (eqb t k)) (upto (length a))) (λ (t : ℕ). (get_or a t 0, 1)) ∙ others_count (length a) k h in
-    let same : flat_map (other_piece line from k) (upto (length a)) ≡ flat_map (λ t. cond (eqb t k) [] (word_bytes (word (get_or a t 0, 1)))) (upto (length a)) =
-    flat_map_agree (other_piece line from k) (λ t. cond (eqb t k) [] (word_bytes (word (get_or a t 0, 1)))) (upto (length a))
-    (λ t m. ap (λ (x : ℕ). cond (eqb t k) [] (word_bytes x)) (ap (λ (x : ℕ). 32768 + x) (e t (upto-mem (length a) m)) ∙ sym (word_1 (get_or a t 0)))) in
+    let same : flat_map (other_piece a k) (upto (length a)) ≡ flat_map (λ t. cond (eqb t k) [] (word_bytes (word (get_or a t 0, 1)))) (upto (length a)) =
+    flat_map_agree (other_piece a k) (λ t. cond (eqb t k) [] (word_bytes (word (get_or a t 0, 1)))) (upto (length a))
+    (λ t m. ap (λ (x : ℕ). cond (eqb t k) [] (word_bytes x)) (sym (word_1 (get_or a t 0)))) in
     ap (λ (l : List ℕ). word_bytes (length a - 1) ++ l) (same ∙ flat_filter (λ t. eqb t k) (λ (t : ℕ). (get_or a t 0, 1)) (λ (l : Literal). word_bytes (word l)) (upto (length a)))
     ∙ ap (λ (m : ℕ). word_bytes m ++ flat_map (λ (l : Literal). word_bytes (word l)) (map (λ (t : ℕ). (get_or a t 0, 1)) (filter (λ t. not (eqb t k)) (upto (length a))))) (sym n)
     ∙ sym (clause_bytes_lem (others_of a k))
 
-arrow_there : (line : List ℕ) (from : ℕ) (a : List ℕ) → Stands line from a → arrow_piece line from (length a) ≡ clauses_bytes (arrow_clauses a)
+arrow_whole : (a : List ℕ) → arrow_piece a ≡ clauses_bytes (arrow_clauses a)
 unfolding arrow_clauses
-arrow_there line from a e =
-    flat_map_agree (clause_piece line from (length a)) (λ k. clause_bytes (others_of a k)) (upto (length a)) (λ k m. clause_there line from a k (upto-mem (length a) m) e)
+arrow_whole a =
+    flat_map_agree (clause_piece a) (λ k. clause_bytes (others_of a k)) (upto (length a)) (λ k m. clause_there a k (upto-mem (length a) m))
     ∙ map_pieces (others_of a) (upto (length a))
+
+-- an arrow that stands in the line
+part_there : (line : List ℕ) (from : ℕ) (a : List ℕ) → Stands line from a → part line from (length a) ≡ a
+part_there line from a e =
+    ext_get_or 0 (part line from (length a)) a (length-map-upto (λ t. get_or line (from + t) 0) (length a))
+    (λ t h. let l : t < length a = omega (arith, length-map-upto (λ t. get_or line (from + t) 0) (length a)) in map-upto_at (λ t. get_or line (from + t) 0) (length a) t 0 l ∙ e t l)
+
+arrow_there : (line : List ℕ) (from : ℕ) (a : List ℕ) → Stands line from a → arrow_piece (part line from (length a)) ≡ clauses_bytes (arrow_clauses a)
+arrow_there line from a e = ap (λ (x : List ℕ). arrow_piece x) (part_there line from a e) ∙ arrow_whole a
 
 -- ---- a puzzle in arrays
 
@@ -114,7 +124,7 @@ module _ (p : Puzzle) (v : Valid p) where
 
   arrows_are : flat_map (line_piece (line p) (ends p)) (upto (length p.arrows)) ≡ clauses_bytes (arrow_part p)
   unfolding arrow_part
-  arrows_are = by_arrows (arrow_piece (line p)) (λ a. clauses_bytes (arrow_clauses a)) p v (λ a m from e. arrow_there (line p) from a e) ∙ flat_pieces arrow_clauses p.arrows
+  arrows_are = by_arrows (λ from n. arrow_piece (part (line p) from n)) (λ a. clauses_bytes (arrow_clauses a)) p v (λ a m from e. arrow_there (line p) from a e) ∙ flat_pieces arrow_clauses p.arrows
 
   module _ (M : List ℕ) (K : Marks M (λ i. member i (take total (line p)))) where
     on_same : (j : ℕ) → j < size p.grid → marked M j ≡ on_arrow p.arrows j
@@ -134,8 +144,8 @@ module _ (p : Puzzle) (v : Valid p) where
         (λ i m. ap clauses_bytes (between_same (marked M) (on_arrow p.arrows) p.grid on_same i (upto-mem (p.grid.height * p.grid.width) m)))
         ∙ flat_pieces (between_at (on_arrow p.arrows) p.grid) (upto (p.grid.height * p.grid.width))
 
-    sheet_there : sheet_piece p.grid.height p.grid.width (array_of 0 p.given) M (line p) (ends p) (length p.arrows) ≡ sheet_bytes p
-    unfolding sheet_piece sheet_bytes sheet
+    sheet_there : sheet_piece (problem_of p) M ≡ sheet_bytes p
+    unfolding problem_of sheet_piece sheet_bytes sheet
     sheet_there =
         rw (given_there, touching_there, between_there, arrows_are)
         (sym (clauses_append (given_part p) (touching_part p ++ (between_part p ++ arrow_part p))
@@ -161,7 +171,7 @@ pub record Sheeted (p : Puzzle) (q : Problem) : Type 0 where
   pub lines : Lines q.height q.width q.arrows q.ends q.count
   pub there : q.count ≤ length q.ends
   pub flat : Line q.arrows (last 0 (take q.count q.ends))
-  pub piece : (M : List ℕ) → Marks M (λ i. member i (take (last 0 (take q.count q.ends)) q.arrows)) → sheet_piece q.height q.width q.cells M q.arrows q.ends q.count ≡ sheet_bytes p
+  pub piece : (M : List ℕ) → Marks M (λ i. member i (take (last 0 (take q.count q.ends)) q.arrows)) → sheet_piece q M ≡ sheet_bytes p
 
 Sheeted-of : (p : Puzzle) → Valid p → Sheeted p (problem_of p)
 unfolding problem_of

@@ -10,8 +10,7 @@ use borrow.Author.Tests.{eq-eqb, ne_eqb}
 use Rattle.grid.specs.Lists.{flat_map, filter, upto, range}
 use Rattle.grid.specs.Grid.{Grid, size, row, col, up, down, left, right}
 use Rattle.grid.specs.Side.{sized, towards, beside_of, InPlace}
-use Rattle.grid.specs.declared.Side.{Side}
-use Rattle.grid.specs.declared.Side.TheVariants.{At, Off}
+use Rattle.std.specs.Prelude.{Option, Some, None}
 use Rattle.grid.specs.declared.Around.{Around}
 use Rattle.grid.proofs.AppendLaws.{filter-append, by_eq, flat_map-append, flat_map_more, flat_map_agree, map_agree}
 use Rattle.grid.proofs.GridLaws.{index}
@@ -44,32 +43,32 @@ turn_else (suc (suc (suc zero))) l n m = (refl, l)
 turn_else (suc (suc (suc (suc k)))) l n m = absurd (omega arith)
 
 -- the cell that a direction leads to is small
-pub side_small : {h w y x : ℕ} (d j : ℕ) → InPlace h w y x → At j ≡ beside_of (sized h w) (y * w + x) d → j < 1024
+pub side_small : {h w y x : ℕ} (d j : ℕ) → InPlace h w y x → Some j ≡ beside_of (sized h w) (y * w + x) d → j < 1024
 unfolding size
 side_small {h} {w} {y} {x} d j p e = omega (arith, beside_in (sized h w) (y * w + x) d j (in_grid p).within e, area h w p.tall p.wide)
 
 module _ (marks : List ℕ) (g : Grid) (i k d : ℕ) (e : d ≡ turn_at k) where
-  pub side_yes : (j : ℕ) → At j ≡ beside_of g i d → j < 1024 → get_or marks j 0 ≡ 1 → ArrowSide (filter (marked marks) (towards g i (turn_at k))) (At j)
+  pub side_yes : (j : ℕ) → Some j ≡ beside_of g i d → j < 1024 → get_or marks j 0 ≡ 1 → ArrowSide (filter (marked marks) (towards g i (turn_at k))) (Some j)
   unfolding filter
   side_yes j b l m = rw (← e, beside_at g i d j b, eq-eqb (get_or marks j 0) 1 m) (ArrowSide.one l)
 
-  pub side_no : (j : ℕ) → At j ≡ beside_of g i d → (get_or marks j 0 ≡ 1 → ⊥) → ArrowSide (filter (marked marks) (towards g i (turn_at k))) Off
+  pub side_no : (j : ℕ) → Some j ≡ beside_of g i d → (get_or marks j 0 ≡ 1 → ⊥) → ArrowSide (filter (marked marks) (towards g i (turn_at k))) None
   unfolding filter
   side_no j b m = rw (← e, beside_at g i d j b, ne_eqb (get_or marks j 0) 1 m) ArrowSide.none
 
-  pub side_off : Off ≡ beside_of g i d → ArrowSide (filter (marked marks) (towards g i (turn_at k))) Off
+  pub side_off : None ≡ beside_of g i d → ArrowSide (filter (marked marks) (towards g i (turn_at k))) None
   unfolding filter
   side_off b = rw (← e, beside_off g i d b) ArrowSide.none
 
-pub side_short : {m : List ℕ} {s : Side} → ArrowSide m s → length m ≤ 1
+pub side_short : {m : List ℕ} {s : Option ℕ} → ArrowSide m s → length m ≤ 1
 side_short (ArrowSide.one l) = omega arith
 side_short ArrowSide.none = omega arith
 
-pub side_at : {m : List ℕ} {s : Side} (j : ℕ) → ArrowSide m s → s ≡ At j → (j ∷ [] ≡ m) × (j < 1024)
+pub side_at : {m : List ℕ} {s : Option ℕ} (j : ℕ) → ArrowSide m s → s ≡ Some j → (j ∷ [] ≡ m) × (j < 1024)
 side_at j (ArrowSide.one {j = k} l) e = let z : j ≡ k = cc in (cc, omega (arith, z, l))
 side_at j ArrowSide.none e = absurd (let z : ◌≡◌ {A = ℕ} 0 1 = cc in omega arith)
 
-pub side_gone : {m : List ℕ} {s : Side} → ArrowSide m s → s ≡ Off → [] ≡ m
+pub side_gone : {m : List ℕ} {s : Option ℕ} → ArrowSide m s → s ≡ None → [] ≡ m
 side_gone (ArrowSide.one l) e = absurd (let z : ◌≡◌ {A = ℕ} 0 1 = cc in omega arith)
 side_gone ArrowSide.none e = refl
 
@@ -95,12 +94,12 @@ Holds-one {l} {a} j H s b = record {
     front : (k : ℕ) → k < length l → get_or (set a.cells a.count j) k 0 ≡ get_or (l ++ (j ∷ [])) k 0
     front k h = get_or-set_other a.cells a.count k j 0 (λ e. omega (arith, e, H.number)) ∙ H.each k h ∙ sym (get_or-append l (j ∷ []) 0 k h)
 
-pub add_one_side : {l m : List ℕ} {a : Around} {s : Side} (j : ℕ) → s ≡ At j → Holds l a → length l < 4 → ArrowSide m s → Holds (l ++ m) (record { cells = set a.cells a.count j; count = a.count + 1 })
+pub add_one_side : {l m : List ℕ} {a : Around} {s : Option ℕ} (j : ℕ) → s ≡ Some j → Holds l a → length l < 4 → ArrowSide m s → Holds (l ++ m) (record { cells = set a.cells a.count j; count = a.count + 1 })
 add_one_side {l} {m} {a} j e H s S =
     let r = side_at j S e in
     subst (λ n. Holds (l ++ n) (record { cells = set a.cells a.count j; count = a.count + 1 })) r.0 (Holds-one j H s r.1)
 
-pub add_no_side : {l m : List ℕ} {a : Around} {s : Side} → s ≡ Off → Holds l a → ArrowSide m s → Holds (l ++ m) a
+pub add_no_side : {l m : List ℕ} {a : Around} {s : Option ℕ} → s ≡ None → Holds l a → ArrowSide m s → Holds (l ++ m) a
 add_no_side {l} {m} {a} e H S = subst (λ n. Holds (l ++ n) a) (side_gone S e) (rw (append-nil l) H)
 
 -- the first k directions
@@ -121,7 +120,7 @@ near_none marks g i = (record { long = refl; number = refl; few = omega arith; e
     low (suc (suc (suc zero))) = omega arith
     low (suc (suc (suc (suc k)))) = omega arith
 
-pub near_more : (marks : List ℕ) (g : Grid) (i k : ℕ) {a : Around} {s : Side} → ArrowSide (toward_list marks g i k) s → length (near_from marks g i k) ≤ k → Holds (near_from marks g i k ++ toward_list marks g i k) a
+pub near_more : (marks : List ℕ) (g : Grid) (i k : ℕ) {a : Around} {s : Option ℕ} → ArrowSide (toward_list marks g i k) s → length (near_from marks g i k) ≤ k → Holds (near_from marks g i k ++ toward_list marks g i k) a
     → Holds (near_from marks g i (k + 1)) a × (length (near_from marks g i (k + 1)) ≤ k + 1)
 unfolding near_from
 near_more marks g i k {a} S n H =

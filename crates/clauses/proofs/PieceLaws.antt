@@ -113,11 +113,11 @@ module _ (marks : List ℕ) (g : Grid) (i : ℕ) where
   touching_off n = rw (ne_eqb (get_or marks i 0) 1 n) (sym clauses_none)
 
 -- another cell of an arrow
-pub other_same : (line : List ℕ) (from k t : ℕ) → t ≡ k → [] ≡ other_piece line from k t
-other_same line from k t e = rw (eq-eqb t k e) refl
+pub other_same : (arrow : List ℕ) (k t : ℕ) → t ≡ k → [] ≡ other_piece arrow k t
+other_same arrow k t e = rw (eq-eqb t k e) refl
 
-pub other_not : (line : List ℕ) (from k t : ℕ) → (t ≡ k → ⊥) → word_bytes (32768 + get_or line (from + t) 0) ≡ other_piece line from k t
-other_not line from k t n = rw (ne_eqb t k n) refl
+pub other_not : (arrow : List ℕ) (k t : ℕ) → (t ≡ k → ⊥) → word_bytes (32768 + get_or arrow t 0) ≡ other_piece arrow k t
+other_not arrow k t n = rw (ne_eqb t k n) refl
 
 -- the cell to the right is one of the grid
 pub next_small : {h w i : ℕ} → InGrid h w i → i % w + 1 < w → i + 1 < 1024

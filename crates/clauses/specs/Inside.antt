@@ -1,12 +1,11 @@
 -- What the inner functions promise each other: bytes written behind those of a lent output, and the parts of the sheet made of the code's arrays.
 -- Assumes nothing.
-use Rattle.std.specs.Prelude.{ℕ, zero, suc, ◌+◌, ◌-◌, ◌*◌, ◌≤◌, ◌<◌, ◌≡◌, Bool, cond, List, [], ◌∷◌, ◌++◌, map, eqb, length, get_or, drop}
+use Rattle.std.specs.Prelude.{ℕ, zero, suc, ◌+◌, ◌-◌, ◌*◌, ◌≤◌, ◌<◌, ◌≡◌, Bool, cond, List, [], ◌∷◌, ◌++◌, map, eqb, length, get_or, drop, Option, Some, None}
 use Rattle.grid.specs.Lists.{flat_map, upto}
 use Rattle.grid.specs.Grid.{Grid}
 use Rattle.grid.specs.Side.{sized}
 use Rattle.grid.specs.declared.Around.{Around}
-use Rattle.grid.specs.declared.Side.{Side}
-use Rattle.grid.specs.declared.Side.TheVariants.{At, Off}
+use Rattle.record.specs.declared.Problem.{Problem}
 use Rattle.record.specs.Lines.{start_at}
 use Rattle.exported.specs.Written.{bytes_of}
 use Rattle.clauses.specs.Clauses.{given_at, touching_at, between_at, between, clauses_bytes}
@@ -56,39 +55,43 @@ turn_at (suc (suc zero)) = 1
 turn_at (suc (suc (suc k))) = 3
 
 -- a list of at most one cell as a side
-pub data ArrowSide : List ℕ → Side → Type 0 where
-  one : {j : ℕ} → j < 1024 → ArrowSide (j ∷ []) (At j)
-  none : ArrowSide [] Off
+pub data ArrowSide : List ℕ → Option ℕ → Type 0 where
+  one : {j : ℕ} → j < 1024 → ArrowSide (j ∷ []) (Some j)
+  none : ArrowSide [] None
 
 -- the cell i with the cell at place a and each before it
 abbrev pub with_piece : ℕ → List ℕ → ℕ → List ℕ
 with_piece i l a = clauses_bytes (map (between i l a) (upto a))
 
--- an arrow of n cells from the place `from` of the line: its cell t as 1, but that at place k
-abbrev pub other_piece : List ℕ → ℕ → ℕ → ℕ → List ℕ
-other_piece line from k t = cond (eqb t k) [] (word_bytes (32768 + get_or line (from + t) 0))
+-- the cell of an arrow at place t as 1, but that at place k
+abbrev pub other_piece : List ℕ → ℕ → ℕ → List ℕ
+other_piece arrow k t = cond (eqb t k) [] (word_bytes (32768 + get_or arrow t 0))
 
--- the clause for its cell k
-abbrev pub clause_piece : List ℕ → ℕ → ℕ → ℕ → List ℕ
-clause_piece line from n k = word_bytes (n - 1) ++ flat_map (other_piece line from k) (upto n)
+-- the clause for its cell at place k
+abbrev pub clause_piece : List ℕ → ℕ → List ℕ
+clause_piece arrow k = word_bytes (length arrow - 1) ++ flat_map (other_piece arrow k) (upto (length arrow))
 
 -- all its clauses
-abbrev pub arrow_piece : List ℕ → ℕ → ℕ → List ℕ
-arrow_piece line from n = flat_map (clause_piece line from n) (upto n)
+abbrev pub arrow_piece : List ℕ → List ℕ
+arrow_piece arrow = flat_map (clause_piece arrow) (upto (length arrow))
 
--- those of arrow k
+-- the n cells from the place `from` of the line
+abbrev pub part : List ℕ → ℕ → ℕ → List ℕ
+part line from n = map (λ t. get_or line (from + t) 0) (upto n)
+
+-- the clauses of arrow k
 abbrev pub line_piece : List ℕ → List ℕ → ℕ → List ℕ
-line_piece line ends k = arrow_piece line (start_at ends k) (get_or ends k 0 - start_at ends k)
+line_piece line ends k = arrow_piece (part line (start_at ends k) (get_or ends k 0 - start_at ends k))
 
--- the cells of an arrow stand in the line
-pub record OnLine (line : List ℕ) (from n : ℕ) : Type 0 where
-  pub ends : from + n ≤ 1024
-  pub cells : (k : ℕ) → k < n → get_or line (from + k) 0 < 1024
+-- at most 1,024 cells, each one of 1,024
+pub record IsArrow (arrow : List ℕ) : Type 0 where
+  pub few : length arrow ≤ 1024
+  pub cells : (k : ℕ) → k < length arrow → get_or arrow k 0 < 1024
 
--- the four parts
-unfoldable pub sheet_piece : ℕ → ℕ → List ℕ → List ℕ → List ℕ → List ℕ → ℕ → List ℕ
-sheet_piece h w codes marks line ends count =
-    flat_map (given_piece codes) (upto (h * w))
-    ++ (flat_map (touching_piece marks (sized h w)) (upto (h * w))
-    ++ (flat_map (between_piece marks (sized h w)) (upto (h * w))
-    ++ flat_map (line_piece line ends) (upto count)))
+-- the four parts, of the problem's arrays
+unfoldable pub sheet_piece : Problem → List ℕ → List ℕ
+sheet_piece q marks =
+    flat_map (given_piece q.cells) (upto (q.height * q.width))
+    ++ (flat_map (touching_piece marks (sized q.height q.width)) (upto (q.height * q.width))
+    ++ (flat_map (between_piece marks (sized q.height q.width)) (upto (q.height * q.width))
+    ++ flat_map (line_piece q.arrows q.ends) (upto q.count)))

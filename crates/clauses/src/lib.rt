@@ -10,13 +10,13 @@ ghost use Rattle.record.specs.Record.{Puzzle};
 ghost use Rattle.record.specs.Valid.{Valid};
 ghost use Rattle.record.specs.Problem.{problem_of};
 ghost use Rattle.record.specs.Lines.{Lines};
-ghost use Rattle.exported.specs.Written.{written, output_with};
+ghost use Rattle.exported.specs.Written.{written, output_with, Writes};
 ghost use Rattle.clauses.specs.Clauses.{given_at, apart, around, clause_bytes, clauses_bytes, sheet_within, sheet_for};
-ghost use Rattle.clauses.specs.Inside.{word_bytes, Appends, Counts, marked, given_piece, touching_piece, between_piece, Holds, with_piece, other_piece, clause_piece, arrow_piece, line_piece, OnLine, sheet_piece, turn_at, ArrowSide};
+ghost use Rattle.clauses.specs.Inside.{word_bytes, Appends, Counts, marked, given_piece, touching_piece, between_piece, Holds, with_piece, other_piece, clause_piece, arrow_piece, line_piece, IsArrow, sheet_piece, turn_at, ArrowSide};
 
-use exported::{counted, negated};
-use grid::{Around, Side};
-use record::{Answer, Problem};
+use grid::Around;
+use record::Problem;
+use refusal::Refusal;
 
 // Writes a 16-bit number, high byte first.
 fn put(out: &mut [u8], at: usize, word: usize) -> usize
@@ -54,16 +54,14 @@ fn put_given(out: &mut [u8], at: usize, code: u8, i: usize) -> usize
     at
 }
 
-// Writes the first part.
+// Writes the first part. Each part keeps its own loop: one over a closure that writes the lent output would bound `F.step` place by place, in a clause longer than the loop.
 fn write_given(out: &mut [u8], at: usize, codes: &[u8; 1024], n: usize) -> usize
     requires { (n ≤ 1024) × Counts at 4096 }
     ensures { Appends at (n * 4) (flat_map (given_piece codes.now) (upto n)) out.old out.new result }
 {
     let mut end = at;
-    let mut i = 0;
-    while i < n {
+    for i in 0..n {
         end = put_given(out, end, codes[i], i);
-        i += 1;
     }
     end
 }
@@ -143,10 +141,8 @@ fn write_touching(out: &mut [u8], at: usize, marks: &[u8; 1024], h: usize, w: us
     ensures { Appends at ((h * w) * 12) (flat_map (touching_piece marks.now (sized h w)) (upto (h * w))) out.old out.new result }
 {
     let mut end = at;
-    let mut i = 0;
-    while i < h * w {
+    for i in 0..h * w {
         end = touching_at(out, end, marks, h, w, i);
-        i += 1;
     }
     end
 }
@@ -166,29 +162,36 @@ fn direction(k: usize) -> usize
 }
 
 // The arrow cell that the cell at row y, column x has in the k-th direction.
-fn arrow_toward(marks: &[u8; 1024], h: usize, w: usize, y: usize, x: usize, k: usize) -> Side
+fn arrow_toward(
+    marks: &[u8; 1024],
+    h: usize,
+    w: usize,
+    y: usize,
+    x: usize,
+    k: usize,
+) -> Option<usize>
     requires { InPlace h w y x × (k < 4) }
     ensures { ArrowSide (filter (marked marks.now) (towards (sized h w) (y * w + x) (turn_at k))) result }
 {
     let side = grid::toward(h, w, y, x, direction(k));
     match side {
-        Side::At(j) => {
+        Some(j) => {
             if marks[j] == 1 {
-                return Side::At(j);
+                return Some(j);
             }
-            Side::Off
+            None
         }
-        Side::Off => Side::Off,
+        None => None,
     }
 }
 
 // The cells with one more, if there is one.
-fn add(near: Around, side: Side) -> Around
+fn add(near: Around, side: Option<usize>) -> Around
     requires { (l m : List ℕ) × Holds l near × (length l < 4) × ArrowSide m side }
     ensures { (l m : List ℕ) → Holds l near → length l < 4 → ArrowSide m side → Holds (l ++ m) result }
 {
     match side {
-        Side::At(j) => {
+        Some(j) => {
             let mut cells = near.cells;
             let count = near.count;
             cells[count] = j as u16;
@@ -197,7 +200,7 @@ fn add(near: Around, side: Side) -> Around
                 count: count + 1,
             }
         }
-        Side::Off => near,
+        None => near,
     }
 }
 
@@ -210,10 +213,8 @@ fn gather(marks: &[u8; 1024], h: usize, w: usize, y: usize, x: usize) -> Around
         cells: [0; 4],
         count: 0,
     };
-    let mut k = 0;
-    while k < 4 {
+    for k in 0..4 {
         near = add(near, arrow_toward(marks, h, w, y, x, k));
-        k += 1;
     }
     near
 }
@@ -234,12 +235,10 @@ fn write_with(out: &mut [u8], at: usize, i: usize, cells: &[u16; 4], a: usize) -
     requires { (i < 1024) × (a < 4) × ((k : ℕ) → get_or cells.now k 0 < 1024) × Counts at 32 }
     ensures { Appends at (a * 8) (with_piece i cells.now a) out.old out.new result }
 {
-    let later = grid::wide(cells[a]);
+    let later = usize::from(cells[a]);
     let mut end = at;
-    let mut b = 0;
-    while b < a {
-        end = put_between(out, end, later, i, grid::wide(cells[b]));
-        b += 1;
+    for b in 0..a {
+        end = put_between(out, end, later, i, usize::from(cells[b]));
     }
     end
 }
@@ -250,10 +249,8 @@ fn write_pairs(out: &mut [u8], at: usize, i: usize, cells: &[u16; 4], count: usi
     ensures { Appends at (count * 32) (flat_map (with_piece i cells.now) (upto count)) out.old out.new result }
 {
     let mut end = at;
-    let mut a = 0;
-    while a < count {
+    for a in 0..count {
         end = write_with(out, end, i, cells, a);
-        a += 1;
     }
     end
 }
@@ -278,149 +275,105 @@ fn write_between(out: &mut [u8], at: usize, marks: &[u8; 1024], h: usize, w: usi
     ensures { Appends at ((h * w) * 128) (flat_map (between_piece marks.now (sized h w)) (upto (h * w))) out.old out.new result }
 {
     let mut end = at;
-    let mut i = 0;
-    while i < h * w {
+    for i in 0..h * w {
         end = between_at(out, end, marks, h, w, i);
-        i += 1;
     }
     end
 }
 
-// Writes the cell t of an arrow that stands from `from` on in the line as 1, unless it is its cell k.
-fn put_other(
-    out: &mut [u8],
-    at: usize,
-    line: &[u16; 1024],
-    from: usize,
-    k: usize,
-    t: usize,
-) -> usize
-    requires { (from + t < 1024) × (get_or line.now (from + t) 0 < 1024) × Counts at 2 }
-    ensures { Appends at 2 (other_piece line.now from k t) out.old out.new result }
+// Writes the cell of an arrow at place t as 1, unless it is that at place k.
+fn put_other(out: &mut [u8], at: usize, arrow: &[u16], k: usize, t: usize) -> usize
+    requires { IsArrow arrow.now × (t < length arrow.now) × Counts at 2 }
+    ensures { Appends at 2 (other_piece arrow.now k t) out.old out.new result }
 {
     if t == k {
         return at;
     }
-    let x = grid::wide(line[from + t]);
-    put(out, at, 32768 + x)
+    put(out, at, 32768 + usize::from(arrow[t]))
 }
 
-// Writes the cells of an arrow of n cells that stands from `from` on in the line, but its cell k, as 1.
-fn write_others(
-    out: &mut [u8],
-    at: usize,
-    line: &[u16; 1024],
-    from: usize,
-    n: usize,
-    k: usize,
-) -> usize
-    requires { OnLine line.now from n × Counts at 2048 }
-    ensures { Appends at (n * 2) (flat_map (other_piece line.now from k) (upto n)) out.old out.new result }
+// Writes the cells of an arrow, but that at place k, as 1.
+fn write_others(out: &mut [u8], at: usize, arrow: &[u16], k: usize) -> usize
+    requires { IsArrow arrow.now × Counts at 2048 }
+    ensures { Appends at (length arrow.now * 2) (flat_map (other_piece arrow.now k) (upto (length arrow.now))) out.old out.new result }
 {
     let mut end = at;
-    let mut t = 0;
-    while t < n {
-        end = put_other(out, end, line, from, k, t);
-        t += 1;
+    for t in 0..arrow.len() {
+        end = put_other(out, end, arrow, k, t);
     }
     end
 }
 
-// Writes that there is a square on this arrow beside its cell k.
-fn put_clause(
-    out: &mut [u8],
-    at: usize,
-    line: &[u16; 1024],
-    from: usize,
-    n: usize,
-    k: usize,
-) -> usize
-    requires { OnLine line.now from n × (0 < n) × Counts at 2050 }
-    ensures { Appends at 2050 (clause_piece line.now from n k) out.old out.new result }
+// Writes that there is a square on this arrow beside its cell at place k.
+fn put_clause(out: &mut [u8], at: usize, arrow: &[u16], k: usize) -> usize
+    requires { IsArrow arrow.now × (0 < length arrow.now) × Counts at 2050 }
+    ensures { Appends at 2050 (clause_piece arrow.now k) out.old out.new result }
 {
-    let end = put(out, at, n - 1);
-    write_others(out, end, line, from, n, k)
+    let end = put(out, at, arrow.len() - 1);
+    write_others(out, end, arrow, k)
 }
 
 // Writes so for each of its cells.
-fn write_arrow(out: &mut [u8], at: usize, line: &[u16; 1024], from: usize, n: usize) -> usize
-    requires { OnLine line.now from n × Counts at 2099200 }
-    ensures { Appends at (n * 2050) (arrow_piece line.now from n) out.old out.new result }
+fn write_arrow(out: &mut [u8], at: usize, arrow: &[u16]) -> usize
+    requires { IsArrow arrow.now × Counts at 2099200 }
+    ensures { Appends at (length arrow.now * 2050) (arrow_piece arrow.now) out.old out.new result }
 {
     let mut end = at;
-    let mut k = 0;
-    while k < n {
-        end = put_clause(out, end, line, from, n, k);
-        k += 1;
+    for k in 0..arrow.len() {
+        end = put_clause(out, end, arrow, k);
     }
     end
 }
 
 // Writes the fourth part.
-fn write_arrows(
-    out: &mut [u8],
-    at: usize,
-    h: usize,
-    w: usize,
-    line: &[u16; 1024],
-    ends: &[u16; 1024],
-    count: usize,
-) -> usize
-    requires { Lines h w line.now ends.now count × Counts at 4198400 }
-    ensures { Appends at 2099200 (flat_map (line_piece line.now ends.now) (upto count)) out.old out.new result }
+fn write_arrows(out: &mut [u8], at: usize, problem: &Problem) -> usize
+    requires { Lines problem.now.height problem.now.width problem.now.arrows problem.now.ends problem.now.count × Counts at 4198400 }
+    ensures { Appends at 2099200 (flat_map (line_piece problem.now.arrows problem.now.ends) (upto problem.now.count)) out.old out.new result }
 {
     let mut end = at;
     let mut from = 0;
-    let mut k = 0;
-    while k < count {
-        let to = grid::wide(ends[k]);
-        end = write_arrow(out, end, line, from, to - from);
+    for k in 0..problem.count {
+        let to = usize::from(problem.ends[k]);
+        end = write_arrow(out, end, &problem.arrows[from..to]);
         from = to;
-        k += 1;
     }
     end
 }
 
 // Writes the whole sheet, and returns its length.
-fn write_sheet(
-    out: &mut [u8],
-    h: usize,
-    w: usize,
-    codes: &[u8; 1024],
-    marks: &[u8; 1024],
-    line: &[u16; 1024],
-    ends: &[u16; 1024],
-    count: usize,
-) -> usize
-    requires { Lines h w line.now ends.now count }
-    ensures { Appends 0 2246656 (sheet_piece h w codes.now marks.now line.now ends.now count) out.old out.new result }
-{
-    let a = write_given(out, 0, codes, h * w);
-    let b = write_touching(out, a, marks, h, w);
-    let c = write_between(out, b, marks, h, w);
-    write_arrows(out, c, h, w, line, ends, count)
-}
-
-// Writes the sheet of a problem; 13 where the output is too short.
-fn write_problem(problem: Problem, output: &mut [u8]) -> i32
-    requires { (p : Puzzle) × Valid p × (problem ≡ problem_of p) }
-    ensures { (p : Puzzle) → Valid p → problem ≡ problem_of p
-        → (result ≡ written (sheet_within (length output.old) p)) × (output.new ≡ output_with (sheet_within (length output.old) p) output.old) }
+fn write_sheet(out: &mut [u8], problem: &Problem, marks: &[u8; 1024]) -> usize
+    requires { Lines problem.now.height problem.now.width problem.now.arrows problem.now.ends problem.now.count }
+    ensures { Appends 0 2246656 (sheet_piece problem.now marks.now) out.old out.new result }
 {
     let h = problem.height;
     let w = problem.width;
-    let codes = problem.cells;
-    let line = problem.arrows;
-    let ends = problem.ends;
-    let count = problem.count;
-    let mut marks = [0u8; 1024];
-    groups::mark_arrow_cells(&line, record::arrow_total(&ends, count), &mut marks);
-    let mut nowhere = [0u8; 1];
-    let length = write_sheet(&mut nowhere, h, w, &codes, &marks, &line, &ends, count);
+    let a = write_given(out, 0, &problem.cells, h * w);
+    let b = write_touching(out, a, marks, h, w);
+    let c = write_between(out, b, marks, h, w);
+    write_arrows(out, c, problem)
+}
+
+// Writes the sheet of a problem; 13 where the output is too short.
+fn write_problem(problem: &Problem, output: &mut [u8]) -> Result<usize, Refusal>
+    requires { (p : Puzzle) × Valid p × (problem.now ≡ problem_of p) }
+    ensures { (p : Puzzle) → Valid p → problem.now ≡ problem_of p → Writes (sheet_within (length output.old) p) result output.old output.new }
+{
+    let mut marks = [0; 1024];
+    groups::mark_arrow_cells(&problem.arrows, problem.arrow_total(), &mut marks);
+    let mut nowhere = [0; 1];
+    let length = write_sheet(&mut nowhere, problem, &marks);
     if output.len() < length {
-        return negated(13);
+        return Err(Refusal::SheetShort);
     }
-    counted(write_sheet(output, h, w, &codes, &marks, &line, &ends, count))
+    Ok(write_sheet(output, problem, &marks))
+}
+
+// Writes the clause sheet of a record: the record's refusals, then 13 where the output is too short for the whole sheet.
+fn write_record(record: &[u8], output: &mut [u8]) -> Result<usize, Refusal>
+    ensures { Writes (sheet_for (length output.old) «record».now) result output.old output.new }
+{
+    let problem = Problem::read(record)?;
+    write_problem(&problem, output)
 }
 
 // Writes the clause sheet of a record to the front of the output, and returns the number of bytes; or the negated number of a refusal, which
@@ -429,10 +382,5 @@ pub fn write_clauses(record: &[u8], output: &mut [u8]) -> i32
     ensures { (result ≡ written (sheet_for (length output.old) «record».now))
         × (output.new ≡ output_with (sheet_for (length output.old) «record».now) output.old) }
 {
-    let reading = record::read(record);
-    let answer = reading.answer;
-    match answer {
-        Answer::Done => write_problem(reading.problem, output),
-        Answer::Refused(k) => negated(k),
-    }
+    refusal::returned(write_record(record, output))
 }

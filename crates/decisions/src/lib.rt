@@ -22,12 +22,10 @@ fn all_right<'a>(cells: &'a [u8; 1024], marks: &'a [u8; 1024], n: usize) -> bool
     ensures { (listed : List ℕ) → Marks marks.now (λ i. member i listed) → result ≡ all (shown listed cells.now) (upto n) }
 {
     let mut good = true;
-    let mut i = 0;
-    while i < n {
+    for i in 0..n {
         if !right(marks[i], cells[i]) {
             good = false;
         }
-        i += 1;
     }
     good
 }

@@ -2,4 +2,3 @@ pub mod NegatedLaws
 pub mod BytesLaws
 pub mod OutputLaws
 pub mod WrittenLaws
-pub mod BehindLaws

@@ -24,13 +24,10 @@ pub fn write_numbers(numbers: &[u16], count: usize, output: &mut [u8])
     requires { (count ≤ length numbers.now) × (2 * count ≤ length output.old) }
     ensures { output.new ≡ bytes_of (take count numbers.now) ++ drop (2 * count) output.old }
 {
-    let mut k = 0;
-    while k < count {
+    for k in 0..count {
         let number = numbers[k];
-        let at = 2 * k;
-        output[at] = (number / 256) as u8;
-        output[at + 1] = (number % 256) as u8;
-        k += 1;
+        output[2 * k] = (number / 256) as u8;
+        output[2 * k + 1] = (number % 256) as u8;
     }
 }
 
@@ -39,9 +36,5 @@ pub fn write_behind(bytes: &[u8; 1024], n: usize, at: usize, output: &mut [u8])
     requires { (length bytes.now ≡ 1024) × (n ≤ 1024) × (at + n ≤ length output.old) }
     ensures { output.new ≡ (take at output.old ++ take n bytes.now) ++ drop (at + n) output.old }
 {
-    let mut k = 0;
-    while k < n {
-        output[at + k] = bytes[k];
-        k += 1;
-    }
+    output[at..at + n].copy_from_slice(&bytes[..n]);
 }

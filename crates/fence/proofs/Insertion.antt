@@ -9,34 +9,19 @@ use lib.Dec.{ltb, eqb}
 use lib.ListN.{length, get_or, take, drop, set, length-set, length-append, length-drop, get_or-append}
 use lib.Seq.{length-take-le, get_or-set_same, get_or-set_other, get_or-take, get_or-drop, get_or_at, get_or-append-add, drop-set-lt, ext_get_or}
 use borrow.Author.Tests.{ltb-true, ltb-false, eqb-true, eqb-false}
+use Rattle.std.specs.List.{CopiedTo, SameBelow, SameFrom}
 use Rattle.fence.specs.Inside.{key, Place, Shifted, Inserted, new}
 
--- ---- the shift
-pub shift_none : (a : List ℕ) (count : ℕ) → Shifted a a count count
-shift_none a count = record { as_long = refl; low = λ k l. refl; moved = λ k l m. absurd (omega arith); high = λ k l. refl }
-
-module _ (a b : List ℕ) (j count : ℕ) (pos : 0 < j) (le : j ≤ count) (within : count < length a) (s : Shifted a b j count) where
-  moved_by : (k : ℕ) (t : Bool) → eqb k (j - 1) ≡ t → j - 1 ≤ k → k < count → get_or (set b j (get_or b (j - 1) 0)) (k + 1) 0 ≡ get_or a k 0
-  moved_by k true e l m =
-      let here : k ≡ j - 1 = eqb-true k (j - 1) e in
-      let at : k + 1 ≡ j = omega arith in
-      let room : j < length b = omega (arith, s.as_long) in
-      ap (λ (i : ℕ). get_or (set b j (get_or b (j - 1) 0)) i 0) at
-      ∙ get_or-set_same b j (get_or b (j - 1) 0) 0 room
-      ∙ s.low (j - 1) (omega arith)
-      ∙ ap (λ (i : ℕ). get_or a i 0) (sym here)
-  moved_by k false e l m =
-      let off = eqb-false k (j - 1) e in
-      let far : j ≤ k = omega (arith, off) in
-      get_or-set_other b j (k + 1) (get_or b (j - 1) 0) 0 (λ e. omega (arith, e)) ∙ s.moved k far m
-
-  pub shift_more : Shifted a (set b j (get_or b (j - 1) 0)) (j - 1) count
-  shift_more = record {
-    as_long = length-set b j (get_or b (j - 1) 0) ∙ s.as_long;
-    low = λ k l. get_or-set_other b j k (get_or b (j - 1) 0) 0 (λ e. omega (arith, e)) ∙ s.low k (omega arith);
-    moved = λ k l m. moved_by k _ refl l m;
-    high = λ k l. get_or-set_other b j k (get_or b (j - 1) 0) 0 (λ e. omega (arith, e)) ∙ s.high k l;
-  }
+-- ---- the shift, as the library tells it
+pub shifted_by :
+    (a b : List ℕ) (p count : ℕ) → p ≤ count → length b ≡ length a → CopiedTo a b p (p + 1) (count - p) × SameBelow a b (p + 1) × SameFrom a b (p + 1 + (count - p))
+    → Shifted a b p count
+shifted_by a b p count le long K = record {
+  as_long = long;
+  low = λ k l. K.1 k 0 (omega arith);
+  moved = λ k l m. let e : p + (k + 1 - (p + 1)) ≡ k = omega arith in K.0 (k + 1) 0 (omega arith) (omega arith) ∙ ap (λ (i : ℕ). get_or a i 0) e;
+  high = λ k l. K.2 k 0 (omega arith);
+}
 
 -- ---- the number is stored in the gap
 module _ (a b : List ℕ) (p count x : ℕ) (le : p ≤ count) (within : count < length a) (s : Shifted a b p count) where

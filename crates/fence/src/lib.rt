@@ -8,17 +8,19 @@ ghost use Rattle.grid.specs.Side.{sized, InGrid};
 ghost use Rattle.kinds.specs.Kinds.{view};
 ghost use Rattle.kinds.specs.Arrays.{reach_mask};
 ghost use Rattle.kinds.specs.Inside.{Limits, puzzle_with, Held, of_block};
-ghost use Rattle.fence.specs.Inside.{Place, Shifted, Inserted, Ordered, Room, Whole, in_disturbing, touched, adds, Fenced};
+ghost use Rattle.fence.specs.Inside.{Place, Inserted, Ordered, Room, Whole, in_disturbing, touched, adds, Fenced};
 
-use grid::Side;
+use grid::UNDECIDED;
+use kinds::{ARROW_BLOCK, EMPTY};
 
 // The place of a literal among the first count of the part, which stand by rising index.
+// By hand: the library's `partition_point` proves too, but takes 53 against 47 ns among 300 literals, and 8.3 against 6.1 among 12 in rising order.
 fn place(part: &[u16], count: usize, lit: u16) -> usize
     requires { count < length part.now }
     ensures { Place part.now count lit result }
 {
     let index = lit % 32768;
-    let mut low: usize = 0;
+    let mut low = 0;
     let mut high = count;
     while low < high {
         let mid = low + (high - low) / 2;
@@ -29,19 +31,6 @@ fn place(part: &[u16], count: usize, lit: u16) -> usize
         }
     }
     low
-}
-
-// Moves the literals from p up to count one place on.
-fn shift(part: &mut [u16], p: usize, count: usize)
-    requires { (p ≤ count) × (count < length part.old) }
-    ensures { Shifted part.old part.new p count }
-{
-    let mut j = count;
-    while p < j {
-        let x = part[j - 1];
-        part[j] = x;
-        j -= 1;
-    }
 }
 
 // Inserts a literal by rising index, unless its index is there; the new count.
@@ -55,7 +44,7 @@ fn insert(part: &mut [u16], count: usize, lit: u16) -> usize
             return count;
         }
     }
-    shift(part, p, count);
+    part.copy_within(p..count, p + 1);
     part[p] = lit;
     count + 1
 }
@@ -85,7 +74,7 @@ fn insert_cell(
     ensures { (base : List ℕ) (n : ℕ) (t : ℕ → Bool) → i < n → Ordered kinds.now n base t part.old count
         → Ordered kinds.now n base (λ x. t x || (of_block kinds.now owners.now e i && eqb i x)) part.new result }
 {
-    if kinds[i] != 1 {
+    if kinds[i] != ARROW_BLOCK {
         return count;
     }
     if owners[i] != e {
@@ -129,7 +118,7 @@ fn insert_disturbing_block(
         → Ordered kinds.now n base t part.old count
         → Ordered kinds.now n base (λ x. t x || in_disturbing kinds.now owners.now f j x) part.new result }
 {
-    if kinds[j] != 1 {
+    if kinds[j] != ARROW_BLOCK {
         return count;
     }
     let e = owners[j];
@@ -163,12 +152,8 @@ fn insert_disturbing_blocks(
     let x = i % w;
     let mut total = count;
     for k in 0..4 {
-        let side = grid::toward(h, w, y, x, k);
-        match side {
-            Side::At(j) => {
-                total = insert_disturbing_block(kinds, owners, n, f, j, part, total);
-            }
-            Side::Off => {}
+        if let Some(j) = grid::toward(h, w, y, x, k) {
+            total = insert_disturbing_block(kinds, owners, n, f, j, part, total);
         }
     }
     total
@@ -182,14 +167,10 @@ fn touches_marked(marks: &[u8; 1024], h: usize, w: usize, i: usize) -> bool
     let y = i / w;
     let x = i % w;
     for k in 0..4 {
-        let side = grid::toward(h, w, y, x, k);
-        match side {
-            Side::At(j) => {
-                if marks[j] == 1 {
-                    return true;
-                }
+        if let Some(j) = grid::toward(h, w, y, x, k) {
+            if marks[j] == 1 {
+                return true;
             }
-            Side::Off => {}
         }
     }
     false
@@ -213,13 +194,13 @@ fn insert_fence_of(
         → Ordered kinds.now (h * w) base t part.old count
         → Ordered kinds.now (h * w) base (λ x. t x || adds cells.now kinds.now owners.now marks.now (sized h w) f i x) part.new result }
 {
-    if kinds[i] == 0 {
+    if kinds[i] == EMPTY {
         if touches_marked(marks, h, w, i) {
             return insert(part, count, i as u16);
         }
         return count;
     }
-    if cells[i] != 2 {
+    if cells[i] != UNDECIDED {
         return count;
     }
     if touches_marked(marks, h, w, i) {
@@ -245,9 +226,8 @@ pub fn reason_for_adjacent_floating_boundary(
         → marks.now ≡ reach_mask (view (puzzle_with (sized h w) arrows) (take (h * w) cells.now)) f
         → Fenced (view (puzzle_with (sized h w) arrows) (take (h * w) cells.now)) f part.old part.new result }
 {
-    let n = h * w;
-    let mut count: usize = 0;
-    for i in 0..n {
+    let mut count = 0;
+    for i in 0..h * w {
         count = insert_fence_of(cells, kinds, owners, marks, h, w, f, i, part, count);
     }
     count

@@ -13,9 +13,8 @@ use Rattle.grid.proofs.ListLaws.{split}
 use lib.Pow.{pow_mono, shr-shr, mod-pow-add}
 use lib.ListN.{length, get_or}
 use borrow.Author.Tests.{ltb-true, ltb-false, lt-ltb, le-ltb, le-leb, lt-leb}
-use Rattle.fields.specs.Fields.{unless, ◌>>=◌, bit, number, field, filler, bytes_for, rest_zero}
-use Rattle.fields.specs.Inside.{field_of, cell_code}
-use Rattle.fields.specs.declared.Field.TheVariants.{Value, Fault}
+use Rattle.fields.specs.Fields.{Outcome, ok, refused, unless, ◌>>=◌, bit, number, field, filler, bytes_for, rest_zero}
+use Rattle.fields.specs.Inside.{cell_code}
 
 -- a bit of the last byte of a number
 low : (c b m : ℕ) → b < 256 → m < 8 → (c * 256 + b) / 2 ^ m % 2 ≡ b / 2 ^ m % 2
@@ -99,12 +98,12 @@ pub one_shifted : (n : ℕ) → n ≤ 16 → 1 * 2 ^ n % 4294967296 ≡ 2 ^ n
 one_shifted n h = rw (one-mul (2 ^ n)) (mod-eq_of_lt (omega (arith, pow_mono {i = n} {j = 16} h)))
 
 -- a field that is there, and one that is cut
-pub field_there : (s : List ℕ) (at n x : ℕ) → (at + n + 7) / 8 ≤ length s → x ≡ number s at n → Value x ≡ field_of (field s at n)
-unfolding field field_of
-field_there s at n x h e = rw (le-leb (at + n) (8 * length s) (omega arith)) (ap Value e)
+pub field_there : (s : List ℕ) (at n x : ℕ) → (at + n + 7) / 8 ≤ length s → x ≡ number s at n → ok x ≡ field s at n
+unfolding field
+field_there s at n x h e = rw (le-leb (at + n) (8 * length s) (omega arith)) (ap {B = Outcome ℕ} ok e)
 
-pub field_cut : (s : List ℕ) (at n : ℕ) → length s < (at + n + 7) / 8 → Fault 1 ≡ field_of (field s at n)
-unfolding field field_of
+pub field_cut : (s : List ℕ) (at n : ℕ) → length s < (at + n + 7) / 8 → refused 1 ≡ field s at n
+unfolding field
 field_cut s at n h = rw (lt-leb (at + n) (8 * length s) (omega arith)) refl
 
 -- the window shifted to the right, and its last n bits
@@ -113,8 +112,8 @@ pub shifted : (s : List ℕ) → ((k : ℕ) → get_or s k 0 < 256) → (at n a 
 shifted s bytes at n a b c h p q r = rw (one_shifted n h, p, q, r) (window-number s bytes at n (omega arith))
 
 -- a code that is none of 0, 1 and 2
-pub no_code : (c : ℕ) → (c ≡ 0 → ⊥) → (c ≡ 1 → ⊥) → (c ≡ 2 → ⊥) → Fault 2 ≡ field_of (cell_code c)
-unfolding field_of cell_code unless ◌>>=◌
+pub no_code : (c : ℕ) → (c ≡ 0 → ⊥) → (c ≡ 1 → ⊥) → (c ≡ 2 → ⊥) → refused 2 ≡ cell_code c
+unfolding cell_code unless ◌>>=◌
 no_code c p q r = rw (le-ltb c 3 (omega arith)) refl
 
 -- the filler: too long, none, a few bits

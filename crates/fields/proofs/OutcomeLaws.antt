@@ -10,6 +10,12 @@ use mathlib.Core.List.{List, [], ◌∷◌, Memᴰ}
 use lib.Dec.{leb, lit<}
 use lib.ListN.{length, get_or}
 use Rattle.grid.specs.Grid.{Grid, up, down, left, right, neighbours}
+use Rattle.std.specs.Prelude.{Ok, Err}
+use Rattle.std.specs.Result.{IsErrAnd}
+use Rattle.std.specs.declared.result.Result.{Result}
+use Rattle.refusal.specs.declared.Refusal.{Refusal}
+use Rattle.refusal.specs.Refusals.{number_of, outcome_of}
+use Rattle.fields.specs.Inside.{Agrees}
 use Rattle.fields.specs.Fields.{Outcome, ok, refused, ◌>>=◌, unless, bit, number, field, there, step_from}
 
 -- a step that went well, and the one before it
@@ -17,6 +23,24 @@ pub bind_ok : {A B : Type 0} (a : Outcome A) (f : A → Outcome B) {b : B} → (
 unfolding ◌>>=◌
 bind_ok (refused k) f e = let z : ◌≡◌ {A = ℕ} 0 1 = cc in absurd (omega arith)
 bind_ok (ok a) f e = (a, refl, e)
+
+-- the next step after a value, and after a refusal
+pub next_ok : {A B : Type 0} {o : Outcome A} (f : A → Outcome B) {z : Outcome B} {a : A} → ok a ≡ o → z ≡ f a → z ≡ (o >>= f)
+unfolding ◌>>=◌
+next_ok f e q = rw (← e) q
+
+pub next_refused : {A B : Type 0} {o : Outcome A} (f : A → Outcome B) {k : ℕ} → refused k ≡ o → refused k ≡ (o >>= f)
+unfolding ◌>>=◌
+next_refused f e = rw (← e) refl
+
+-- the code's answer at the exit of a `?`
+pub agrees_fault : {A B : Type 0} {o : Outcome A} (P : A → B → Type 0) (r : Result B Refusal) (e : Refusal) → IsErrAnd r (λ y. y ≡ e) → o ≡ refused (number_of e) → Agrees o P r
+agrees_fault P (Ok b) e x q = absurd x
+agrees_fault P (Err y) e x q = rw x q
+
+pub outcome_fault : {B : Type 0} {o : Outcome B} (r : Result B Refusal) (e : Refusal) → IsErrAnd r (λ y. y ≡ e) → refused (number_of e) ≡ o → outcome_of r ≡ o
+outcome_fault (Ok b) e x q = absurd x
+outcome_fault (Err y) e x q = rw x q
 
 -- a test that was passed
 pub unless-ok : (t : Bool) (k : ℕ) {x : ℕ} → unless t k ≡ ok x → t ≡ true

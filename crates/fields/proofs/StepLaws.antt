@@ -8,10 +8,8 @@ use mathlib.Core.Path.{◌≡◌, refl, sym, ap, ◌∙◌}
 use lib.Arith.{digits_mod}
 use borrow.Author.Tests.{lt-ltb, le-ltb, le-leb, lt-leb}
 use Rattle.grid.specs.Grid.{Grid, size, col, only, up, down, left, right}
-use Rattle.fields.specs.Fields.{there, step_from}
 use Rattle.grid.specs.Side.{sized}
-use Rattle.fields.specs.Inside.{Stepped, to, off}
-use Rattle.fields.specs.declared.Place.TheVariants.{At, Lost}
+use Rattle.fields.specs.Fields.{ok, refused, there, step_from}
 
 -- there are four directions
 pub no_direction : (d : ℕ) → d < 4 → (d ≡ 0 → ⊥) → (d ≡ 1 → ⊥) → (d ≡ 2 → ⊥) → (d ≡ 3 → ⊥) → ⊥
@@ -31,52 +29,52 @@ module _ (h w y x : ℕ) (hy : y < h) (hx : x < w) where
   abbrev G : Grid
   G = sized h w
 
-  pub step_up : 0 < y → Stepped G (step_from G (y * w + x) 0) (At (y - 1) x)
+  pub step_up : 0 < y → ok ((y - 1) * w + x) ≡ step_from G (y * w + x) 0
   unfolding step_from there up only
   step_up p =
       let r = above y w p in
       let e : y * w + x - w ≡ (y - 1) * w + x = omega arith in
-      to {row = y - 1} {col = x} (rw (le-leb w (y * w + x) (omega arith), e) refl) (omega arith) hx
+      rw (le-leb w (y * w + x) (omega arith), e) refl
 
-  pub no_up : y ≤ 0 → Stepped G (step_from G (y * w + x) 0) (Lost 3)
+  pub no_up : y ≤ 0 → refused 3 ≡ step_from G (y * w + x) 0
   unfolding step_from there up only
   no_up p =
       let z : y ≡ 0 = omega arith in
       let e : y * w ≡ 0 = rw z (zero-mul w) in
-      off {k = 3} (rw (lt-leb w (y * w + x) (omega arith)) refl)
+      rw (lt-leb w (y * w + x) (omega arith)) refl
 
-  pub step_down : y + 1 < h → Stepped G (step_from G (y * w + x) 1) (At (y + 1) x)
+  pub step_down : y + 1 < h → ok ((y + 1) * w + x) ≡ step_from G (y * w + x) 1
   unfolding step_from there down only size
   step_down p =
       let r = below y w in
       let l = below (y + 1) w in
       let m : (y + 1 + 1) * w ≤ h * w = mul-le-mul_right w (omega arith) in
       let e : y * w + x + w ≡ (y + 1) * w + x = omega arith in
-      to {row = y + 1} {col = x} (rw (lt-ltb (y * w + x + w) (h * w) (omega arith), e) refl) p hx
+      rw (lt-ltb (y * w + x + w) (h * w) (omega arith), e) refl
 
-  pub no_down : h ≤ y + 1 → Stepped G (step_from G (y * w + x) 1) (Lost 3)
+  pub no_down : h ≤ y + 1 → refused 3 ≡ step_from G (y * w + x) 1
   unfolding step_from there down only size
   no_down p =
       let z : h ≡ y + 1 = omega arith in
       let m : h * w ≡ y * w + w = rw z (below y w) in
-      off {k = 3} (rw (le-ltb (y * w + x + w) (h * w) (omega arith)) refl)
+      rw (le-ltb (y * w + x + w) (h * w) (omega arith)) refl
 
-  pub step_left : 0 < x → Stepped G (step_from G (y * w + x) 2) (At y (x - 1))
+  pub step_left : 0 < x → ok (y * w + (x - 1)) ≡ step_from G (y * w + x) 2
   unfolding step_from there left only col
   step_left p =
       let e : y * w + x - 1 ≡ y * w + (x - 1) = omega arith in
-      to {row = y} {col = x - 1} (rw (digits_mod y hx, lt-ltb 0 x p, e) refl) hy (omega arith)
+      rw (digits_mod y hx, lt-ltb 0 x p, e) refl
 
-  pub no_left : x ≤ 0 → Stepped G (step_from G (y * w + x) 2) (Lost 3)
+  pub no_left : x ≤ 0 → refused 3 ≡ step_from G (y * w + x) 2
   unfolding step_from there left only col
-  no_left p = off {k = 3} (rw (digits_mod y hx, le-ltb 0 x p) refl)
+  no_left p = rw (digits_mod y hx, le-ltb 0 x p) refl
 
-  pub step_right : x + 1 < w → Stepped G (step_from G (y * w + x) 3) (At y (x + 1))
+  pub step_right : x + 1 < w → ok (y * w + (x + 1)) ≡ step_from G (y * w + x) 3
   unfolding step_from there right only col
   step_right p =
       let e : y * w + x + 1 ≡ y * w + (x + 1) = omega arith in
-      to {row = y} {col = x + 1} (rw (digits_mod y hx, lt-ltb (x + 1) w p, e) refl) hy p
+      rw (digits_mod y hx, lt-ltb (x + 1) w p, e) refl
 
-  pub no_right : w ≤ x + 1 → Stepped G (step_from G (y * w + x) 3) (Lost 3)
+  pub no_right : w ≤ x + 1 → refused 3 ≡ step_from G (y * w + x) 3
   unfolding step_from there right only col
-  no_right p = off {k = 3} (rw (digits_mod y hx, le-ltb (x + 1) w p) refl)
+  no_right p = rw (digits_mod y hx, le-ltb (x + 1) w p) refl

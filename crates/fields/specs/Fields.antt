@@ -2,11 +2,7 @@
 -- Assumes nothing.
 use Rattle.std.specs.Prelude.{ℕ, zero, suc, ◌+◌, ◌-◌, ◌*◌, ◌/◌, ◌%◌, ◌^◌, Bool, true, false, cond, ◌&&◌, List, [], ◌∷◌, eqb, leb, ltb, length, get_or}
 use Rattle.grid.specs.Grid.{Grid, up, down, left, right}
-
--- a value, or the number of a refusal
-pub data Outcome (A : Type 0) : Type 0 where
-  refused : ℕ → Outcome A
-  ok : A → Outcome A
+pub use Rattle.refusal.specs.Refusals.{Outcome, refused, ok}
 
 infixl 10 ◌>>=◌
 -- the next step, unless one was refused

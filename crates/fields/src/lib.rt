@@ -1,34 +1,27 @@
 // The fields of a record, packed most significant bit first: numbers, codes of cells, an arrow's start and its steps.
 #![tactic(auto)]
 
-ghost use Rattle.std.specs.Prelude.{◌≡◌, ◌+◌, ◌*◌, ◌≤◌, ◌<◌, get_or};
+ghost use Rattle.std.specs.Prelude.{◌≡◌, ◌+◌, ◌*◌, ◌≤◌, ◌<◌, get_or, IfOk};
+ghost use Rattle.refusal.specs.Refusals.{outcome_of};
 ghost use Rattle.fields.specs.Fields.{number, field, step_from, filler, rest_zero};
 ghost use Rattle.grid.specs.Side.{sized};
-ghost use Rattle.fields.specs.Inside.{field_of, cell_code, code_at, Stepped, step_at, opening_at, start_of};
+ghost use Rattle.fields.specs.Inside.{cell_code, code_at, step_at, opening_at, cell_of};
 
-// A number that was read, or the number of the refusal.
-#[derive(Clone, Copy)]
-pub enum Field {
-    Value(usize),
-    Fault(u8),
+use refusal::Refusal;
+
+// How an arrow begins: its first cell and the number of steps that follow.
+#[derive(Clone, Copy, Debug, PartialEq, Eq)]
+pub struct Start {
+    pub row: usize,
+    pub col: usize,
+    pub steps: usize,
 }
 
-// How an arrow begins: its first cell and the steps that follow; or the number of the refusal.
-#[derive(Clone, Copy)]
-pub enum Start {
-    From {
-        row: usize,
-        col: usize,
-        steps: usize,
-    },
-    Bad(u8),
-}
-
-// The cell that a step leads to, or the number of the refusal.
-#[derive(Clone, Copy)]
-pub enum Place {
-    At { row: usize, col: usize },
-    Lost(u8),
+// A cell of the grid.
+#[derive(Clone, Copy, Debug, PartialEq, Eq)]
+pub struct Place {
+    pub row: usize,
+    pub col: usize,
 }
 
 // Byte k, 0 behind the end.
@@ -54,112 +47,94 @@ pub fn number_at(s: &[u8], at: usize, n: usize) -> usize
     ((window >> (24 - at % 8 - n)) % (1u32 << n)) as usize
 }
 
-// The field of n bits at `at`, or 1 where the record ends before its end.
-pub fn read_field(s: &[u8], at: usize, n: usize) -> Field
+// The field of n bits at `at`, if the record does not end before its end.
+pub fn read_field(s: &[u8], at: usize, n: usize) -> Result<usize, Refusal>
     requires { (at ≤ 65536) × (n ≤ 16) }
-    ensures { result ≡ field_of (field s.now at n) }
+    ensures { outcome_of result ≡ field s.now at n }
 {
     if s.len() < (at + n + 7) / 8 {
-        return Field::Fault(1);
+        return Err(Refusal::RecordEnds);
     }
-    Field::Value(number_at(s, at, n))
+    Ok(number_at(s, at, n))
 }
 
 // The code of a cell: 0 plain, 1 black, 2 given square, 3 refused.
-fn cell_code(code: usize) -> Field
-    ensures { result ≡ field_of (cell_code code) }
+fn cell_code(code: usize) -> Result<u8, Refusal>
+    ensures { outcome_of result ≡ cell_code code }
 {
     match code {
-        0 => Field::Value(0),
-        1 => Field::Value(1),
-        2 => Field::Value(2),
-        3 => Field::Fault(2),
-        _ => Field::Fault(2),
+        0 => Ok(0),
+        1 => Ok(1),
+        2 => Ok(2),
+        3 => Err(Refusal::CellCode),
+        _ => Err(Refusal::CellCode),
     }
 }
 
 // The code of the cell at `at`.
-pub fn read_code(s: &[u8], at: usize) -> Field
+pub fn read_code(s: &[u8], at: usize) -> Result<u8, Refusal>
     requires { at ≤ 65536 }
-    ensures { result ≡ field_of (code_at s.now at) }
+    ensures { outcome_of result ≡ code_at s.now at }
 {
-    let f = read_field(s, at, 2);
-    match f {
-        Field::Value(code) => cell_code(code),
-        Field::Fault(k) => Field::Fault(k),
-    }
+    cell_code(read_field(s, at, 2)?)
 }
 
 // The cell one step from a cell of the grid: 0 up, 1 down, 2 left, 3 right.
-fn step_from(height: usize, width: usize, row: usize, col: usize, direction: usize) -> Place
+fn step_from(
+    height: usize,
+    width: usize,
+    row: usize,
+    col: usize,
+    direction: usize,
+) -> Result<Place, Refusal>
     requires { (row < height) × (col < width) × (height ≤ 32) × (direction < 4) }
-    ensures { Stepped (sized height width) (step_from (sized height width) (row * width + col) direction) result }
+    ensures cell { cell_of width result ≡ step_from (sized height width) (row * width + col) direction }
+    ensures on_grid { IfOk result (λ place. (place.row < height) × (place.col < width)) }
 {
     match direction {
-        0 => {
-            if 0 < row {
-                return Place::At { row: row - 1, col };
-            }
-            Place::Lost(3)
-        }
-        1 => {
-            if row + 1 < height {
-                return Place::At { row: row + 1, col };
-            }
-            Place::Lost(3)
-        }
-        2 => {
-            if 0 < col {
-                return Place::At { row, col: col - 1 };
-            }
-            Place::Lost(3)
-        }
-        3 => {
-            if col + 1 < width {
-                return Place::At { row, col: col + 1 };
-            }
-            Place::Lost(3)
-        }
-        _ => Place::Lost(3),
+        0 if 0 < row => Ok(Place { row: row - 1, col }),
+        0 => Err(Refusal::OffGrid),
+        1 if row + 1 < height => Ok(Place { row: row + 1, col }),
+        1 => Err(Refusal::OffGrid),
+        2 if 0 < col => Ok(Place { row, col: col - 1 }),
+        2 => Err(Refusal::OffGrid),
+        3 if col + 1 < width => Ok(Place { row, col: col + 1 }),
+        3 => Err(Refusal::OffGrid),
+        _ => Err(Refusal::OffGrid),
     }
 }
 
 // The cell that the step at `at` leads to.
-pub fn read_step(s: &[u8], height: usize, width: usize, row: usize, col: usize, at: usize) -> Place
+pub fn read_step(
+    s: &[u8],
+    height: usize,
+    width: usize,
+    row: usize,
+    col: usize,
+    at: usize,
+) -> Result<Place, Refusal>
     requires { (row < height) × (col < width) × (height ≤ 32) × (at ≤ 65536) }
-    ensures { Stepped (sized height width) (step_at s.now (sized height width) (row * width + col) at) result }
+    ensures cell { cell_of width result ≡ step_at s.now (sized height width) (row * width + col) at }
+    ensures on_grid { IfOk result (λ place. (place.row < height) × (place.col < width)) }
 {
-    let f = read_field(s, at, 2);
-    match f {
-        Field::Value(direction) => step_from(height, width, row, col, direction),
-        Field::Fault(k) => Place::Lost(k),
-    }
+    step_from(height, width, row, col, read_field(s, at, 2)?)
 }
 
 // The start of the arrow at `at`: its three fields are read before the start is tested.
-pub fn read_start(s: &[u8], height: usize, width: usize, at: usize) -> Start
+pub fn read_start(s: &[u8], height: usize, width: usize, at: usize) -> Result<Start, Refusal>
     requires { at ≤ 65000 }
-    ensures { result ≡ start_of (opening_at s.now (sized height width) at) }
+    ensures { outcome_of result ≡ opening_at s.now (sized height width) at }
 {
-    let y = read_field(s, at, 5);
-    let Field::Value(row) = y else {
-        return Start::Bad(1);
-    };
-    let x = read_field(s, at + 5, 5);
-    let Field::Value(col) = x else {
-        return Start::Bad(1);
-    };
-    let k = read_field(s, at + 10, 10);
-    let Field::Value(steps) = k else {
-        return Start::Bad(1);
-    };
+    let row = read_field(s, at, 5)?;
+    let col = read_field(s, at + 5, 5)?;
+    let steps = read_field(s, at + 10, 10)?;
     if height <= row {
-        return Start::Bad(3);
+        return Err(Refusal::OffGrid);
     }
     if width <= col {
-        return Start::Bad(3);
+        return Err(Refusal::OffGrid);
     }
-    Start::From { row, col, steps }
+    Ok(Start { row, col, steps })
 }
 
 // Only zero bits, and fewer than eight of them, from at.

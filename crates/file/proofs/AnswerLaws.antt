@@ -6,22 +6,26 @@ use mathlib.Core.Path.{◌≡◌, refl, sym, ap, ◌∙◌}
 use mathlib.Core.Bool.{Bool, true, false}
 use mathlib.Core.List.{List, [], ◌∷◌, ◌++◌}
 use lib.Dec.{leb}
-use lib.IntN.{ℤ, pos, neg_ℤ}
+use lib.IntN.{pos}
 use lib.ListN.{length, take, drop, set}
 use borrow.Author.Tests.{le-leb, lt-leb, leb-true}
 use Rattle.grid.specs.Lists.{array_of}
 use Rattle.grid.specs.Grid.{size}
 use Rattle.grid.proofs.ArrayLaws.{array_length, array_take}
 use Rattle.grid.proofs.FilledLaws.{filled_more}
+use Rattle.std.specs.Prelude.{Ok, Err}
+use Rattle.std.specs.Result.{IsErrAnd}
+use Rattle.std.specs.declared.result.Result.{Result}
+use Rattle.refusal.specs.declared.Refusal.{Refusal}
+use Rattle.refusal.specs.Refusals.{number_of}
 use Rattle.fields.specs.Fields.{Outcome, ok, refused, ◌>>=◌, unless, bit, number, bytes_for}
 use Rattle.fields.proofs.OutcomeLaws.{bind_ok, unless-ok, ok-eq}
 use Rattle.fields.proofs.ReadLaws.{bind_value, bind_refused}
 use Rattle.record.specs.Record.{Puzzle}
 use Rattle.record.specs.Leaf.{in_edition, is_edition}
-use Rattle.record.specs.Problem.{problem_of, puzzle_of}
-use Rattle.record.specs.Head.{Head, read_head}
+use Rattle.record.specs.Problem.{problem_of, puzzle_of, as_problem}
+use Rattle.record.specs.Head.{Head, read_head, puzzle_in}
 use Rattle.record.specs.declared.Problem.{Problem}
-use Rattle.record.specs.declared.Answer.TheVariants.{Done, Refused}
 use Rattle.record.proofs.ProblemLaws.{problem_puzzle}
 use Rattle.record.proofs.RecordLaws.{Valid-size}
 use Rattle.record.proofs.HeadLaws.{head_bytes, head_Valid, head_length}
@@ -29,14 +33,60 @@ use Rattle.exported.specs.Written.{output_with}
 use Rattle.writer.proofs.ArrayLaws.{total, length_in}
 use Rattle.finished.specs.Finished.{Finished, finished_test}
 use Rattle.file.specs.File.{tail_of, cells_in, tail_test, grade_in, solution_in, Graded, Solved, graded_in, solved_in, player_behind, setter_behind, read_player, read_setter}
-use Rattle.file.specs.Answers.{player_of, setter_of}
+use Rattle.file.specs.Answers.{graded_as, player_of, solved_as, setter_of, Gives}
 use Rattle.file.specs.Call.{Given, to_player, to_setter, player_within, setter_within, player_given, setter_given, given_length, given_bytes}
 use Rattle.file.specs.declared.Player.{Player}
 use Rattle.file.specs.declared.Setter.{Setter}
 use Rattle.file.proofs.TailLaws.{solution_length, cell_bit}
 use Rattle.file.proofs.FileLaws.{player_head, setter_vouches, setter_player, agree}
 
+-- a refusal
+pub player_no : {k : ℕ} → player_of (refused k) ≡ refused k
+unfolding player_of ◌>>=◌
+player_no = refl
+
+pub setter_no : {k : ℕ} → setter_of (refused k) ≡ refused k
+unfolding setter_of ◌>>=◌
+setter_no = refl
+
+player_back : (o : Outcome Graded) {k : ℕ} → refused k ≡ player_of o → o ≡ refused k
+unfolding player_of ◌>>=◌
+player_back (refused j) {k} e = let z : j ≡ k = cc in ap {B = Outcome Graded} refused z
+player_back (ok f) e = let z : ◌≡◌ {A = ℕ} 0 1 = cc in absurd (omega arith)
+
+player_got : (o : Outcome Graded) {p : Player} → ok p ≡ player_of o → (f : Graded) × (o ≡ ok f) × (p ≡ graded_as f)
+unfolding player_of ◌>>=◌
+player_got (refused k) e = let z : ◌≡◌ {A = ℕ} 0 1 = cc in absurd (omega arith)
+player_got (ok f) {p} e = (f, refl, cc)
+
+setter_back : (o : Outcome Solved) {k : ℕ} → refused k ≡ setter_of o → o ≡ refused k
+unfolding setter_of ◌>>=◌
+setter_back (refused j) {k} e = let z : j ≡ k = cc in ap {B = Outcome Solved} refused z
+setter_back (ok f) e = let z : ◌≡◌ {A = ℕ} 0 1 = cc in absurd (omega arith)
+
+setter_got : (o : Outcome Solved) {p : Setter} → ok p ≡ setter_of o → (f : Solved) × (o ≡ ok f) × (p ≡ solved_as f)
+unfolding setter_of ◌>>=◌
+setter_got (refused k) e = let z : ◌≡◌ {A = ℕ} 0 1 = cc in absurd (omega arith)
+setter_got (ok f) {p} e = (f, refl, cc)
+
 -- ---- a record that is refused, and one that is not
+
+-- the problem that was read at the head of a file
+head_no : (o : Outcome Head) {k : ℕ} → refused k ≡ as_problem (puzzle_in o) → o ≡ refused k
+unfolding as_problem puzzle_in ◌>>=◌
+head_no (refused j) {k} e = let z : j ≡ k = cc in ap {B = Outcome Head} refused z
+head_no (ok h) e = let z : ◌≡◌ {A = ℕ} 0 1 = cc in absurd (omega arith)
+
+head_yes : (o : Outcome Head) {q : Problem} → ok q ≡ as_problem (puzzle_in o) → (h : Head) × (o ≡ ok h) × (q ≡ problem_of h.puzzle)
+unfolding as_problem puzzle_in ◌>>=◌
+head_yes (refused k) e = let z : ◌≡◌ {A = ℕ} 0 1 = cc in absurd (omega arith)
+head_yes (ok h) {q} e = (h, refl, cc)
+
+pub head_fault : (s : List ℕ) {k : ℕ} → refused k ≡ as_problem (puzzle_in (read_head s)) → read_head s ≡ refused k
+head_fault s e = head_no (read_head s) e
+
+pub head_ok : (s : List ℕ) {q : Problem} → ok q ≡ as_problem (puzzle_in (read_head s)) → (h : Head) × (read_head s ≡ ok h) × (q ≡ problem_of h.puzzle)
+head_ok s e = head_yes (read_head s) e
 
 pub player_unread : (n : ℕ) (s : List ℕ) {k : ℕ} → read_head s ≡ refused k → player_within n s ≡ refused k
 unfolding player_within ◌>>=◌
@@ -86,7 +136,7 @@ module _ (s : List ℕ) {h : Head} (r : read_head s ≡ ok h) where
     player_20 l t = rw (r, le-leb 1 n l, t) refl
 
     pub player_done : 1 ≤ n → tail_test (tail_of s h) (cells_in h) ≡ true → (m g : ℕ) → m ≡ h.bytes → g ≡ grade_in (drop m s)
-        → ◌≡◌ {A = Player} (record { answer = Done; length = m; grade = g }) (player_of (player_within n s))
+        → ◌≡◌ {A = Outcome Player} (ok (record { length = m; grade = g })) (player_of (player_within n s))
     unfolding player_within player_behind graded_in player_of ◌>>=◌ unless
     player_done l t m g e f = rw (r, le-leb 1 n l, t, f, e) refl
 
@@ -112,7 +162,7 @@ module _ (s : List ℕ) {h : Head} (r : read_head s ≡ ok h) where
 
             pub setter_done : finished_test (in_edition e h.puzzle) (solution_in (tail_of s h) (cells_in h)) ≡ true
                 → (m g k : ℕ) (cells : List ℕ) → m ≡ h.bytes → g ≡ grade_in (drop m s) → k ≡ cells_in h → cells ≡ array_of 0 (solution_in (drop m s) k)
-                → ◌≡◌ {A = Setter} (record { answer = Done; length = m; grade = g; count = k; cells = cells }) (setter_of (setter_within n e s))
+                → ◌≡◌ {A = Outcome Setter} (ok (record { length = m; grade = g; count = k; cells = cells })) (setter_of (setter_within n e s))
             unfolding setter_within setter_behind solved_in graded_in setter_of ◌>>=◌ unless
             setter_done b m g k cells w f c d = rw (r, le-leb (1 + cells_in h) n l, t, a, b, d, f, w, c, solution_length (tail_of s h) (cells_in h)) refl
 
@@ -167,17 +217,19 @@ grade_cells grade n cells (x ∷ old) h = ap (λ (l : List ℕ). (grade ∷ take
 
 -- ---- the exported calls
 
--- what is returned and what the output holds then
-abbrev Gives : Outcome Given → ℤ → List ℕ → List ℕ → Type 0
-Gives o r old new = (r ≡ given_length o) × (new ≡ output_with (given_bytes o) old)
+-- a refusal, also at the exit of a `?`, and what is given
+module _ (o : Outcome Given) (old : List ℕ) where
+  Gives-refused : (r : Refusal) → o ≡ refused (number_of r) → Gives o (Err r) old old
+  unfolding given_length given_bytes output_with ◌>>=◌
+  Gives-refused r e = rw e (record { returned = refl; few = λ n h. let z : ◌≡◌ {A = ℕ} 0 1 = cc in absurd (omega arith); output = refl })
 
-Gives-refused : (o : Outcome Given) (k : ℕ) (r : ℤ) (old : List ℕ) → o ≡ refused k → r ≡ neg_ℤ (pos k) → Gives o r old old
-unfolding given_length given_bytes output_with ◌>>=◌
-Gives-refused o k r old e f = rw e (f, refl)
+  Gives-fault : (a : Result ℕ Refusal) (r : Refusal) → IsErrAnd a (λ y. y ≡ r) → o ≡ refused (number_of r) → Gives o a old old
+  Gives-fault (Ok n) r x e = absurd x
+  Gives-fault (Err y) r x e = rw x (Gives-refused r e)
 
-Gives-ok : (o : Outcome Given) (a : Given) (r : ℤ) (old new : List ℕ) → o ≡ ok a → r ≡ pos a.length → new ≡ a.bytes ++ drop (length a.bytes) old → Gives o r old new
-unfolding given_length given_bytes output_with ◌>>=◌
-Gives-ok o a r old new e f g = rw e (f, g)
+  Gives-ok : (a : Given) (new : List ℕ) (n : ℕ) → o ≡ ok a → n ≡ a.length → n ≤ 2819 → new ≡ a.bytes ++ drop (length a.bytes) old → Gives o (Ok n) old new
+  unfolding given_length given_bytes output_with ◌>>=◌
+  Gives-ok a new n e f h g = rw e (record { returned = ap pos f; few = λ m q. let z : n ≡ m = cc in omega (arith, h); output = g })
 
 module _ (n : ℕ) (s : List ℕ) where
   -- what is accepted with an output of n bytes: there is room, and the reader accepts it
@@ -211,64 +263,58 @@ module _ (n : ℕ) (s : List ℕ) where
   call_vouches e r = let b = bind_ok (setter_within n e s) _ r in (b.0, sym (ok-eq b.2), setter_vouches e s (setter_in e b.1).1)
 
   -- the player's call
-  module _ (p : Player) (e : p ≡ player_of (player_within n s)) where
-    pub player_refused : (k : ℕ) (r : ℤ) (old : List ℕ) → p.answer ≡ Refused k → r ≡ neg_ℤ (pos k) → Gives (player_given n s) r old old
-    unfolding player_given player_of
-    player_refused k r old d = Gives-refused _ k r old (bind_refused _ (go (player_within n s) (ap (λ (x : Player). x.answer) (sym e) ∙ d)))
-      where
-        go : (o : Outcome Graded) → (player_of o).answer ≡ Refused k → o ≡ refused k
-        go (refused j) q = let z : j ≡ k = cc in ap {B = Outcome Graded} refused z
-        go (ok f) q = let z : ◌≡◌ {A = ℕ} 0 1 = cc in absurd (omega arith)
+  pub player_fault : {k : ℕ} → refused k ≡ player_of (player_within n s) → player_given n s ≡ refused k
+  unfolding player_given
+  player_fault e = bind_refused _ (player_back (player_within n s) e)
 
-    player_taken : p.answer ≡ Done → (f : Graded) × (player_within n s ≡ ok f) × (p.length ≡ f.head.bytes) × (p.grade ≡ f.grade)
-    unfolding player_of
-    player_taken d = go (player_within n s) refl (ap (λ (x : Player). x.answer) (sym e) ∙ d)
-      where
-        go : (o : Outcome Graded) → player_within n s ≡ o → (player_of o).answer ≡ Done → (f : Graded) × (player_within n s ≡ ok f) × (p.length ≡ f.head.bytes) × (p.grade ≡ f.grade)
-        go (refused j) q w = let z : ◌≡◌ {A = ℕ} 0 1 = cc in absurd (omega arith)
-        go (ok f) q w = let m = e ∙ ap player_of q in (f, q, ap (λ (x : Player). x.length) m, ap (λ (x : Player). x.grade) m)
+  pub player_refused : (old : List ℕ) (a : Result ℕ Refusal) (r : Refusal) → IsErrAnd a (λ y. y ≡ r) → refused (number_of r) ≡ player_of (player_within n s) → Gives (player_given n s) a old old
+  player_refused old a r x e = Gives-fault (player_given n s) old a r x (player_fault e)
 
-    pub player_bounds : p.answer ≡ Done → (1 ≤ n) × (p.length ≤ 2819)
-    player_bounds d = let w = player_taken d in let b = player_in w.1 in (b.0, omega (arith, w.2, head_length s (player_head s b.1)))
+  module _ {p : Player} (e : ok p ≡ player_of (player_within n s)) where
+    player_taken : (f : Graded) × (player_within n s ≡ ok f) × (p ≡ graded_as f)
+    player_taken = player_got (player_within n s) e
 
-    pub player_given_lem : (r : ℤ) (old : List ℕ) → length old ≡ n → p.answer ≡ Done → r ≡ pos p.length → Gives (player_given n s) r old (set old 0 p.grade)
+    pub player_bounds : (1 ≤ n) × (p.length ≤ 2819)
+    player_bounds =
+        let w = player_taken in
+        let b = player_in w.1 in
+        (b.0, omega (arith, ap (λ (x : Player). x.length) w.2, head_length s (player_head s b.1)))
+
+    pub player_given_lem : (old : List ℕ) → length old ≡ n → Gives (player_given n s) (Ok p.length) old (set old 0 p.grade)
     unfolding player_given to_player
-    player_given_lem r old l d q =
-        let w = player_taken d in
-        Gives-ok _ (to_player w.0) r old (set old 0 p.grade) (bind_value _ w.1) (q ∙ ap pos w.2) (grade_put p.grade old (omega (arith, (player_bounds d).0)) ∙ ap (λ (x : ℕ). (x ∷ []) ++ drop 1 old) w.3)
+    player_given_lem old l =
+        let w = player_taken in
+        Gives-ok _ old (to_player w.0) (set old 0 p.grade) p.length (bind_value _ w.1) (ap (λ (x : Player). x.length) w.2) player_bounds.1
+        (grade_put p.grade old (omega (arith, player_bounds.0)) ∙ ap (λ (x : Player). (x.grade ∷ []) ++ drop 1 old) w.2)
 
   -- the setter's call in the edition e
-  module _ (e : ℕ) (p : Setter) (m : p ≡ setter_of (setter_within n e s)) where
-    pub setter_refused : (k : ℕ) (r : ℤ) (old : List ℕ) → p.answer ≡ Refused k → r ≡ neg_ℤ (pos k) → Gives (setter_given n e s) r old old
-    unfolding setter_given setter_of
-    setter_refused k r old d = Gives-refused _ k r old (bind_refused _ (go (setter_within n e s) (ap (λ (x : Setter). x.answer) (sym m) ∙ d)))
-      where
-        go : (o : Outcome Solved) → (setter_of o).answer ≡ Refused k → o ≡ refused k
-        go (refused j) q = let z : j ≡ k = cc in ap {B = Outcome Solved} refused z
-        go (ok f) q = let z : ◌≡◌ {A = ℕ} 0 1 = cc in absurd (omega arith)
-
-    setter_taken : p.answer ≡ Done → (f : Solved) × (setter_within n e s ≡ ok f) × (p ≡ setter_of (ok f))
-    setter_taken d = go (setter_within n e s) refl (ap (λ (x : Setter). x.answer) (sym m) ∙ d)
-      where
-        go : (o : Outcome Solved) → setter_within n e s ≡ o → (setter_of o).answer ≡ Done → (f : Solved) × (setter_within n e s ≡ ok f) × (p ≡ setter_of (ok f))
-        go (refused j) q w = let w' : Refused j ≡ Done = unfold setter_of in w in let z : ◌≡◌ {A = ℕ} 0 1 = cc in absurd (omega arith)
-        go (ok f) q w = (f, q, m ∙ ap setter_of q)
-
-    pub setter_bounds : p.answer ≡ Done → (1 + p.count ≤ n) × (p.count ≤ 1024) × (length p.cells ≡ 1024) × (p.length ≤ 2819)
-    setter_bounds d = let w = setter_taken d in let b = setter_fits e w.1 in rw w.2 (unfold setter_of in (b.0, b.1, array_length 0 w.0.solution b.1, b.2))
-
-    front : (f : Solved) (old : List ℕ)
-        → ((setter_of (ok f)).grade ∷ take (setter_of (ok f)).count (setter_of (ok f)).cells) ++ drop (1 + (setter_of (ok f)).count) old ≡ (to_setter f).bytes ++ drop (length (to_setter f).bytes) old
-    unfolding setter_of to_setter
-    front f old = let k : 1 + length f.solution ≡ suc (length f.solution) = omega arith in rw (array_take 0 f.solution, k) refl
-
-    pub setter_given_lem : (r : ℤ) (old new : List ℕ) → p.answer ≡ Done → r ≡ pos p.length → new ≡ (p.grade ∷ take p.count p.cells) ++ drop (1 + p.count) old → Gives (setter_given n e s) r old new
+  module _ (e : ℕ) where
+    pub setter_fault : {k : ℕ} → refused k ≡ setter_of (setter_within n e s) → setter_given n e s ≡ refused k
     unfolding setter_given
-    setter_given_lem r old new d q z =
-        let w = setter_taken d in
-        let f = w.0 in
-        Gives-ok _ (to_setter f) r old new (bind_value _ w.1) (q ∙ ap (λ (x : Setter). pos x.length) w.2 ∙ (unfold setter_of to_setter in refl))
-        (z ∙ ap (λ (x : Setter). (x.grade ∷ take x.count x.cells) ++ drop (1 + x.count) old) w.2 ∙ front f old)
+    setter_fault d = bind_refused _ (setter_back (setter_within n e s) d)
+
+    pub setter_refused : (old : List ℕ) (a : Result ℕ Refusal) (r : Refusal) → IsErrAnd a (λ y. y ≡ r) → refused (number_of r) ≡ setter_of (setter_within n e s) → Gives (setter_given n e s) a old old
+    setter_refused old a r x d = Gives-fault (setter_given n e s) old a r x (setter_fault d)
+
+    module _ {p : Setter} (m : ok p ≡ setter_of (setter_within n e s)) where
+      setter_taken : (f : Solved) × (setter_within n e s ≡ ok f) × (p ≡ solved_as f)
+      setter_taken = setter_got (setter_within n e s) m
+
+      pub setter_bounds : (1 + p.count ≤ n) × (p.count ≤ 1024) × (length p.cells ≡ 1024) × (p.length ≤ 2819)
+      setter_bounds = let w = setter_taken in let b = setter_fits e w.1 in rw w.2 (b.0, b.1, array_length 0 w.0.solution b.1, b.2)
+
+      front : (f : Solved) (old : List ℕ)
+          → ((solved_as f).grade ∷ take (solved_as f).count (solved_as f).cells) ++ drop (1 + (solved_as f).count) old ≡ (to_setter f).bytes ++ drop (length (to_setter f).bytes) old
+      unfolding to_setter
+      front f old = let k : 1 + length f.solution ≡ suc (length f.solution) = omega arith in rw (array_take 0 f.solution, k) refl
+
+      pub setter_given_lem : (old new : List ℕ) → new ≡ (p.grade ∷ take p.count p.cells) ++ drop (1 + p.count) old → Gives (setter_given n e s) (Ok p.length) old new
+      unfolding setter_given
+      setter_given_lem old new z =
+          let w = setter_taken in
+          let f = w.0 in
+          Gives-ok _ old (to_setter f) new p.length (bind_value _ w.1) (ap (λ (x : Setter). x.length) w.2 ∙ (unfold to_setter in refl)) setter_bounds.3
+          (z ∙ ap (λ (x : Setter). (x.grade ∷ take x.count x.cells) ++ drop (1 + x.count) old) w.2 ∙ front f old)
 
 -- both calls agree where both accept: they return the same length, and the player's byte is the setter's first
 pub call_agree : (m n e : ℕ) (s : List ℕ) {a b : Given} → player_given m s ≡ ok a → setter_given n e s ≡ ok b → (a.length ≡ b.length) × (a.bytes ≡ take 1 b.bytes)

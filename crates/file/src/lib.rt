@@ -4,31 +4,29 @@
 
 ghost use Rattle.std.specs.Prelude.{◌≡◌, [], ◌∷◌, ◌++◌, ◌+◌, ◌*◌, ◌≤◌, length, take, drop};
 ghost use Rattle.grid.specs.Lists.{array_of};
-ghost use Rattle.fields.specs.Fields.{ok, refused};
+ghost use Rattle.refusal.specs.Refusals.{outcome_of, ok};
 ghost use Rattle.record.specs.Head.{Head, read_head};
 ghost use Rattle.record.specs.Problem.{problem_of};
 ghost use Rattle.exported.specs.Written.{output_with};
 ghost use Rattle.file.specs.File.{tail_test, grade_in, solution_in, read_player, read_setter};
-ghost use Rattle.file.specs.Answers.{player_of, setter_of};
+ghost use Rattle.file.specs.Answers.{player_of, setter_of, Gives};
 ghost use Rattle.file.specs.Call.{player_within, setter_within, player_given, setter_given, given_length, given_bytes};
 
 use call::edition_of;
-use exported::{counted, negated, write_behind};
-use record::{Answer, Problem};
+use exported::write_behind;
+use record::Problem;
+use refusal::Refusal;
 
-// The answer of the player's reader: where it is Done the record's length in bytes and the grade, and zeros where it is not.
-#[derive(Clone, Copy)]
+// What the player's reader gives: the record's length in bytes and the grade.
+#[derive(Clone, Copy, Debug, PartialEq, Eq)]
 pub struct Player {
-    pub answer: Answer,
     pub length: usize,
     pub grade: u8,
 }
 
-// The answer of the setter's reader: where it is Done the record's length in bytes, the grade and the `count` cells of the solution, 1 square and
-// 0 empty, with 0 behind them; and zeros where it is not.
-#[derive(Clone, Copy)]
+// What the setter's reader gives: the record's length in bytes, the grade and the `count` cells of the solution, 1 square and 0 empty, with 0 behind them.
+#[derive(Clone, Copy, Debug, PartialEq, Eq)]
 pub struct Setter {
-    pub answer: Answer,
     pub length: usize,
     pub grade: u8,
     pub count: usize,
@@ -60,86 +58,60 @@ fn read_solution(file: &[u8], from: usize, n: usize, cells: &mut [u8; 1024])
     requires { (from ≤ 4096) × (n ≤ 1024) × (cells.old ≡ array_of 0 []) }
     ensures { cells.new ≡ array_of 0 (solution_in (drop from file.now) n) }
 {
-    let mut i = 0;
-    while i < n {
+    for i in 0..n {
         cells[i] = fields::number_at(file, 8 * from + 3 + i, 1) as u8;
-        i += 1;
-    }
-}
-
-// The answer to a file that the player's reader refuses.
-fn no_player(k: u8) -> Player
-    ensures { result ≡ player_of (refused k) }
-{
-    Player {
-        answer: Answer::Refused(k),
-        length: 0,
-        grade: 0,
-    }
-}
-
-// The answer to a file that the setter's reader refuses.
-fn no_setter(k: u8) -> Setter
-    ensures { result ≡ setter_of (refused k) }
-{
-    Setter {
-        answer: Answer::Refused(k),
-        length: 0,
-        grade: 0,
-        count: 0,
-        cells: record::no_codes(),
     }
 }
 
 // The player's reader behind the record of a problem, for an output of `room` bytes: 11, then 20.
-fn player_behind(problem: Problem, file: &[u8], room: usize) -> Player
-    requires { (h : Head) × (read_head file.now ≡ ok h) × (problem ≡ problem_of h.puzzle) }
-    ensures { (h : Head) → read_head file.now ≡ ok h → problem ≡ problem_of h.puzzle → result ≡ player_of (player_within room file.now) }
+fn player_behind(problem: &Problem, file: &[u8], room: usize) -> Result<Player, Refusal>
+    requires { (h : Head) × (read_head file.now ≡ ok h) × (problem.now ≡ problem_of h.puzzle) }
+    ensures { (h : Head) → read_head file.now ≡ ok h → problem.now ≡ problem_of h.puzzle → outcome_of result ≡ player_of (player_within room file.now) }
 {
     if room < 1 {
-        return no_player(11);
+        return Err(Refusal::OutputShort);
     }
-    let length = record::record_length(problem.height, problem.width, &problem.ends, problem.count);
+    let length = problem.record_length();
     if !is_tail(file, length, problem.height * problem.width) {
-        return no_player(20);
+        return Err(Refusal::Tail);
     }
-    Player {
-        answer: Answer::Done,
+    Ok(Player {
         length,
         grade: read_grade(file, length),
-    }
+    })
 }
 
 // The player's reader for an output of `room` bytes: 1 to 5, 11, 20.
-fn player_within(file: &[u8], room: usize) -> Player
-    ensures { result ≡ player_of (player_within room file.now) }
+fn player_within(file: &[u8], room: usize) -> Result<Player, Refusal>
+    ensures { outcome_of result ≡ player_of (player_within room file.now) }
 {
-    let reading = record::read_head(file);
-    let answer = reading.answer;
-    match answer {
-        Answer::Done => player_behind(reading.problem, file, room),
-        Answer::Refused(k) => no_player(k),
-    }
+    let problem = Problem::read_head(file)?;
+    player_behind(&problem, file, room)
 }
 
 // The setter's reader behind the record of a problem, for an output of `room` bytes: 11, then 20, 16, 21.
-fn setter_behind(problem: Problem, file: &[u8], edition: u32, room: usize) -> Setter
-    requires { (h : Head) × (read_head file.now ≡ ok h) × (problem ≡ problem_of h.puzzle) }
-    ensures { (h : Head) → read_head file.now ≡ ok h → problem ≡ problem_of h.puzzle → result ≡ setter_of (setter_within room edition file.now) }
+fn setter_behind(
+    problem: &Problem,
+    file: &[u8],
+    edition: u32,
+    room: usize,
+) -> Result<Setter, Refusal>
+    requires { (h : Head) × (read_head file.now ≡ ok h) × (problem.now ≡ problem_of h.puzzle) }
+    ensures { (h : Head) → read_head file.now ≡ ok h → problem.now ≡ problem_of h.puzzle → outcome_of result ≡ setter_of (setter_within room edition file.now) }
 {
     let n = problem.height * problem.width;
     if room < 1 + n {
-        return no_setter(11);
+        return Err(Refusal::OutputShort);
     }
-    let length = record::record_length(problem.height, problem.width, &problem.ends, problem.count);
+    let length = problem.record_length();
     if !is_tail(file, length, n) {
-        return no_setter(20);
+        return Err(Refusal::Tail);
     }
     let e = edition_of(edition);
     if e == 0 {
-        return no_setter(16);
+        return Err(Refusal::Edition);
     }
-    let mut cells = record::no_codes();
+    let mut cells = [0; 1024];
     read_solution(file, length, n, &mut cells);
     let yes = finished::is_finished(
         e,
@@ -154,41 +126,36 @@ fn setter_behind(problem: Problem, file: &[u8], edition: u32, room: usize) -> Se
         problem.width,
     );
     if !yes {
-        return no_setter(21);
+        return Err(Refusal::Unfinished);
     }
-    Setter {
-        answer: Answer::Done,
+    Ok(Setter {
         length,
         grade: read_grade(file, length),
         count: n,
         cells,
-    }
+    })
 }
 
 // The setter's reader for an output of `room` bytes: 1 to 5, 11, 20, 16, 21.
-fn setter_within(file: &[u8], edition: u32, room: usize) -> Setter
-    ensures { result ≡ setter_of (setter_within room edition file.now) }
+fn setter_within(file: &[u8], edition: u32, room: usize) -> Result<Setter, Refusal>
+    ensures { outcome_of result ≡ setter_of (setter_within room edition file.now) }
 {
-    let heading = record::read_head(file);
-    let answer = heading.answer;
-    match answer {
-        Answer::Done => setter_behind(heading.problem, file, edition, room),
-        Answer::Refused(k) => no_setter(k),
-    }
+    let heading = Problem::read_head(file)?;
+    setter_behind(&heading, file, edition, room)
 }
 
 // The player's reader: the record's length and the grade. Refused: the record's first fault, 1 to 5, of which 5 counts filler of the record only,
 // then 20 a tail too short, too long or with filler not zero.
-pub fn read_player(file: &[u8]) -> Player
-    ensures { result ≡ player_of (read_player file.now) }
+pub fn read_player(file: &[u8]) -> Result<Player, Refusal>
+    ensures { outcome_of result ≡ player_of (read_player file.now) }
 {
     player_within(file, 1)
 }
 
 // The setter's reader: the record's length, the grade and the cells of a solution that is finished in the edition. Refused: as the player's reader,
 // then 16 an edition that is not 1 or 2, then 21 a solution that is not finished.
-pub fn read_setter(file: &[u8], edition: u32) -> Setter
-    ensures { result ≡ setter_of (read_setter edition file.now) }
+pub fn read_setter(file: &[u8], edition: u32) -> Result<Setter, Refusal>
+    ensures { outcome_of result ≡ setter_of (read_setter edition file.now) }
 {
     setter_within(file, edition, 1025)
 }
@@ -202,21 +169,31 @@ fn write_solution(grade: u8, cells: &[u8; 1024], n: usize, output: &mut [u8])
     write_behind(cells, n, 1, output);
 }
 
+// Reads a file for the player and writes the grade to the output's first byte; gives the record's length.
+fn write_player(file: &[u8], output: &mut [u8]) -> Result<usize, Refusal>
+    ensures { Gives (player_given (length output.old) file.now) result output.old output.new }
+{
+    let player = player_within(file, output.len())?;
+    output[0] = player.grade;
+    Ok(player.length)
+}
+
+// Reads a file for the setter and writes the grade and the solution to the output; gives the record's length.
+fn write_setter(file: &[u8], edition: u32, output: &mut [u8]) -> Result<usize, Refusal>
+    ensures { Gives (setter_given (length output.old) edition file.now) result output.old output.new }
+{
+    let setter = setter_within(file, edition, output.len())?;
+    write_solution(setter.grade, &setter.cells, setter.count, output);
+    Ok(setter.length)
+}
+
 // Reads a file for the player: returns the record's length in bytes and writes the grade to the output's first byte; or the negated number of a
 // refusal, which leaves the output as it was: 1 to 5, then 11 for an output below 1 byte, then 20.
 pub fn player_file(file: &[u8], output: &mut [u8]) -> i32
     ensures { (result ≡ given_length (player_given (length output.old) file.now))
         × (output.new ≡ output_with (given_bytes (player_given (length output.old) file.now)) output.old) }
 {
-    let player = player_within(file, output.len());
-    let answer = player.answer;
-    match answer {
-        Answer::Done => {
-            output[0] = player.grade;
-            counted(player.length)
-        }
-        Answer::Refused(k) => negated(k),
-    }
+    refusal::returned(write_player(file, output))
 }
 
 // Reads a file for the setter: returns the record's length in bytes and writes the grade and then one byte a cell, 1 square and 0 empty; or the negated
@@ -225,13 +202,5 @@ pub fn setter_file(file: &[u8], edition: u32, output: &mut [u8]) -> i32
     ensures { (result ≡ given_length (setter_given (length output.old) edition file.now))
         × (output.new ≡ output_with (given_bytes (setter_given (length output.old) edition file.now)) output.old) }
 {
-    let setter = setter_within(file, edition, output.len());
-    let answer = setter.answer;
-    match answer {
-        Answer::Done => {
-            write_solution(setter.grade, &setter.cells, setter.count, output);
-            counted(setter.length)
-        }
-        Answer::Refused(k) => negated(k),
-    }
+    refusal::returned(write_setter(file, edition, output))
 }

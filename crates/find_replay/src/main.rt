@@ -15,7 +15,7 @@ ghost use Rattle.find_replay.specs.Entries.{VerdictSo, BoardSo, EntrySo};
 use board::Board;
 use finds::Way;
 use finished::Verdict;
-use replay::{Run, Tally};
+use replay::{Cursor, Entries, Run};
 use std::io;
 
 // Whether a verdict is not the one for this number: 1 for a finished board, 0 for another.
@@ -54,63 +54,47 @@ fn entry_differs(
     requires { at + 2 * count < length list.now }
     ensures { DiffersUnless result (EntrySo «record».now edition decisions.now list.now at count) }
 {
-    let o = Board::open(record, edition, &[]);
-    let answer = o.answer;
-    let fresh = o.board;
-    if replay::number(answer) != 0 {
+    let Ok(fresh) = Board::open(record, edition, &[]) else {
         return true;
-    }
-    let d = fresh.decide_all(decisions);
-    let answer = d.answer;
-    let board = d.board;
-    replay::number(answer) != 0 || board_differs(list, rounds, at, count, board)
+    };
+    let Ok(board) = fresh.decide_all(decisions) else {
+        return true;
+    };
+    board_differs(list, rounds, at, count, board)
 }
 
-// Goes through the entry at `at`.
-fn run_entry(list: &[u8], rounds: usize, at: usize) -> Run
-    requires { at < length list.now }
-{
-    let edition = at + 2 + replay::number_at(list, at);
-    if list.len() <= edition {
-        return Run::broken();
-    }
-    let decisions = edition + 1;
-    let literals = decisions + 2 + 2 * replay::number_at(list, decisions);
-    if list.len() < literals {
-        return Run::broken();
-    }
-    let count = replay::number_at(list, literals);
-    let end = literals + 3 + 2 * count;
-    if list.len() < end {
-        return Run::broken();
-    }
-    Run::of(
-        entry_differs(
-            list,
-            rounds,
-            &list[at + 2..edition],
-            list[edition],
-            &list[decisions + 2..literals],
-            literals + 2,
-            count,
-        ),
-        end,
-    )
+// Boards, each with a find and a verdict, and how often find is called on each.
+#[derive(Drop)]
+struct Boards {
+    rounds: usize,
 }
 
-// Goes through the entries.
-fn go_through(list: &[u8]) -> Tally {
-    let rounds = replay::number_at(list, replay::data_start(list));
-    let mut tally = Tally::of(list, 2);
-    while tally.at < list.len() {
-        tally = tally.with(run_entry(list, rounds, tally.at), list.len());
+impl Entries for Boards {
+    ghost BEFORE = { 2 };
+
+    const BEFORE: usize = 2;
+
+    fn of(data: &[u8]) -> Boards {
+        Boards {
+            rounds: replay::number_at(data, 0),
+        }
     }
-    tally
+
+    fn run(&self, list: &[u8], at: usize) -> Option<Run> {
+        let mut cursor = Cursor { list, at };
+        let bytes = cursor.counted()?;
+        let edition = cursor.byte()?;
+        let decisions = cursor.number()?;
+        let decisions = cursor.take(2 * decisions)?;
+        let count = cursor.number()?;
+        let literals = cursor.at;
+        cursor.take(2 * count + 1)?;
+        let rounds = self.rounds;
+        let differs = entry_differs(list, rounds, bytes, edition, decisions, literals, count);
+        Some(Run::of(differs, cursor.at))
+    }
 }
 
 fn main(rt: HostRuntime) -> io::Result<()> {
-    let mut space = replay::room();
-    let list = replay::read_list(rt.reader(), &mut space)?;
-    let (_, written) = go_through(list).print(b" boards, ", b"", &mut io::writer(&rt));
-    written
+    replay::replay::<Boards, _, _>(rt.reader(), &mut io::writer(&rt), " boards, ", "")
 }

@@ -20,12 +20,37 @@ use Rattle.literals.specs.Buffer.{buffer_by}
 use Rattle.replay.specs.Comparisons.{DiffersUnless}
 use Rattle.replay.specs.Lists.{differs}
 use Rattle.replay.proofs.ComparisonLaws.{holds, fails, then_differs, same_differs, test_told}
-use Rattle.reasons.specs.Find.{reason_on, find_of, buffer_after}
+use Rattle.std.specs.Prelude.{Option, Some, None}
+use Rattle.refusal.specs.Refusals.{ok, refused}
+use Rattle.reasons.specs.Find.{reason_on, find_of, found_as, buffer_after}
 use Rattle.finds.specs.Finds.{finding_of, lent, left, FindsSo}
 
 -- the test for 0 of a number above it
 not_zero : (n : ℕ) → eqb (suc n) 0 ≡ false
 not_zero n = ne_eqb (suc n) 0 (λ e. absurd (omega (arith, e)))
+
+-- the answer in the definition's words
+pub is_nothing : (f : Finding) → ok None ≡ found_as f → f ≡ Nothing
+is_nothing Nothing e = refl
+is_nothing (Reason k) e = let z : ◌≡◌ {A = ℕ} 0 1 = cc in absurd (omega arith)
+is_nothing (Refused k) e = let z : ◌≡◌ {A = ℕ} 0 1 = cc in absurd (omega arith)
+
+pub is_reason : (f : Finding) (n : ℕ) → ok (Some n) ≡ found_as f → f ≡ Reason n
+is_reason Nothing n e = let z : ◌≡◌ {A = ℕ} 0 1 = cc in absurd (omega arith)
+is_reason (Reason k) n e = let z : k ≡ n = cc in rw z refl
+is_reason (Refused k) n e = let z : ◌≡◌ {A = ℕ} 0 1 = cc in absurd (omega arith)
+
+pub is_refused : (f : Finding) (n : ℕ) → refused n ≡ found_as f → f ≡ Refused n
+is_refused Nothing n e = let z : ◌≡◌ {A = ℕ} 0 1 = cc in absurd (omega arith)
+is_refused (Reason k) n e = let z : ◌≡◌ {A = ℕ} 0 1 = cc in absurd (omega arith)
+is_refused (Refused k) n e = let z : k ≡ n = cc in rw z refl
+
+-- the same where the count is known to be this one
+pub nothing_by : (f : Finding) (o : Option ℕ) → o ≡ None → ok o ≡ found_as f → f ≡ Nothing
+nothing_by f o z e = is_nothing f (rw z at e)
+
+pub reason_by : (f : Finding) (o : Option ℕ) (n : ℕ) → o ≡ Some n → ok o ≡ found_as f → f ≡ Reason n
+reason_by f o n z e = is_reason f n (rw z at e)
 
 module _ {f : Finding} where
   -- no reason
@@ -61,15 +86,11 @@ module _ {f : Finding} where
 pub left_board : (b : Board) (q size : ℕ) (fresh : List ℕ) {r : Board} → size ≤ length fresh → r ≡ after_find b q (length (take size fresh)) → r ≡ after_find b q size
 left_board b q size fresh h e = e ∙ ap (after_find b q) (length-take-le size fresh h)
 
-module _ (b : Board) (q size refusal count : ℕ) (said : ℕ → ℕ) (fresh : List ℕ) (e : fresh ≡ replicate 4096 65535) (f : Finding) (g : f ≡ find_of b q (take size fresh)) (t : Bool) (w : DiffersUnless t (f ≡ finding_of refusal count)) where
-  -- what find answered with the part of the fresh buffer
-  answered : f ≡ find_of b q (lent size)
-  unfolding lent
-  answered = rw e at g
-
+module _ (b : Board) (q size refusal count : ℕ) (said : ℕ → ℕ) (fresh : List ℕ) (e : fresh ≡ replicate 4096 65535) (t : Bool) (w : DiffersUnless t (find_of b q (take size fresh) ≡ finding_of refusal count)) where
   -- the answer alone, told apart from the one that is said
   answer_told : DiffersUnless t (find_of b q (lent size) ≡ finding_of refusal count)
-  answer_told = same_differs (λ h. sym answered ∙ h) (λ h. answered ∙ h) t w
+  unfolding lent
+  answer_told = rw e at w
 
   -- another answer than the one that is said
   pub other_answer : t ≡ true → FindsSo b q size refusal count said → ⊥

@@ -4,39 +4,41 @@
 
 ghost use Rattle.std.specs.Prelude.{◌≡◌, ◌≤◌, length};
 ghost use Rattle.board.specs.Hints.{after_find};
-ghost use Rattle.reasons.specs.Find.{find_of, buffer_after};
+ghost use Rattle.refusal.specs.Refusals.{outcome_of};
+ghost use Rattle.literals.specs.declared.Finding.{Finding};
+ghost use Rattle.reasons.specs.Find.{find_of, found_as, buffer_after};
 ghost use Rattle.replay.specs.Comparisons.{DiffersUnless};
 ghost use Rattle.replay.specs.Lists.{number_in};
 ghost use Rattle.finds.specs.Finds.{finding_of, FindsSo};
 
 use board::Board;
-use literals::Finding;
 use reasons::Asked;
+use refusal::Refusal;
 
 // Whether an answer is not this refusal, or, where that is 0, not the one for this many literals, 0 for no reason.
-fn finding_differs(found: Finding, refusal: usize, count: usize) -> bool
-    ensures { DiffersUnless result (found ≡ finding_of refusal count) }
+fn finding_differs(found: Result<Option<usize>, Refusal>, refusal: usize, count: usize) -> bool
+    ensures { (f : Finding) → outcome_of found ≡ found_as f → DiffersUnless result (f ≡ finding_of refusal count) }
 {
     match found {
-        Finding::Nothing => refusal != 0 || count != 0,
-        Finding::Reason(n) => refusal != 0 || n == 0 || n != count,
-        Finding::Refused(k) => refusal == 0 || grid::byte(k) != refusal,
+        Ok(literals) => match literals {
+            None => refusal != 0 || count != 0,
+            Some(n) => refusal != 0 || n == 0 || n != count,
+        },
+        Err(refused) => refusal == 0 || usize::from(refused.number()) != refusal,
     }
 }
 
 // Finds this many times and at least once, each time on the same board and in the same buffer; the last answer, which is that of the first,
 // with the board that the first left.
 fn find_in_rounds(rounds: usize, board: Board, player: u8, buffer: &mut [u16]) -> Asked
-    ensures { (result.finding ≡ find_of board player buffer.old) × (result.board ≡ after_find board player (length buffer.old))
+    ensures { (outcome_of result.finding ≡ found_as (find_of board player buffer.old)) × (result.board ≡ after_find board player (length buffer.old))
         × (buffer.new ≡ buffer_after board player buffer.old) }
 {
     let first = reasons::find(board, player, buffer);
     let mut found = first.finding;
     let left = first.board;
-    let mut i = 1;
-    while i < rounds {
+    for _i in 1..rounds {
         found = reasons::find(board, player, buffer).finding;
-        i += 1;
     }
     Asked {
         finding: found,
@@ -46,7 +48,7 @@ fn find_in_rounds(rounds: usize, board: Board, player: u8, buffer: &mut [u16]) -
 
 // `find` on a lent board: what it answers, with the board that it leaves.
 fn find_lent(board: Board, player: u8, buffer: &mut [u16]) -> Asked
-    ensures { (result.finding ≡ find_of board player buffer.old) × (result.board ≡ after_find board player (length buffer.old))
+    ensures { (outcome_of result.finding ≡ found_as (find_of board player buffer.old)) × (result.board ≡ after_find board player (length buffer.old))
         × (buffer.new ≡ buffer_after board player buffer.old) }
 {
     let mut lent = board;
@@ -66,7 +68,7 @@ pub enum Way {
 
 // Finds in this way.
 fn find(way: Way, board: Board, player: u8, buffer: &mut [u16]) -> Asked
-    ensures { (result.finding ≡ find_of board player buffer.old) × (result.board ≡ after_find board player (length buffer.old))
+    ensures { (outcome_of result.finding ≡ found_as (find_of board player buffer.old)) × (result.board ≡ after_find board player (length buffer.old))
         × (buffer.new ≡ buffer_after board player buffer.old) }
 {
     match way {

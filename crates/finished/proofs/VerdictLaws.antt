@@ -35,9 +35,8 @@ use Rattle.groups.proofs.RulesLaws.{rules_test_lem, test_rules}
 use Rattle.kinds.specs.Inside.{puzzle_with}
 use Rattle.kinds.specs.Meaning.{Setting}
 use Rattle.literals.specs.Literals.{Found}
-use Rattle.literals.specs.Buffer.{finding_by}
-use Rattle.literals.specs.Inside.{FoundAs}
-use Rattle.literals.specs.declared.Finding.TheVariants.{Nothing, Reason}
+use Rattle.literals.specs.Inside.{count_of, FoundAs}
+use Rattle.std.specs.Prelude.{Option, None, is_none}
 use Rattle.reasons.specs.Reasons.{find_reason}
 use Rattle.reasons.specs.Find.{leaf_on, cells_on}
 use Rattle.reasons.proofs.BoardArrays.{problem_arrays, codes_aside}
@@ -131,16 +130,10 @@ module _ (q : Problem) (f : Formed q) where
       unfolding finished_test
       by_rules t r = rw (sym but_rules ∙ k, r) refl
 
-      by_reason : (r : Found) → find_reason leaf cells ≡ r → (finding_by 0 r ≡ Nothing → true ≡ finished_test leaf cells) × ((m : ℕ) → finding_by 0 r ≡ Reason m → false ≡ finished_test leaf cells)
-      unfolding finding_by
-      by_reason none e = (
-        λ _. by_rules true (rules_test_lem (puzzle_of q) cells long edition sizes (rules.0 e)),
-        λ m x. let z : ◌≡◌ {A = ℕ} 0 1 = cc in absurd (omega arith),
-      )
-      by_reason (some r) e = (
-        λ x. let z : ◌≡◌ {A = ℕ} 0 1 = cc in absurd (omega arith),
-        λ m _. by_rules false (So-false (rules_test leaf cells) (λ t. clash (rules.1 (test_rules (puzzle_of q) cells long edition sizes t)))),
-      )
+      by_reason : (r : Found) → find_reason leaf cells ≡ r → is_none (count_of r) ≡ finished_test leaf cells
+      unfolding count_of
+      by_reason none e = by_rules true (rules_test_lem (puzzle_of q) cells long edition sizes (rules.0 e))
+      by_reason (some r) e = by_rules false (So-false (rules_test leaf cells) (λ t. clash (rules.1 (test_rules (puzzle_of q) cells long edition sizes t))))
         where
           clash : find_reason leaf cells ≡ none → ⊥
           clash n = let z : ◌≡◌ {A = ℕ} 0 1 = cc in omega arith
@@ -151,13 +144,13 @@ module _ (q : Problem) (f : Formed q) where
       same = codes_aside leaf cells
 
       -- what the search for it on the arrays tells
-      pub no_reason : {before after : List ℕ} → FoundAs (find_reason (leaf_with edition sizes (puzzle_with (sized q.height q.width) (lines_of q.arrows q.ends q.count))) cells) before after Nothing
-          → true ≡ finished_test leaf cells
-      no_reason x = (by_reason (find_reason leaf cells) refl).0 (rw same at (sym x.answer))
+      pub reason_tells : {before after : List ℕ} {r : Option ℕ} → FoundAs (find_reason (leaf_with edition sizes (puzzle_with (sized q.height q.width) (lines_of q.arrows q.ends q.count))) cells) before after r
+          → is_none r ≡ finished_test leaf cells
+      reason_tells x = rw (x.answer, same) (by_reason (find_reason leaf cells) refl)
 
-      pub some_reason : {before after : List ℕ} {m : ℕ} → FoundAs (find_reason (leaf_with edition sizes (puzzle_with (sized q.height q.width) (lines_of q.arrows q.ends q.count))) cells) before after (Reason m)
-          → false ≡ finished_test leaf cells
-      some_reason {m} x = (by_reason (find_reason leaf cells) refl).1 m (rw same at (sym x.answer))
+      pub no_reason : {before after : List ℕ} → FoundAs (find_reason (leaf_with edition sizes (puzzle_with (sized q.height q.width) (lines_of q.arrows q.ends q.count))) cells) before after None
+          → true ≡ finished_test leaf cells
+      no_reason x = reason_tells x
 
 -- ---- of a board
 

@@ -16,7 +16,6 @@ ghost use Rattle.finished.specs.Inside.{problem_on};
 ghost use Rattle.finished.specs.Verdicts.{finished_of};
 
 use board::Board;
-use literals::Finding;
 
 // The answer of `finished`, or a refusal by document 01's number.
 #[derive(Clone, Copy)]
@@ -27,30 +26,27 @@ pub enum Verdict {
 }
 
 // Whether a cell of this code and state is decided, empty where it is black and square where that is given.
+#[tactic(auto, unfolding(crate::specs::Finished::keeps))]
 fn keeps_given(code: u8, state: u8) -> bool
     ensures { result ≡ keeps code state }
 {
-    if code == 1 {
-        return state == 0;
+    match code {
+        1 => state == 0,
+        2 => state == 1,
+        _ => state < 2,
     }
-    if code == 2 {
-        return state == 1;
-    }
-    state < 2
 }
 
-// Whether each of the first n cells does so.
+// Whether each of the first n cells does so. A pass with no way out is quicker than one that leaves at the first cell that does not.
 fn all_keep_given<'a>(codes: &'a [u8; 1024], cells: &'a [u8; 1024], n: usize) -> bool
     requires { n ≤ 1024 }
     ensures { result ≡ keeps_all n codes.now cells.now }
 {
     let mut good = true;
-    let mut i = 0;
-    while i < n {
+    for i in 0..n {
         if !keeps_given(codes[i], cells[i]) {
             good = false;
         }
-        i += 1;
     }
     good
 }
@@ -61,12 +57,10 @@ fn squares_on(cells: &[u8; 1024], arrows: &[u16; 1024], from: usize, to: usize) 
     ensures { result ≡ length (filter (square cells.now) (slice from to arrows.now)) }
 {
     let mut count = 0;
-    let mut k = from;
-    while k < to {
-        if cells[grid::wide(arrows[k])] == 1 {
+    for k in from..to {
+        if cells[usize::from(arrows[k])] == 1 {
             count += 1;
         }
-        k += 1;
     }
     count
 }
@@ -78,14 +72,12 @@ fn two_on_each(cells: &[u8; 1024], arrows: &[u16; 1024], ends: &[u16; 1024], num
 {
     let mut good = true;
     let mut from = 0;
-    let mut a = 0;
-    while a < number {
-        let to = grid::wide(ends[a]);
+    for a in 0..number {
+        let to = usize::from(ends[a]);
         if squares_on(cells, arrows, from, to) < 2 {
             good = false;
         }
         from = to;
-        a += 1;
     }
     good
 }
@@ -144,11 +136,7 @@ pub fn is_finished<'a>(
         w,
         &mut buffer,
     );
-    match found {
-        Finding::Nothing => true,
-        Finding::Reason(_) => false,
-        Finding::Refused(_) => false,
-    }
+    found.is_none()
 }
 
 // Whether every cell is decided, black cells are empty, given squares are square, the block rules hold and two squares or more stand

@@ -1,6 +1,6 @@
 -- What the inner steps of the tests of arrays promise each other.
 -- Assumes nothing.
-use Rattle.std.specs.Prelude.{ℕ, ◌%◌, ◌≤◌, ◌<◌, true, cond, ◌≡◌, List, eqb, length, get_or}
+use Rattle.std.specs.Prelude.{ℕ, ◌%◌, ◌≤◌, ◌<◌, true, cond, ◌≡◌, List, Option, Some, None, eqb, length, get_or}
 use Rattle.grid.specs.Lists.{last}
 use Rattle.grid.specs.Grid.{Grid, size}
 use Rattle.form.specs.Form.{rises}
@@ -29,3 +29,7 @@ pub record Cut (es l : List ℕ) : Type 0 where
   pub rise : rises 0 es ≡ true
   pub few : last 0 es ≤ 1024
   pub low : Below (last 0 es) 1024 l
+
+-- the last of the ends, if they rise
+unfoldable pub last_of : List ℕ → Option ℕ
+last_of es = cond (rises 0 es) (Some (last 0 es)) None

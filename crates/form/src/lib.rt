@@ -7,7 +7,9 @@ ghost use Rattle.grid.specs.Marks.{Marks};
 ghost use Rattle.grid.specs.Grid.{Grid, size, neighbours};
 ghost use Rattle.record.specs.Problem.{arrows_from};
 ghost use Rattle.form.specs.Form.{behind, rises, fresh, is_path, good_size, drawn, problem_formed};
-ghost use Rattle.form.specs.Inside.{Blank, RowStarts, Suits, Below, Cut};
+ghost use Rattle.form.specs.Inside.{Blank, RowStarts, Suits, Below, Cut, last_of};
+
+use record::Problem;
 
 // Whether v stands at every place from `from` on. Like the passes below it goes on to the end, since a pass without a way out is
 // done many places at a time.
@@ -16,28 +18,25 @@ pub fn filled(a: &[u8; 1024], from: usize, v: u8) -> bool
     ensures { result ≡ behind v from a.now }
 {
     let mut good = true;
-    let mut i = from;
-    while i < 1024 {
+    for i in from..1024 {
         if a[i] != v {
             good = false;
         }
-        i += 1;
     }
     good
 }
 
 // Whether 0 stands at every place from `from` on.
+// Apart from `filled`, since one over both types would say its clause by the type's own equality, which each caller would have to turn into this one.
 pub fn zeros(a: &[u16; 1024], from: usize) -> bool
     requires { length a.now ≡ 1024 }
     ensures { result ≡ behind 0 from a.now }
 {
     let mut good = true;
-    let mut i = from;
-    while i < 1024 {
+    for i in from..1024 {
         if a[i] != 0 {
             good = false;
         }
-        i += 1;
     }
     good
 }
@@ -48,40 +47,29 @@ fn low_codes(a: &[u8; 1024], n: usize) -> bool
     ensures { result ≡ all (λ (x : ℕ). ltb x 3) (take n a.now) }
 {
     let mut good = true;
-    let mut k = 0;
-    while k < n {
+    for k in 0..n {
         if 2 < a[k] {
             good = false;
         }
-        k += 1;
     }
     good
 }
 
-// What is known of the ends of the arrows: whether they rise, and the last of them.
-#[derive(Clone, Copy)]
-struct Ends {
-    rise: bool,
-    last: usize,
-}
-
-// Whether the first `count` ends rise, and the last of them.
-fn rising(ends: &[u16; 1024], count: usize) -> Ends
+// The last of the first `count` ends, if they rise.
+fn rising(ends: &[u16; 1024], count: usize) -> Option<usize>
     requires { (length ends.now ≡ 1024) × (count ≤ 1024) }
-    ensures { (result.rise ≡ rises 0 (take count ends.now)) × (result.last ≡ last 0 (take count ends.now)) }
+    ensures { result ≡ last_of (take count ends.now) }
 {
     let mut rise = true;
-    let mut last: usize = 0;
-    let mut k = 0;
-    while k < count {
-        let end = grid::wide(ends[k]);
+    let mut last = 0;
+    for k in 0..count {
+        let end = usize::from(ends[k]);
         if end <= last {
             rise = false;
         }
         last = end;
-        k += 1;
     }
-    Ends { rise, last }
+    if rise { Some(last) } else { None }
 }
 
 // Marks the first `count` cells of the list; false where one is n or more, or is marked already.
@@ -89,9 +77,8 @@ pub fn mark(marks: &mut [u8; 1024], list: &[u16; 1024], count: usize, n: usize) 
     requires { Blank marks.old × (length list.now ≡ 1024) × (count ≤ 1024) × (n ≤ 1024) }
     ensures { (result ≡ fresh n [] (take count list.now)) × (result ≡ true → Marks marks.new (λ i. member i (take count list.now))) }
 {
-    let mut k = 0;
-    while k < count {
-        let i = grid::wide(list[k]);
+    for k in 0..count {
+        let i = usize::from(list[k]);
         if n <= i {
             return false;
         }
@@ -99,7 +86,6 @@ pub fn mark(marks: &mut [u8; 1024], list: &[u16; 1024], count: usize, n: usize) 
             return false;
         }
         marks[i] = 1;
-        k += 1;
     }
     true
 }
@@ -109,10 +95,8 @@ fn mark_rows(starts: &mut [u8; 1024], n: usize, w: usize)
     requires { Blank starts.old × (n ≤ 1024) × (0 < w) × (w ≤ 32) }
     ensures { RowStarts n w starts.new }
 {
-    let mut at = 0;
-    while at < n {
+    for at in (0..n).step_by(w) {
         starts[at] = 1;
-        at += w;
     }
 }
 
@@ -149,15 +133,13 @@ fn follows<'a>(
         → result ≡ is_path g (take (end - at) (drop at line.now)) }
 {
     let mut good = true;
-    let mut i = grid::wide(line[at]);
-    let mut k = at + 1;
-    while k < end {
-        let j = grid::wide(line[k]);
+    let mut i = usize::from(line[at]);
+    for k in at + 1..end {
+        let j = usize::from(line[k]);
         if !beside(starts, w, i, j) {
             good = false;
         }
         i = j;
-        k += 1;
     }
     good
 }
@@ -176,14 +158,12 @@ fn all_follow<'a>(
 {
     let mut good = true;
     let mut at: usize = 0;
-    let mut k = 0;
-    while k < count {
-        let end = grid::wide(ends[k]);
+    for k in 0..count {
+        let end = usize::from(ends[k]);
         if !follows(arrows, starts, w, at, end) {
             good = false;
         }
         at = end;
-        k += 1;
     }
     good
 }
@@ -232,38 +212,35 @@ fn good_arrows<'a>(
     zeros(arrows, total)
 }
 
-// Whether the arrays are those of an accepted record.
-pub fn good_problem<'a>(
-    height: usize,
-    width: usize,
-    count: usize,
-    cells: &'a [u8; 1024],
-    arrows: &'a [u16; 1024],
-    ends: &'a [u16; 1024],
-) -> bool
-    requires { (length cells.now ≡ 1024) × (length arrows.now ≡ 1024) × (length ends.now ≡ 1024) }
-    ensures { result ≡ problem_formed (record { height = height; width = width; cells = cells.now; arrows = arrows.now; ends = ends.now; count = count }) }
+// Whether a problem is that of an accepted record.
+pub fn is_formed(problem: &Problem) -> bool
+    ensures { result ≡ problem_formed problem.now }
 {
-    if !good_size(height, width) {
+    if !good_size(problem.height, problem.width) {
         return false;
     }
-    if 1024 < count {
+    if 1024 < problem.count {
         return false;
     }
-    let n = height * width;
-    let found = rising(ends, count);
-    let rise = found.rise;
-    if !rise {
+    let n = problem.height * problem.width;
+    let Some(total) = rising(&problem.ends, problem.count) else {
+        return false;
+    };
+    if !good_arrows(
+        &problem.arrows,
+        &problem.ends,
+        n,
+        problem.width,
+        problem.count,
+        total,
+    ) {
         return false;
     }
-    if !good_arrows(arrows, ends, n, width, count, found.last) {
+    if !low_codes(&problem.cells, n) {
         return false;
     }
-    if !low_codes(cells, n) {
+    if !filled(&problem.cells, n, 0) {
         return false;
     }
-    if !filled(cells, n, 0) {
-        return false;
-    }
-    zeros(ends, count)
+    zeros(&problem.ends, problem.count)
 }

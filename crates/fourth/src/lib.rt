@@ -6,8 +6,6 @@ ghost use Rattle.literals.specs.Inside.{FoundAs, Fit};
 ghost use Rattle.growth.specs.Pairs.{pair_at, view_on, Scene, Grouped, Squares};
 ghost use Rattle.growth.specs.Growth.{reason4a_at, reason4b_at};
 
-use literals::Finding;
-
 // Reason 4 (a) for the squares at two places of an arrow.
 pub fn check_growth(
     cells: &[u8; 1024],
@@ -25,7 +23,7 @@ pub fn check_growth(
     near: &mut [u8; 1024],
     groups: &mut [u16; 1024],
     buffer: &mut [u16],
-) -> Finding
+) -> Option<usize>
     requires { Fit h w buffer.old × Squares h w cells.now arrows.now kinds.now owners.now last cur
         × Grouped kinds.now owners.now head.now next.now sizes.now squares.now (h * w) × (length groups.old ≡ 1024) }
     ensures answer { (lines : List (List ℕ))
@@ -40,12 +38,12 @@ pub fn check_growth(
         kinds, owners, head, next, sizes, squares, h, w, block, near, groups,
     );
     if growth::block_size(squares, last_block) + 1 <= reach {
-        return Finding::Nothing;
+        return None;
     }
     let literals = growth::reason_for_pair(
         cells, kinds, owners, h, w, last_block, cell, block, buffer,
     );
-    Finding::Reason(literals)
+    Some(literals)
 }
 
 // Reason 4 (b) for the squares at two places of an arrow.
@@ -65,7 +63,7 @@ pub fn check_gap(
     near: &mut [u8; 1024],
     groups: &mut [u16; 1024],
     buffer: &mut [u16],
-) -> Finding
+) -> Option<usize>
     requires { Fit h w buffer.old × Squares h w cells.now arrows.now kinds.now owners.now last cur
         × Grouped kinds.now owners.now head.now next.now sizes.now squares.now (h * w) × (length groups.old ≡ 1024) }
     ensures answer { (lines : List (List ℕ))
@@ -81,11 +79,11 @@ pub fn check_gap(
     );
     let gap = growth::gap_count(cells, arrows, last + 2, cur - 1);
     if growth::block_size(squares, block) <= reach + 1 + gap {
-        return Finding::Nothing;
+        return None;
     }
     let literals = growth::reason_for_pair(
         cells, kinds, owners, h, w, block, cell, last_block, buffer,
     );
     let more = growth::reason_for_gap(cells, arrows, last + 2, cur - 1, &mut buffer[literals..]);
-    Finding::Reason(literals + more)
+    Some(literals + more)
 }

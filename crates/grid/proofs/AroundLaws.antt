@@ -9,8 +9,7 @@ use mathlib.Core.Bool.{Bool, true, false}
 use mathlib.Core.List.{List, [], ◌∷◌, ◌++◌, append_assoc, append-nil, Memᴰ}
 use lib.ListN.{length, get_or, set, replicate, length-append, get_or-append}
 use lib.Seq.{set_at}
-use Rattle.grid.specs.declared.Side.{Side}
-use Rattle.grid.specs.declared.Side.TheVariants.{At, Off}
+use Rattle.std.specs.Prelude.{Option, Some, None}
 use Rattle.grid.specs.Grid.{Grid, size, only, up, down, left, right, neighbours, Adjacent}
 use Rattle.grid.specs.Side.{sized, towards, beside_of, around_of, InGrid}
 use Rattle.grid.proofs.GridLaws.{beside, on_grid}
@@ -35,12 +34,12 @@ gathered g i (suc k) = gathered g i k ++ towards g i k
 
 module _ (g : Grid) (i : ℕ) where
   -- a direction with a neighbour adds it
-  pub gathered_next : (k j : ℕ) → At j ≡ beside_of g i k → gathered g i (k + 1) ≡ gathered g i k ++ (j ∷ [])
+  pub gathered_next : (k j : ℕ) → Some j ≡ beside_of g i k → gathered g i (k + 1) ≡ gathered g i k ++ (j ∷ [])
   unfolding gathered
   gathered_next k j e = rw (add-one k, gathered, beside_at g i k j e) refl
 
   -- a direction without a neighbour adds nothing
-  pub gathered_same : (k : ℕ) → Off ≡ beside_of g i k → gathered g i (k + 1) ≡ gathered g i k
+  pub gathered_same : (k : ℕ) → None ≡ beside_of g i k → gathered g i (k + 1) ≡ gathered g i k
   unfolding gathered
   gathered_same k e = rw (add-one k, gathered, beside_off g i k e) (append-nil (gathered g i k))
 
@@ -62,7 +61,7 @@ module _ (g : Grid) (i : ℕ) where
   Gathered-none = record { places = refl; number = refl; few = omega arith }
 
   -- a direction with a neighbour
-  pub Gathered-at : (k j : ℕ) (cells : List ℕ) (count : ℕ) → k < 4 → Gathered g i k cells count → At j ≡ beside_of g i k → Gathered g i (k + 1) (set cells count j) (count + 1)
+  pub Gathered-at : (k j : ℕ) (cells : List ℕ) (count : ℕ) → k < 4 → Gathered g i k cells count → Some j ≡ beside_of g i k → Gathered g i (k + 1) (set cells count j) (count + 1)
   Gathered-at k j cells count h G e =
       let next = gathered_next g i k j e in
       let long = length-append (gathered g i k) (j ∷ []) in
@@ -73,7 +72,7 @@ module _ (g : Grid) (i : ℕ) where
       }
 
   -- a direction without a neighbour
-  pub Gathered-off : (k : ℕ) (cells : List ℕ) (count : ℕ) → Gathered g i k cells count → Off ≡ beside_of g i k → Gathered g i (k + 1) cells count
+  pub Gathered-off : (k : ℕ) (cells : List ℕ) (count : ℕ) → Gathered g i k cells count → None ≡ beside_of g i k → Gathered g i (k + 1) cells count
   Gathered-off k cells count G e =
       let same = gathered_same g i k e in
       record { places = rw same G.places; number = rw same G.number; few = rw same (omega (arith, G.few)) }
@@ -123,25 +122,25 @@ module _ (g : Grid) (i : ℕ) where
 
 -- ---- for callers that look in the four directions in turn. r is what `toward` answers in direction k, with the row and the column of cell i
 
-module _ {h w i : ℕ} (G : InGrid h w i) (k : ℕ) (r : Side) (is : r ≡ beside_of (sized h w) (i / w * w + i % w) k) where
+module _ {h w i : ℕ} (G : InGrid h w i) (k : ℕ) (r : Option ℕ) (is : r ≡ beside_of (sized h w) (i / w * w + i % w) k) where
   -- the answer is that for the cell
   side_of : r ≡ beside_of (sized h w) i k
   side_of = rw (div-add-mod' i w) at is
 
   -- a neighbour is beside the cell, and a cell of the grid
-  pub side_Adjacent : (j : ℕ) → r ≡ At j → Adjacent (sized h w) i j
+  pub side_Adjacent : (j : ℕ) → r ≡ Some j → Adjacent (sized h w) i j
   unfolding size
   side_Adjacent j e = beside_Adjacent (sized h w) i k j G.within (sym e ∙ side_of)
 
-  pub side_cell : (j : ℕ) → r ≡ At j → InGrid h w j
+  pub side_cell : (j : ℕ) → r ≡ Some j → InGrid h w j
   unfolding size
   side_cell j e = record { tall = G.tall; wide = G.wide; within = beside_in (sized h w) i k j G.within (sym e ∙ side_of) }
 
   -- what holds of the neighbours up to it, or of those before a direction without one, holds of those in one direction more
-  pub side_at : (P : List ℕ → Type 0) (j : ℕ) → r ≡ At j → P (gathered (sized h w) i k ++ (j ∷ [])) → P (gathered (sized h w) i (k + 1))
+  pub side_at : (P : List ℕ → Type 0) (j : ℕ) → r ≡ Some j → P (gathered (sized h w) i k ++ (j ∷ [])) → P (gathered (sized h w) i (k + 1))
   side_at P j e p = subst P (sym (gathered_next (sized h w) i k j (sym e ∙ side_of))) p
 
-  pub side_off : (P : List ℕ → Type 0) → r ≡ Off → P (gathered (sized h w) i k) → P (gathered (sized h w) i (k + 1))
+  pub side_off : (P : List ℕ → Type 0) → r ≡ None → P (gathered (sized h w) i k) → P (gathered (sized h w) i (k + 1))
   side_off P e p = subst P (sym (gathered_same (sized h w) i k (sym e ∙ side_of))) p
 
 -- before the first direction there are none, and after the fourth they are all

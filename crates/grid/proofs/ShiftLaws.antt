@@ -12,10 +12,7 @@ use lib.Dec.{eqb, ltb}
 use lib.IntN.{pos, negsuc, ◌-ℤ◌}
 use lib.Signed.{mag}
 use borrow.Author.Tests.{eqb-true, eq-eqb, ltb-true, ltb-false}
-use Rattle.grid.specs.declared.Step.{Step}
-use Rattle.grid.specs.declared.Step.TheVariants.{To, Outside}
-use Rattle.grid.specs.declared.Side.{Side}
-use Rattle.grid.specs.declared.Side.TheVariants.{At, Off}
+use Rattle.std.specs.Prelude.{Option, Some, None}
 use Rattle.grid.specs.Lists.{any, member}
 use Rattle.grid.specs.Grid.{Grid, size, row, col}
 use Rattle.grid.specs.Side.{moved_of, side_at, shifted_of, landing, Landed, lands}
@@ -51,24 +48,24 @@ to_way a (suc f) t r e = go (ltb t (suc f)) refl
     go false k = omega (arith, ltb-false t (suc f) k)
 
 -- what two moves that lead to a cell are
-data Led (w : ℕ) (s t : Step) (d : ℕ) : Type 0 where
-  led : (y x : ℕ) → s ≡ To y → t ≡ To x → d ≡ y * w + x → Led w s t d
+data Led (w : ℕ) (s t : Option ℕ) (d : ℕ) : Type 0 where
+  led : (y x : ℕ) → s ≡ Some y → t ≡ Some x → d ≡ y * w + x → Led w s t d
 
-Led-by : (w : ℕ) (s t : Step) (d : ℕ) → side_at w s t ≡ At d → Led w s t d
+Led-by : (w : ℕ) (s t : Option ℕ) (d : ℕ) → side_at w s t ≡ Some d → Led w s t d
 unfolding side_at
-Led-by w (To y) (To x) d e = led y x refl refl (cc)
-Led-by w (To y) Outside d e = let z : ◌≡◌ {A = ℕ} 0 1 = cc in absurd (omega arith)
-Led-by w Outside t d e = let z : ◌≡◌ {A = ℕ} 0 1 = cc in absurd (omega arith)
+Led-by w (Some y) (Some x) d e = led y x refl refl (cc)
+Led-by w (Some y) None d e = let z : ◌≡◌ {A = ℕ} 0 1 = cc in absurd (omega arith)
+Led-by w None t d e = let z : ◌≡◌ {A = ℕ} 0 1 = cc in absurd (omega arith)
 
-off_by : (s : Side) → ((d : ℕ) → ¬ (s ≡ At d)) → s ≡ Off
-off_by (At d) h = absurd (h d refl)
-off_by Off h = refl
+off_by : (s : Option ℕ) → ((d : ℕ) → ¬ (s ≡ Some d)) → s ≡ None
+off_by (Some d) h = absurd (h d refl)
+off_by None h = refl
 
 module _ (g : Grid) (f t c : ℕ) where
   abbrev W : ℕ
   W = g.width
 
-  landing_to : (d : ℕ) → landing g f t c ≡ At d → Landed g f t c d
+  landing_to : (d : ℕ) → landing g f t c ≡ Some d → Landed g f t c d
   unfolding shifted_of row col size
   landing_to d e = go (Led-by W _ _ d e)
     where
@@ -84,7 +81,7 @@ module _ (g : Grid) (f t c : ℕ) where
             cols = rw d_col (way_to (col g c) (col g f) (col g t) x s.1);
           }
 
-  to_landing : (d : ℕ) → Landed g f t c d → landing g f t c ≡ At d
+  to_landing : (d : ℕ) → Landed g f t c d → landing g f t c ≡ Some d
   unfolding shifted_of side_at row col size
   to_landing d h =
       let some : 0 < W = width_pos g h.inside in
@@ -92,14 +89,14 @@ module _ (g : Grid) (f t c : ℕ) where
         to_moved (row g c) (pos (row g t) -ℤ pos (row g f)) g.height (row g d) ((div-lt_iff_lt-mul some).1 h.inside) (to_way (row g c) (row g f) (row g t) (row g d) h.rows),
         to_moved (col g c) (pos (col g t) -ℤ pos (col g f)) W (col g d) (mod-lt d some) (to_way (col g c) (col g f) (col g t) (col g d) h.cols),
       )
-      (ap At (index g d))
+      (ap Some (index g d))
 
   -- the signed offsets lead to d exactly when the sums say so
-  pub landing_at : (d : ℕ) → (landing g f t c ≡ At d) ↔ Landed g f t c d
+  pub landing_at : (d : ℕ) → (landing g f t c ≡ Some d) ↔ Landed g f t c d
   landing_at d = (landing_to d, to_landing d)
 
   -- the signed offsets lead off the grid exactly when the sums hold for no cell
-  pub landing_off : (landing g f t c ≡ Off) ↔ ((d : ℕ) → ¬ Landed g f t c d)
+  pub landing_off : (landing g f t c ≡ None) ↔ ((d : ℕ) → ¬ Landed g f t c d)
   landing_off = (λ e d h. let k = to_landing d h in let z : ◌≡◌ {A = ℕ} 0 1 = cc in omega arith, λ n. off_by (landing g f t c) (λ d e. n d (landing_to d e)))
 
 -- the test says that rows and columns add up
@@ -113,9 +110,9 @@ module _ (g : Grid) (f t c d : ℕ) where
   sums_lands r k = true-and (eq-eqb (row g d + row g f) (row g c + row g t) r) (eq-eqb (col g d + col g f) (col g c + col g t) k)
 
 -- a place of the grid is in the list
-unfoldable pub side_in : Side → List ℕ → Bool
-side_in (At d) r = member d r
-side_in Off r = false
+unfoldable pub side_in : Option ℕ → List ℕ → Bool
+side_in (Some d) r = member d r
+side_in None r = false
 
 module _ (g : Grid) (f t c : ℕ) where
   -- a cell of the list passes it exactly when the signed offsets lead into the list
@@ -123,11 +120,11 @@ module _ (g : Grid) (f t c : ℕ) where
   unfolding side_in
   landing-any r inside = go (landing g f t c) refl
     where
-      found : So (any (lands g f t c) r) → (d : ℕ) × Memᴰ d r × (landing g f t c ≡ At d)
+      found : So (any (lands g f t c) r) → (d : ℕ) × Memᴰ d r × (landing g f t c ≡ Some d)
       found h = let k = any-mem (lands g f t c) r h in (k.0, k.1, (landing_at g f t c k.0).1 (let e = lands_sums g f t c k.0 k.2 in record { inside = inside k.0 k.1; rows = e.0; cols = e.1 }))
 
-      go : (s : Side) → landing g f t c ≡ s → any (lands g f t c) r ≡ side_in s r
-      go (At d) e = same_test _ _
+      go : (s : Option ℕ) → landing g f t c ≡ s → any (lands g f t c) r ≡ side_in s r
+      go (Some d) e = same_test _ _
           (λ h. let k = found h in let q : k.0 ≡ d = cc k.2 in mem-member d r (rw q at k.1))
           (λ h. mem-any (lands g f t c) r (member-mem d r h) (let h = (landing_at g f t c d).0 e in sums_lands g f t c d h.rows h.cols))
-      go Off e = So-false _ (λ h. let k = found h in let z : ◌≡◌ {A = ℕ} 0 1 = cc k.2 in omega arith)
+      go None e = So-false _ (λ h. let k = found h in let z : ◌≡◌ {A = ℕ} 0 1 = cc k.2 in omega arith)

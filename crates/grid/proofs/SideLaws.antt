@@ -17,8 +17,7 @@ use lib.Signed.{mag}
 use mir.Syntax.{w32}
 use mir.Val.{to_z, of_z}
 use borrow.Author.Tests.{lt-ltb, le-ltb, ltb-true, ltb-false, le-leb, lt-leb}
-use Rattle.grid.specs.declared.Step.TheVariants.{To, Outside}
-use Rattle.grid.specs.declared.Side.TheVariants.{At, Off}
+use Rattle.std.specs.Prelude.{Some, None}
 use Rattle.grid.specs.Grid.{Grid, size, col, only, up, down, left, right, neighbours, Adjacent}
 use Rattle.grid.specs.Side.{sized, moved_of, side_at, shifted_of, towards, side_of, beside_of, InGrid, InPlace}
 use Rattle.grid.proofs.GridLaws.{width_pos, size_most, on_grid, beside}
@@ -59,29 +58,29 @@ abbrev pub Reaches : ℕ → ℤ → ℕ → Type 0
 Reaches a (pos n) r = r ≡ a + n
 Reaches a (negsuc n) r = r + suc n ≡ a
 
-to_by : (t : Bool) (n l r : ℕ) → ltb n l ≡ t → cond t (To n) Outside ≡ To r → (r < l) × (r ≡ n)
+to_by : (t : Bool) (n l r : ℕ) → ltb n l ≡ t → cond t (Some n) None ≡ Some r → (r < l) × (r ≡ n)
 to_by true n l r e f = let s : r ≡ n = cc in (omega (arith, ltb-true n l e), s)
 to_by false n l r e f = let z : ◌≡◌ {A = ℕ} 0 1 = cc in absurd (omega arith)
 
-to_back : (t : Bool) (a n l r : ℕ) → ltb n a ≡ t → cond t (cond (ltb (a - suc n) l) (To (a - suc n)) Outside) Outside ≡ To r → (r < l) × (r + suc n ≡ a)
+to_back : (t : Bool) (a n l r : ℕ) → ltb n a ≡ t → cond t (cond (ltb (a - suc n) l) (Some (a - suc n)) None) None ≡ Some r → (r < l) × (r + suc n ≡ a)
 to_back true a n l r e f =
     let q = to_by (ltb (a - suc n) l) (a - suc n) l r refl f in
     (q.0, omega (arith, q.1, ltb-true n a e))
 to_back false a n l r e f = let z : ◌≡◌ {A = ℕ} 0 1 = cc in absurd (omega arith)
 
 -- a move leads to the place that many steps on, below the limit
-pub moved_to : (a : ℕ) (d : ℤ) (l r : ℕ) → moved_of a d l ≡ To r → (r < l) × Reaches a d r
+pub moved_to : (a : ℕ) (d : ℤ) (l r : ℕ) → moved_of a d l ≡ Some r → (r < l) × Reaches a d r
 unfolding moved_of
 moved_to a (pos n) l r e = to_by (ltb (a + n) l) (a + n) l r refl e
 moved_to a (negsuc n) l r e = to_back (ltb n a) a n l r refl e
 
 -- a place that many steps on, below the limit, is where the move leads
-pub to_moved : (a : ℕ) (d : ℤ) (l r : ℕ) → r < l → Reaches a d r → moved_of a d l ≡ To r
+pub to_moved : (a : ℕ) (d : ℤ) (l r : ℕ) → r < l → Reaches a d r → moved_of a d l ≡ Some r
 unfolding moved_of
-to_moved a (pos n) l r h e = simp (lt-ltb (a + n) l (omega arith)) (ap To (sym e))
+to_moved a (pos n) l r h e = simp (lt-ltb (a + n) l (omega arith)) (ap Some (sym e))
 to_moved a (negsuc n) l r h e =
     let q : a - suc n ≡ r = omega arith in
-    simp (lt-ltb n a (omega arith), lt-ltb (a - suc n) l (omega arith)) (ap To q)
+    simp (lt-ltb n a (omega arith), lt-ltb (a - suc n) l (omega arith)) (ap Some q)
 
 -- the index of a cell is small
 pub index_small : {h w : ℕ} (y x : ℕ) → h ≤ 32 → w ≤ 32 → y < h → x < w → (y * w < 1024) × (y * w + x < 1024)
@@ -91,15 +90,15 @@ index_small {h} {w} y x p q r s =
 
 -- a shift by its two moves
 module _ (h w y x : ℕ) (dy dx : ℤ) where
-  pub both : (r c : ℕ) → To r ≡ moved_of y dy h → To c ≡ moved_of x dx w → At (r * w + c) ≡ shifted_of h w y x dy dx
+  pub both : (r c : ℕ) → Some r ≡ moved_of y dy h → Some c ≡ moved_of x dx w → Some (r * w + c) ≡ shifted_of h w y x dy dx
   unfolding shifted_of side_at
   both r c e f = rw (← e, ← f) refl
 
-  pub off_column : (r : ℕ) → To r ≡ moved_of y dy h → Outside ≡ moved_of x dx w → Off ≡ shifted_of h w y x dy dx
+  pub off_column : (r : ℕ) → Some r ≡ moved_of y dy h → None ≡ moved_of x dx w → None ≡ shifted_of h w y x dy dx
   unfolding shifted_of side_at
   off_column r e f = rw (← e, ← f) refl
 
-  pub off_row : Outside ≡ moved_of y dy h → Off ≡ shifted_of h w y x dy dx
+  pub off_row : None ≡ moved_of y dy h → None ≡ shifted_of h w y x dy dx
   unfolding shifted_of side_at
   off_row e = rw (← e) refl
 
@@ -135,7 +134,7 @@ module _ (h w : ℕ) where
       let e : suc y * w ≡ y * w + w = suc-mul y w in
       let s : suc y - 1 ≡ y = omega arith in
       simp (lt-ltb 0 (suc y) (omega arith), lt-ltb (suc y - 1) h (omega arith), lt-ltb (x + 0) w (omega arith), le-leb w (suc y * w + x) (omega arith))
-      (ap At (omega (arith, ap (λ (n : ℕ). n * w) s)))
+      (ap Some (omega (arith, ap (λ (n : ℕ). n * w) s)))
 
   Leads-down : (y x : ℕ) → y < h → x < w → Leads y x 1
   unfolding shifted_of side_at moved_of beside_of side_of towards down only size
@@ -148,7 +147,7 @@ module _ (h w : ℕ) where
       go true t =
           let k : (y + 1) * w + x < h * w = digits_lt (ltb-true (y + 1) h t) q in
           simp (t, lt-ltb (x + 0) w (omega arith), lt-ltb (y * w + x + w) (h * w) (omega (arith, next)))
-          (ap At (omega (arith, next)))
+          (ap Some (omega (arith, next)))
       go false t = simp (t, le-ltb (y * w + x + w) (h * w) (omega (arith, next, mul-le-mul_right w (ltb-false (y + 1) h t))))
 
   Leads-left : (y x : ℕ) → y < h → x < w → Leads y x 2
@@ -157,7 +156,7 @@ module _ (h w : ℕ) where
   Leads-left y (suc x) p q =
       let e : y + 0 ≡ y = omega arith in
       simp (digits_mod y {m = w} {r = suc x} q, lt-ltb (y + 0) h (omega arith), lt-ltb 0 (suc x) (omega arith), lt-ltb (suc x - 1) w (omega arith))
-      (ap At (omega (arith, ap (λ (n : ℕ). n * w) e)))
+      (ap Some (omega (arith, ap (λ (n : ℕ). n * w) e)))
 
   Leads-right : (y x : ℕ) → y < h → x < w → Leads y x 3
   unfolding shifted_of side_at moved_of beside_of side_of towards right only col
@@ -167,7 +166,7 @@ module _ (h w : ℕ) where
       same = let e : y + 0 ≡ y = omega arith in ap (λ (n : ℕ). n * w) e
 
       go : (t : Bool) → ltb (x + 1) w ≡ t → Leads y x 3
-      go true t = simp (digits_mod y {m = w} {r = x} q, t, lt-ltb (y + 0) h (omega arith)) (ap At (omega (arith, same)))
+      go true t = simp (digits_mod y {m = w} {r = x} q, t, lt-ltb (y + 0) h (omega arith)) (ap Some (omega (arith, same)))
       go false t = simp (digits_mod y {m = w} {r = x} q, t, lt-ltb (y + 0) h (omega arith))
 
   pub leads : (y x : ℕ) → y < h → x < w → (k : ℕ) → k < 4 → Leads y x k
@@ -189,22 +188,22 @@ towards_one g i (suc (suc zero)) = only_one _ _
 towards_one g i (suc (suc (suc k))) = only_one _ _
 
 -- the answer names the one that there is
-pub beside_at : (g : Grid) (i k j : ℕ) → At j ≡ beside_of g i k → towards g i k ≡ j ∷ []
+pub beside_at : (g : Grid) (i k j : ℕ) → Some j ≡ beside_of g i k → towards g i k ≡ j ∷ []
 unfolding beside_of side_of
 beside_at g i k j e = go (towards_one g i k)
   where
     go : (towards g i k ≡ []) ⊎ ((n : ℕ) × (towards g i k ≡ n ∷ [])) → towards g i k ≡ j ∷ []
-    go (inl f) = let q : At j ≡ Off = rw f at e in let z : ◌≡◌ {A = ℕ} 0 1 = cc in absurd (omega arith)
-    go (inr (n, f)) = let q : At j ≡ At n = rw f at e in let s : j ≡ n = cc in rw s f
+    go (inl f) = let q : Some j ≡ None = rw f at e in let z : ◌≡◌ {A = ℕ} 0 1 = cc in absurd (omega arith)
+    go (inr (n, f)) = let q : Some j ≡ Some n = rw f at e in let s : j ≡ n = cc in rw s f
 
 -- the answer says that there is none
-pub beside_off : (g : Grid) (i k : ℕ) → Off ≡ beside_of g i k → towards g i k ≡ []
+pub beside_off : (g : Grid) (i k : ℕ) → None ≡ beside_of g i k → towards g i k ≡ []
 unfolding beside_of side_of
 beside_off g i k e = go (towards_one g i k)
   where
     go : (towards g i k ≡ []) ⊎ ((n : ℕ) × (towards g i k ≡ n ∷ [])) → towards g i k ≡ []
     go (inl f) = f
-    go (inr (n, f)) = let q : Off ≡ At n = rw f at e in let z : ◌≡◌ {A = ℕ} 0 1 = cc in absurd (omega arith)
+    go (inr (n, f)) = let q : None ≡ Some n = rw f at e in let z : ◌≡◌ {A = ℕ} 0 1 = cc in absurd (omega arith)
 
 -- a direction's neighbour is one of the neighbours
 pub towards-mem : (g : Grid) (i k : ℕ) {j : ℕ} → Memᴰ j (towards g i k) → Memᴰ j (neighbours g i)
@@ -215,8 +214,8 @@ towards-mem g i (suc (suc zero)) m = Memᴰ.append_right (up g i) (Memᴰ.append
 towards-mem g i (suc (suc (suc k))) m = Memᴰ.append_right (up g i) (Memᴰ.append_right (down g i) (Memᴰ.append_right (left g i) m))
 
 -- the neighbour that an answer names is beside the cell, and on the grid
-pub beside_Adjacent : (g : Grid) (i k j : ℕ) → i < size g → At j ≡ beside_of g i k → Adjacent g i j
+pub beside_Adjacent : (g : Grid) (i k j : ℕ) → i < size g → Some j ≡ beside_of g i k → Adjacent g i j
 beside_Adjacent g i k j l e = (l, towards-mem g i k (rw (beside_at g i k j e) (Memᴰ.head refl)))
 
-pub beside_in : (g : Grid) (i k j : ℕ) → i < size g → At j ≡ beside_of g i k → j < size g
+pub beside_in : (g : Grid) (i k j : ℕ) → i < size g → Some j ≡ beside_of g i k → j < size g
 beside_in g i k j l e = on_grid g l (beside g i (beside_Adjacent g i k j l e).1)

@@ -11,7 +11,7 @@ use mir.Syntax.{w32, w64}
 use mir.Val.{Fits, SFits, to_z, of_z}
 use mir.ValLaws.{to_z_pos, to_z-of_z}
 use borrow.Author.Tests.{lt-ltb, le-ltb, ltb-true, ltb-false}
-use Rattle.grid.specs.declared.Step.TheVariants.{To, Outside}
+use Rattle.std.specs.Prelude.{Some, None}
 use Rattle.grid.specs.Side.{moved_of}
 
 -- the sum by its tests
@@ -49,31 +49,31 @@ not_negative (negsuc n) e = let z : ◌≡◌ {A = ℕ} 0 1 = cc in absurd (omeg
 no : {A : Type 0} (n : ℕ) → ltb n 0 ≡ true → A
 no n e = let h = ltb-true n 0 e in absurd (omega arith)
 
-before_by : (a n l : ℕ) (t : Bool) → ltb a (suc n) ≡ t → lt_z (pos a +ℤ negsuc n) (pos 0) ≡ true → Outside ≡ moved_of a (negsuc n) l
+before_by : (a n l : ℕ) (t : Bool) → ltb a (suc n) ≡ t → lt_z (pos a +ℤ negsuc n) (pos 0) ≡ true → None ≡ moved_of a (negsuc n) l
 unfolding moved_of
 before_by a n l true e f = let h = ltb-true a (suc n) e in simp (le-ltb n a (omega arith))
 before_by a n l false e f = no (a - suc n) (simp e at f)
 
-before : (a : ℕ) (d : ℤ) (l : ℕ) → lt_z (pos a +ℤ d) (pos 0) ≡ true → Outside ≡ moved_of a d l
+before : (a : ℕ) (d : ℤ) (l : ℕ) → lt_z (pos a +ℤ d) (pos 0) ≡ true → None ≡ moved_of a d l
 before a (pos n) l e = no (a + n) e
 before a (negsuc n) l e = before_by a n l _ refl e
 
-reached_by : (a n l : ℕ) (t : Bool) → ltb a (suc n) ≡ t → lt_z (pos a +ℤ negsuc n) (pos 0) ≡ false → nat_abs (pos a +ℤ negsuc n) < l → To (nat_abs (pos a +ℤ negsuc n)) ≡ moved_of a (negsuc n) l
+reached_by : (a n l : ℕ) (t : Bool) → ltb a (suc n) ≡ t → lt_z (pos a +ℤ negsuc n) (pos 0) ≡ false → nat_abs (pos a +ℤ negsuc n) < l → Some (nat_abs (pos a +ℤ negsuc n)) ≡ moved_of a (negsuc n) l
 unfolding moved_of
 reached_by a n l true e f lt = let g : true ≡ false = simp e at f in let z : ◌≡◌ {A = ℕ} 0 1 = cc in absurd (omega arith)
 reached_by a n l false e f lt = let h = ltb-false a (suc n) e in let k : a - suc n < l = simp e at lt in simp (e, lt-ltb n a (omega arith), lt-ltb _ _ k)
 
-reached : (a : ℕ) (d : ℤ) (l : ℕ) → lt_z (pos a +ℤ d) (pos 0) ≡ false → nat_abs (pos a +ℤ d) < l → To (nat_abs (pos a +ℤ d)) ≡ moved_of a d l
+reached : (a : ℕ) (d : ℤ) (l : ℕ) → lt_z (pos a +ℤ d) (pos 0) ≡ false → nat_abs (pos a +ℤ d) < l → Some (nat_abs (pos a +ℤ d)) ≡ moved_of a d l
 unfolding moved_of
 reached a (pos n) l e lt = simp (lt-ltb _ _ lt)
 reached a (negsuc n) l e lt = reached_by a n l _ refl e lt
 
-past_by : (a n l : ℕ) (t : Bool) → ltb a (suc n) ≡ t → lt_z (pos a +ℤ negsuc n) (pos 0) ≡ false → l ≤ nat_abs (pos a +ℤ negsuc n) → Outside ≡ moved_of a (negsuc n) l
+past_by : (a n l : ℕ) (t : Bool) → ltb a (suc n) ≡ t → lt_z (pos a +ℤ negsuc n) (pos 0) ≡ false → l ≤ nat_abs (pos a +ℤ negsuc n) → None ≡ moved_of a (negsuc n) l
 unfolding moved_of
 past_by a n l true e f le = let g : true ≡ false = simp e at f in let z : ◌≡◌ {A = ℕ} 0 1 = cc in absurd (omega arith)
 past_by a n l false e f le = let h = ltb-false a (suc n) e in let k : l ≤ a - suc n = simp e at le in simp (lt-ltb n a (omega arith), le-ltb _ _ k)
 
-past : (a : ℕ) (d : ℤ) (l : ℕ) → lt_z (pos a +ℤ d) (pos 0) ≡ false → l ≤ nat_abs (pos a +ℤ d) → Outside ≡ moved_of a d l
+past : (a : ℕ) (d : ℤ) (l : ℕ) → lt_z (pos a +ℤ d) (pos 0) ≡ false → l ≤ nat_abs (pos a +ℤ d) → None ≡ moved_of a d l
 unfolding moved_of
 past a (pos n) l e le = simp (le-ltb _ _ le)
 past a (negsuc n) l e le = past_by a n l _ refl e le
@@ -86,15 +86,15 @@ module _ (a : ℕ) (d : ℤ) (p : a < 1024) (q : mag d < 1024) where
   pub code_cast : lt_z code (pos 0) ≡ false → T (non_neg code) × Fits w64 (nat_abs code)
   code_cast e = (not_negative code e, record { fits = nat_abs_small code (subst (SFits w32) (sym (result a d p q)) (sum_small a d p q)) })
 
-  pub code_before : (l : ℕ) → lt_z code (pos 0) ≡ true → Outside ≡ moved_of a d l
+  pub code_before : (l : ℕ) → lt_z code (pos 0) ≡ true → None ≡ moved_of a d l
   code_before l e = before a d l (subst (λ (z : ℤ). lt_z z (pos 0) ≡ true) (result a d p q) e)
 
-  pub code_reached : (l : ℕ) → lt_z code (pos 0) ≡ false → nat_abs code < l → To (nat_abs code) ≡ moved_of a d l
+  pub code_reached : (l : ℕ) → lt_z code (pos 0) ≡ false → nat_abs code < l → Some (nat_abs code) ≡ moved_of a d l
   code_reached l e lt =
-      ap (λ (z : ℤ). To (nat_abs z)) (result a d p q)
+      ap (λ (z : ℤ). Some (nat_abs z)) (result a d p q)
       ∙ reached a d l (subst (λ (z : ℤ). lt_z z (pos 0) ≡ false) (result a d p q) e) (subst (λ (z : ℤ). nat_abs z < l) (result a d p q) lt)
 
-  pub code_past : (l : ℕ) → lt_z code (pos 0) ≡ false → l ≤ nat_abs code → Outside ≡ moved_of a d l
+  pub code_past : (l : ℕ) → lt_z code (pos 0) ≡ false → l ≤ nat_abs code → None ≡ moved_of a d l
   code_past l e le = past a d l (subst (λ (z : ℤ). lt_z z (pos 0) ≡ false) (result a d p q) e) (subst (λ (z : ℤ). l ≤ nat_abs z) (result a d p q) le)
 
 -- ---- the difference of two small numbers

@@ -1,11 +1,7 @@
 -- Signed moves on the grid, and the four neighbours one by one and together.
 -- Assumes nothing.
-use Rattle.std.specs.Prelude.{ℕ, zero, suc, ◌+◌, ◌-◌, ◌*◌, ◌≤◌, ◌<◌, ◌≡◌, Bool, cond, ◌&&◌, List, [], ◌∷◌, ◌++◌, eqb, ltb, ℤ, pos, negsuc, ◌-ℤ◌, length, replicate}
+use Rattle.std.specs.Prelude.{ℕ, zero, suc, ◌+◌, ◌-◌, ◌*◌, ◌≤◌, ◌<◌, ◌≡◌, Bool, cond, ◌&&◌, List, [], ◌∷◌, ◌++◌, eqb, ltb, ℤ, pos, negsuc, ◌-ℤ◌, length, replicate, Option, Some, None}
 use Rattle.grid.specs.Grid.{Grid, size, row, col, up, down, left, right, neighbours}
-use Rattle.grid.specs.declared.Step.{Step}
-use Rattle.grid.specs.declared.Step.TheVariants.{To, Outside}
-use Rattle.grid.specs.declared.Side.{Side}
-use Rattle.grid.specs.declared.Side.TheVariants.{At, Off}
 use Rattle.grid.specs.declared.Around.{Around}
 
 -- the grid of h rows and w columns
@@ -13,22 +9,22 @@ abbrev pub sized : ℕ → ℕ → Grid
 sized h w = record { height = h; width = w }
 
 -- the place that a signed offset leads to, if it is 0 or more and below the limit
-unfoldable pub moved_of : ℕ → ℤ → ℕ → Step
-moved_of at (pos n) limit = cond (ltb (at + n) limit) (To (at + n)) Outside
-moved_of at (negsuc n) limit = cond (ltb n at) (cond (ltb (at - suc n) limit) (To (at - suc n)) Outside) Outside
+unfoldable pub moved_of : ℕ → ℤ → ℕ → Option ℕ
+moved_of at (pos n) limit = cond (ltb (at + n) limit) (Some (at + n)) None
+moved_of at (negsuc n) limit = cond (ltb n at) (cond (ltb (at - suc n) limit) (Some (at - suc n)) None) None
 
 -- the cell at a row and a column
-unfoldable pub side_at : ℕ → Step → Step → Side
-side_at w (To y) (To x) = At (y * w + x)
-side_at w (To y) Outside = Off
-side_at w Outside t = Off
+unfoldable pub side_at : ℕ → Option ℕ → Option ℕ → Option ℕ
+side_at w (Some y) (Some x) = Some (y * w + x)
+side_at w (Some y) None = None
+side_at w None t = None
 
 -- a shift: the cell at row y, column x of an h by w grid, moved by a signed row and column offset
-unfoldable pub shifted_of : ℕ → ℕ → ℕ → ℕ → ℤ → ℤ → Side
+unfoldable pub shifted_of : ℕ → ℕ → ℕ → ℕ → ℤ → ℤ → Option ℕ
 shifted_of h w y x dy dx = side_at w (moved_of y dy h) (moved_of x dx w)
 
 -- the shift that takes the cell f to the cell t, by its signed row and column offset: where it takes the cell c
-abbrev pub landing : Grid → ℕ → ℕ → ℕ → Side
+abbrev pub landing : Grid → ℕ → ℕ → ℕ → Option ℕ
 landing g f t c = shifted_of g.height g.width (row g c) (col g c) (pos (row g t) -ℤ pos (row g f)) (pos (col g t) -ℤ pos (col g f))
 
 -- the same without signs: that shift takes c to the cell d
@@ -49,12 +45,12 @@ towards g i (suc (suc zero)) = left g i
 towards g i (suc (suc (suc k))) = right g i
 
 -- the cell of such a list
-unfoldable pub side_of : List ℕ → Side
-side_of [] = Off
-side_of (j ∷ js) = At j
+unfoldable pub side_of : List ℕ → Option ℕ
+side_of [] = None
+side_of (j ∷ js) = Some j
 
 -- the neighbour in direction k
-unfoldable pub beside_of : Grid → ℕ → ℕ → Side
+unfoldable pub beside_of : Grid → ℕ → ℕ → Option ℕ
 beside_of g i k = side_of (towards g i k)
 
 -- all neighbours in four places, 0 behind them

@@ -5,19 +5,12 @@ ghost use Rattle.std.specs.Prelude.{◌≡◌, cond, ◌+◌, ◌*◌, ◌<◌, 
 ghost use Rattle.std.specs.Int.Signed.{mag};
 ghost use Rattle.grid.specs.Side.{sized, moved_of, shifted_of, beside_of, around_of, InGrid, InPlace};
 
-// Where a signed offset leads along one axis.
-#[derive(Clone, Copy)]
-pub enum Step {
-    To(usize),
-    Outside,
-}
+// The states of a cell.
+pub const EMPTY: u8 = 0;
 
-// The cell that a move leads to, if it is one of the grid.
-#[derive(Clone, Copy)]
-pub enum Side {
-    At(usize),
-    Off,
-}
+pub const SQUARE: u8 = 1;
+
+pub const UNDECIDED: u8 = 2;
 
 // The neighbours of a cell, in the first `count` places.
 #[derive(Clone, Copy)]
@@ -51,20 +44,16 @@ pub fn pick(first: bool, a: u16, b: u16) -> u16
 }
 
 // The place `d` steps on, if it is not before the first and is below `limit`.
-fn moved(at: usize, d: i32, limit: usize) -> Step
+fn moved(at: usize, d: i32, limit: usize) -> Option<usize>
     requires { (at < 1024) × (mag d < 1024) }
     ensures { result ≡ moved_of at d limit }
 {
     let y = at as i32 + d;
     if y < 0 {
-        return Step::Outside;
+        return None;
     }
     let to = y as usize;
-    if to < limit {
-        Step::To(to)
-    } else {
-        Step::Outside
-    }
+    if to < limit { Some(to) } else { None }
 }
 
 // The signed way from one place to another.
@@ -76,24 +65,18 @@ pub fn offset(from: usize, to: usize) -> i32
 }
 
 // The cell that the one at row y, column x comes to by a signed row and column offset.
-pub fn shifted(h: usize, w: usize, y: usize, x: usize, dy: i32, dx: i32) -> Side
+pub fn shifted(h: usize, w: usize, y: usize, x: usize, dy: i32, dx: i32) -> Option<usize>
     requires { InPlace h w y x × (mag dy < 1024) × (mag dx < 1024) }
     ensures { result ≡ shifted_of h w y x dy dx }
 {
-    let row = moved(y, dy, h);
-    let column = moved(x, dx, w);
-    match row {
-        Step::To(to_y) => match column {
-            Step::To(to_x) => Side::At(to_y * w + to_x),
-            Step::Outside => Side::Off,
-        },
-        Step::Outside => Side::Off,
-    }
+    let to_y = moved(y, dy, h)?;
+    let to_x = moved(x, dx, w)?;
+    Some(to_y * w + to_x)
 }
 
 // The neighbour in direction k of the cell at row y, column x. A pass over many cells is quickest by this: it divides
 // nothing and keeps nothing in memory.
-pub fn toward(h: usize, w: usize, y: usize, x: usize, k: usize) -> Side
+pub fn toward(h: usize, w: usize, y: usize, x: usize, k: usize) -> Option<usize>
     requires { InPlace h w y x × (k < 4) }
     ensures { result ≡ beside_of (sized h w) (y * w + x) k }
 {
@@ -133,14 +116,10 @@ fn neighbours_at(h: usize, w: usize, y: usize, x: usize) -> Around
     let mut cells = [0u16; 4];
     let mut count = 0;
     for k in 0..4 {
-        let side = toward(h, w, y, x, k);
-        match side {
-            Side::At(j) => {
-                let more = put(cells, count, j as u16);
-                cells = more;
-                count += 1;
-            }
-            Side::Off => {}
+        if let Some(j) = toward(h, w, y, x, k) {
+            let more = put(cells, count, j as u16);
+            cells = more;
+            count += 1;
         }
     }
     Around { cells, count }

@@ -10,6 +10,7 @@ use mathlib.Core.List.{List, [], ◌∷◌}
 use lib.Dec.{eqb}
 use lib.ListN.{length, get_or, set, take, length-set, length-append}
 use lib.Seq.{take-suc, take-suc-set, take-set-le, get_or-set_same, get_or-set_other}
+use mir.Val.{bool_byte}
 use borrow.Author.Tests.{eq-eqb, ne_eqb}
 use Rattle.grid.specs.Lists.{range, upto, filter}
 use Rattle.grid.proofs.ListLaws.{split, place_in, filter-length}
@@ -18,9 +19,13 @@ use Rattle.grid.proofs.ArrayLaws.{fewer_set}
 use Rattle.groups.specs.Flood.{unlabelled, free, Offered, skip, take as taken}
 use Rattle.groups.specs.Table.{Unused, labelled, Counting}
 
--- 1 for a cell that passes
+-- 1 for a cell that passes, as the code converts the test
 abbrev bit : Bool → ℕ
-bit b = cond b 1 0
+bit = bool_byte
+
+pub bit_few : (b : Bool) → bool_byte b ≤ 1
+bit_few true = omega arith
+bit_few false = omega arith
 
 -- one more cell is counted if it passes
 count_next : (p : ℕ → Bool) (k : ℕ) → length (filter p (upto (k + 1))) ≡ length (filter p (upto k)) + bit (p k)
@@ -91,7 +96,7 @@ module _ (s : ℕ) (t : ℕ → Bool) where
           ∙ ap (λ (k : ℕ). length (filter t (take c st)) + k) (length-cond (t q) q)
 
   -- a cell leaves the stack and is counted if it passes
-  pub counted : {L st : List ℕ} {c x : ℕ} → 0 < c → c ≤ 1025 → Counting s t L st c x → Counting s t L st (c - 1) (cond (t (get_or st (c - 1) 0)) (x + 1) x)
+  pub counted : {L st : List ℕ} {c x : ℕ} → 0 < c → c ≤ 1025 → Counting s t L st c x → Counting s t L st (c - 1) (x + bit (t (get_or st (c - 1) 0)))
   counted {L} {st} {c} {x} pos room C = record { long = C.long; stack_long = C.stack_long; sum = go (t (get_or st (c - 1) 0)) (top ∙ ap (λ (k : ℕ). length (filter t (take (c - 1) st)) + k) (length-cond (t (get_or st (c - 1) 0)) (get_or st (c - 1) 0))) }
     where
       back : suc (c - 1) ≡ c
@@ -104,7 +109,7 @@ module _ (s : ℕ) (t : ℕ → Bool) where
           ∙ ap length (filter_more t (take (c - 1) st) (get_or st (c - 1) 0))
           ∙ length-append (filter t (take (c - 1) st)) (cond (t (get_or st (c - 1) 0)) (get_or st (c - 1) 0 ∷ []) [])
 
-      go : (b : Bool) → length (filter t (take c st)) ≡ length (filter t (take (c - 1) st)) + bit b → cond b (x + 1) x + length (filter t (take (c - 1) st)) ≡ length (labelled L t s)
+      go : (b : Bool) → length (filter t (take c st)) ≡ length (filter t (take (c - 1) st)) + bit b → x + bit b + length (filter t (take (c - 1) st)) ≡ length (labelled L t s)
       go true e = omega (arith, e, C.sum)
       go false e = omega (arith, e, C.sum)
 

@@ -14,7 +14,7 @@ use lib.Seq.{get_or-set_same, get_or-set_other}
 use Rattle.grid.specs.Link.{here, step}
 use Rattle.grid.specs.Grid.{Grid, size, cells_of, neighbours}
 use Rattle.grid.specs.Side.{sized, beside_of, InPlace}
-use Rattle.grid.specs.declared.Side.TheVariants.{At}
+use Rattle.std.specs.Prelude.{Some}
 use Rattle.grid.proofs.SideLaws.{area, in_place, in_grid, beside_at, beside_in, towards-mem}
 use Rattle.grid.proofs.AroundLaws.{gathered, gathered_next, gathered_same, gathered_all}
 use Rattle.grid.proofs.ListLaws.{split, So-false, place_in}
@@ -94,7 +94,7 @@ module _ {q s : ℕ} {L st : List ℕ} {c : ℕ} {L' st' : List ℕ} {r : ℕ} (
       }
 
 -- a neighbour is an entry
-pub beside_small : {h w y x q : ℕ} (k : ℕ) → InPlace h w y x → At q ≡ beside_of (sized h w) (y * w + x) k → q < 1024
+pub beside_small : {h w y x q : ℕ} (k : ℕ) → InPlace h w y x → Some q ≡ beside_of (sized h w) (y * w + x) k → q < 1024
 unfolding size
 beside_small {h} {w} {y} {x} {q} k p e = omega (arith, beside_in (sized h w) (y * w + x) k q (in_grid p).within e, area h w p.tall p.wide)
 

@@ -20,6 +20,8 @@ use Rattle.grid.proofs.AppendLaws.{filter-upto}
 use Rattle.grid.proofs.FilledLaws.{filled_at, filled_past}
 use Rattle.grid.specs.Cells.{empty, square, potential}
 use Rattle.groups.specs.Groups.{Joined, labels, group}
+use Rattle.groups.specs.declared.Members.{Members}
+use Rattle.groups.specs.declared.Members.TheVariants.{Potential, Squares}
 use Rattle.groups.specs.Arrays.{no_group, label_at, label_array, counts}
 use Rattle.groups.proofs.GroupLaws.{label, label_linked, linked_label, label_own, label_least, linked_size}
 
@@ -84,19 +86,20 @@ module _ (g : Grid) (p : ℕ → Bool) where
   name_least i j h n = omega (arith, label_in i h (Linked-start n), label_least g p i j h (linked_size g p h n) n)
 
 -- a cell counts by its own entry
-pub counts-take : (b : Bool) (cells : List ℕ) (n i : ℕ) → i < n → counts b (take n cells) i ≡ counts b cells i
+pub counts-take : (m : Members) (cells : List ℕ) (n i : ℕ) → i < n → counts m (take n cells) i ≡ counts m cells i
 unfolding counts potential empty square
-counts-take b cells n i h = rw (get_or-take n cells i 0 h)
+counts-take Potential cells n i h = rw (get_or-take n cells i 0 h)
+counts-take Squares cells n i h = rw (get_or-take n cells i 0 h)
 
 -- and only cells of the grid count
-pub counts_below : (b : Bool) (cells : List ℕ) (n i : ℕ) → So (counts b (take n cells) i) → i < n
+pub counts_below : (m : Members) (cells : List ℕ) (n i : ℕ) → So (counts m (take n cells) i) → i < n
 unfolding counts potential empty square
-counts_below b cells n i o = go (dec_lt i n)
+counts_below m cells n i o = go (dec_lt i n)
   where
-    past : (b : Bool) → get_or (take n cells) i 0 ≡ 0 → counts b (take n cells) i ≡ false
-    past true e = rw e
-    past false e = rw e
+    past : (m : Members) → get_or (take n cells) i 0 ≡ 0 → counts m (take n cells) i ≡ false
+    past Potential e = rw e
+    past Squares e = rw e
 
     go : Dec (i < n) → i < n
     go (yes h) = h
-    go (no h) = absurd (false≢true (sym (past b (get_or-eq_default (take n cells) 0 {n = i} (simp length-take (omega (arith, h))))) ∙ o))
+    go (no h) = absurd (false≢true (sym (past m (get_or-eq_default (take n cells) 0 {n = i} (simp length-take (omega (arith, h))))) ∙ o))

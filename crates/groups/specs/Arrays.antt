@@ -7,6 +7,8 @@ use Rattle.grid.specs.Lists.{filter, array_of}
 use Rattle.grid.specs.Cells.{square, potential}
 use Rattle.record.specs.Problem.{arrows_from}
 use Rattle.record.specs.Record.{Puzzle}
+use Rattle.groups.specs.declared.Members.{Members}
+use Rattle.groups.specs.declared.Members.TheVariants.{Potential, Squares}
 use Rattle.groups.specs.Groups.{labels, group, names}
 use Rattle.groups.specs.Arrows.{on_arrow}
 
@@ -23,8 +25,9 @@ unfoldable pub label_array : Grid → (ℕ → Bool) → List ℕ
 label_array g p = array_of no_group (map (label_at g p) (cells_of g))
 
 -- the cells that count: for potential groups those that aren't empty, for blocks the squares
-unfoldable pub counts : Bool → List ℕ → ℕ → Bool
-counts is_potential cells i = cond is_potential (potential cells i) (square cells i)
+unfoldable pub counts : Members → List ℕ → ℕ → Bool
+counts Potential = potential
+counts Squares = square
 
 -- 1 for each cell that passes the test and 0 for each other, in an array
 unfoldable pub mask_of : Grid → (ℕ → Bool) → List ℕ

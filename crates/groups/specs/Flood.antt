@@ -1,12 +1,10 @@
 -- What the inner functions of `compute_connected_components` promise each other. L is the array of labels, st the stack and
 -- c its count; s is the cell that the flood starts from, and L₀ the labels before it. The first part also serves the floating groups of kinds.
 -- Assumes nothing.
-use Rattle.std.specs.Prelude.{ℕ, ◌+◌, ◌-◌, ◌*◌, ◌≤◌, ◌<◌, ◌≡◌, Bool, false, cond, List, length, get_or, set}
+use Rattle.std.specs.Prelude.{ℕ, ◌+◌, ◌-◌, ◌*◌, ◌≤◌, ◌<◌, ◌≡◌, Bool, false, cond, List, length, get_or, set, Option, Some, None}
 use Rattle.std.proofs.Math.Bool.{So}
 use Rattle.grid.specs.Lists.{how_many}
 use Rattle.grid.specs.Grid.{Adjacent, Grid}
-use Rattle.grid.specs.declared.Side.{Side}
-use Rattle.grid.specs.declared.Side.TheVariants.{At, Off}
 use Rattle.groups.specs.Groups.{Joined}
 use Rattle.groups.specs.Arrays.{no_group}
 use Rattle.groups.specs.Table.{Counting}
@@ -85,9 +83,9 @@ pub data Offered (q s : ℕ) (L st : List ℕ) (c : ℕ) (L' st' : List ℕ) (r 
   take : get_or L q 0 ≡ unlabelled → L' ≡ set L q s → st' ≡ set st c q → r ≡ c + 1 → Offered q s L st c L' st' r
 
 -- the neighbour in a direction is offered, if there is one
-pub data OfferedSide (side : Side) (s : ℕ) (L st : List ℕ) (c : ℕ) (L' st' : List ℕ) (r : ℕ) : Type 0 where
-  beyond : Off ≡ side → L' ≡ L → st' ≡ st → r ≡ c → OfferedSide side s L st c L' st' r
-  within : (q : ℕ) → At q ≡ side → Offered q s L st c L' st' r → OfferedSide side s L st c L' st' r
+pub data OfferedSide (side : Option ℕ) (s : ℕ) (L st : List ℕ) (c : ℕ) (L' st' : List ℕ) (r : ℕ) : Type 0 where
+  beyond : None ≡ side → L' ≡ L → st' ≡ st → r ≡ c → OfferedSide side s L st c L' st' r
+  within : (q : ℕ) → Some q ≡ side → Offered q s L st c L' st' r → OfferedSide side s L st c L' st' r
 
 module _ (g : Grid) (p : ℕ → Bool) where
   -- amid the flood from s: i is the cell whose neighbours are being offered, and 1024 between two such cells

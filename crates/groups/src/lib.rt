@@ -6,13 +6,13 @@
 ghost use Rattle.std.specs.Prelude.{◌≡◌, ℕ, ◌+◌, ◌*◌, ◌≤◌, ◌<◌, Bool, cond, eqb, length, get_or, set, take, replicate};
 ghost use Rattle.grid.specs.Lists.{member};
 ghost use Rattle.grid.specs.Marks.{Marks};
-ghost use Rattle.grid.specs.Side.{InGrid, InPlace, sized, beside_of};
+ghost use Rattle.grid.specs.Side.{InGrid, sized};
 ghost use Rattle.grid.specs.Cells.{square};
 ghost use Rattle.groups.specs.Arrays.{Line, no_group, counts, marked, GroupTable};
 ghost use Rattle.groups.specs.Table.{Unused, labelled};
-ghost use Rattle.groups.specs.Flood.{unlabelled, free, Only, Walked, Offerable, Marked, Offered, OfferedSide, Spread, Ready};
+ghost use Rattle.groups.specs.Flood.{unlabelled, free, Only, Walked, Offerable, Marked, Offered, Spread, Ready};
 
-use grid::Side;
+use grid::{EMPTY, SQUARE};
 
 // The label of a cell that is in no group.
 const NO_GROUP: u16 = 1024;
@@ -20,25 +20,33 @@ const NO_GROUP: u16 = 1024;
 // Stands for the label of a cell that is in a group and has no label yet.
 const UNLABELLED: u16 = 1025;
 
-// Whether cell i is to be in a group: in a potential group if it isn't empty, in a block if it is a
-// square.
-fn is_check_cell(cells: &[u8; 1024], is_potential: bool, i: usize) -> bool
+// Which cells are to be in groups.
+#[derive(Clone, Copy, Debug, PartialEq, Eq)]
+pub enum Members {
+    // Those that aren't empty: the groups are the potential groups.
+    Potential,
+    // The squares: the groups are the blocks.
+    Squares,
+}
+
+// Whether cell i is to be in a group.
+#[tactic(auto, unfolding(crate::specs::Arrays::counts, grid::specs::Cells::potential, grid::specs::Cells::empty, grid::specs::Cells::square))]
+fn is_check_cell(cells: &[u8; 1024], members: Members, i: usize) -> bool
     requires { i < 1024 }
-    ensures { result ≡ counts is_potential cells.now i }
+    ensures { result ≡ counts members cells.now i }
 {
-    if is_potential {
-        cells[i] != 0
-    } else {
-        cells[i] == 1
+    match members {
+        Members::Potential => cells[i] != EMPTY,
+        Members::Squares => cells[i] == SQUARE,
     }
 }
 
 // What stands in the place of the label of cell i before the first flood.
-fn first_label(cells: &[u8; 1024], is_potential: bool, i: usize) -> u16
+fn first_label(cells: &[u8; 1024], members: Members, i: usize) -> u16
     requires { i < 1024 }
-    ensures { result ≡ cond (counts is_potential cells.now i) unlabelled no_group }
+    ensures { result ≡ cond (counts members cells.now i) unlabelled no_group }
 {
-    if is_check_cell(cells, is_potential, i) {
+    if is_check_cell(cells, members, i) {
         UNLABELLED
     } else {
         NO_GROUP
@@ -46,21 +54,13 @@ fn first_label(cells: &[u8; 1024], is_potential: bool, i: usize) -> u16
 }
 
 // Marks the cells below n that are to be in a group as not yet labelled, so that a flood reads one array only. Before, every cell is marked as in no group.
-fn mark_check_cells(cells: &[u8; 1024], is_potential: bool, n: usize, labels: &mut [u16; 1024])
+fn mark_check_cells(cells: &[u8; 1024], members: Members, n: usize, labels: &mut [u16; 1024])
     requires { (n ≤ 1024) × (labels.old ≡ replicate 1024 no_group) }
-    ensures { Marked (counts is_potential cells.now) n labels.new }
+    ensures { Marked (counts members cells.now) n labels.new }
 {
     for i in 0..n {
-        labels[i] = first_label(cells, is_potential, i);
+        labels[i] = first_label(cells, members, i);
     }
-}
-
-// A count with one more, or without.
-fn count_with(count: usize, more: bool) -> usize
-    requires { count ≤ 1024 }
-    ensures { result ≡ cond more (count + 1) count }
-{
-    if more { count + 1 } else { count }
 }
 
 // Labels cell q and puts it on the stack if it is to be in a group and has no label yet. It is labelled
@@ -74,30 +74,7 @@ fn offer(labels: &mut [u16; 1024], stack: &mut [u16; 1025], count: usize, q: usi
     let new = label == UNLABELLED;
     stack[count] = q as u16;
     labels[q] = grid::pick(new, s, label);
-    count_with(count, new)
-}
-
-// Offers the neighbour in direction k of the cell at row y, column x, if there is one.
-fn offer_toward(
-    labels: &mut [u16; 1024],
-    stack: &mut [u16; 1025],
-    count: usize,
-    h: usize,
-    w: usize,
-    y: usize,
-    x: usize,
-    k: usize,
-    s: u16,
-) -> usize
-    requires in_place { InPlace h w y x × (k < 4) }
-    requires name_and_room { (s < 1024) × (count + free labels.old ≤ 1024) }
-    ensures { OfferedSide (beside_of (sized h w) (y * w + x) k) s labels.old stack.old count labels.new stack.new result }
-{
-    let side = grid::toward(h, w, y, x, k);
-    match side {
-        Side::At(q) => offer(labels, stack, count, q, s),
-        Side::Off => count,
-    }
+    count + usize::from(new)
 }
 
 // Takes a cell from the stack and offers its four neighbours in turn. Its row and column are found once
@@ -114,11 +91,13 @@ fn spread(
     ensures { (p : ℕ → Bool) → Spread (sized h w) p s labels.old stack.old count labels.new stack.new result }
 {
     let mut waiting = count - 1;
-    let i = grid::wide(stack[waiting]);
+    let i = usize::from(stack[waiting]);
     let y = i / w;
     let x = i % w;
     for k in 0..4 {
-        waiting = offer_toward(labels, stack, waiting, h, w, y, x, k, s);
+        if let Some(q) = grid::toward(h, w, y, x, k) {
+            waiting = offer(labels, stack, waiting, q, s);
+        }
     }
     waiting
 }
@@ -152,10 +131,11 @@ fn flood(
     let mut count = offer(labels, stack, 0, s, seed);
     let mut ones = 0;
     let mut crossed = 0;
+    // A `while`: the cells that wait are a stack, so no range tells how many turns there are.
     while count > 0 {
-        let i = grid::wide(stack[count - 1]);
-        ones = count_with(ones, cells[i] == 1);
-        crossed = count_with(crossed, onarrow[i] == 1);
+        let i = usize::from(stack[count - 1]);
+        ones += usize::from(cells[i] == SQUARE);
+        crossed += usize::from(onarrow[i] == 1);
         count = spread(labels, stack, count, h, w, seed);
     }
     squares[s] = ones as u16;
@@ -169,7 +149,7 @@ fn keep_first(labels: &[u16; 1024], s: usize, firsts: &mut [u16; 1024], number: 
     ensures { (firsts.new ≡ set firsts.old number s) × (result ≡ cond (eqb (get_or labels.now s 0) unlabelled) (number + 1) number) }
 {
     firsts[number] = s as u16;
-    count_with(number, labels[s] == UNLABELLED)
+    number + usize::from(labels[s] == UNLABELLED)
 }
 
 // The name of each cell's group: its first cell in row order, and NO_GROUP where there is none. The first cells by themselves, rising, with their
@@ -177,7 +157,7 @@ fn keep_first(labels: &[u16; 1024], s: usize, firsts: &mut [u16; 1024], number: 
 pub fn compute_connected_components(
     cells: &[u8; 1024],
     onarrow: &[u8; 1024],
-    is_potential: bool,
+    members: Members,
     h: usize,
     w: usize,
     labels: &mut [u16; 1024],
@@ -186,13 +166,13 @@ pub fn compute_connected_components(
     arrowed: &mut [u16; 1024],
 ) -> usize
     requires { (h ≤ 32) × (w ≤ 32) × (length firsts.old ≡ 1024) × (length squares.old ≡ 1024) × (length arrowed.old ≡ 1024) }
-    ensures { GroupTable (sized h w) (counts is_potential (take (h * w) cells.now)) (square (take (h * w) cells.now)) (marked onarrow.now)
+    ensures { GroupTable (sized h w) (counts members (take (h * w) cells.now)) (square (take (h * w) cells.now)) (marked onarrow.now)
         labels.new firsts.new squares.new arrowed.new result }
 {
     let n = h * w;
     let mut stack = [0u16; 1025];
     *labels = [NO_GROUP; 1024];
-    mark_check_cells(cells, is_potential, n, labels);
+    mark_check_cells(cells, members, n, labels);
     let mut number = 0;
     for s in 0..n {
         number = keep_first(&*labels, s, firsts, number);
@@ -210,7 +190,6 @@ pub fn mark_arrow_cells(arrows: &[u16; 1024], total: usize, marks: &mut [u8; 102
 {
     *marks = [0u8; 1024];
     for k in 0..total {
-        let i = grid::wide(arrows[k]);
-        marks[i] = 1;
+        marks[usize::from(arrows[k])] = 1;
     }
 }

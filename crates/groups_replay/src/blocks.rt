@@ -99,18 +99,18 @@ pub fn run_blocks(
     let mut found = Run {
         parts: 0,
         differ: 0,
-        end: start + 2,
+        end: Some(start + 2),
     };
-    let mut k = 0;
-    while k < number {
-        let f = grid::wide(firsts[k]);
+    for k in 0..number {
+        let f = usize::from(firsts[k]);
         if arrowed[f] != 0 {
-            if list.len() < found.end {
-                return Run::broken();
+            match found.end {
+                Some(at) if at <= list.len() => {
+                    found = found.then(run_block(list, at, cells, kinds, owners, h, w, f));
+                }
+                _ => return Run::broken(),
             }
-            found = found.then(run_block(list, found.end, cells, kinds, owners, h, w, f));
         }
-        k += 1;
     }
     found.also(replay::number_at(list, start) != found.parts)
 }

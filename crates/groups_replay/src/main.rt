@@ -22,7 +22,8 @@ ghost use Rattle.replay.specs.Comparisons.{DiffersUnless};
 ghost use Rattle.groups_replay.specs.Blocks.{KindsSo, GroupsSo, PotentialSo};
 
 use board::Board;
-use replay::{Run, Tally};
+use groups::Members;
+use replay::{Cursor, Entries, Run};
 use rounds::Rounds;
 use std::io;
 
@@ -38,13 +39,9 @@ fn groups_differ(
     requires { (at + 6 * n ≤ length list.now) × (n ≤ 1024) }
     ensures { DiffersUnless result (GroupsSo list.now at n names.now squares.now arrowed.now) }
 {
-    if replay::names_differ(list, at, n, names) {
-        return true;
-    }
-    if replay::numbers_differ(list, at + 2 * n, n, squares, 0) {
-        return true;
-    }
-    replay::numbers_differ(list, at + 4 * n, n, arrowed, 0)
+    replay::names_differ(list, at, n, names)
+        || replay::numbers_differ(list, at + 2 * n, n, squares, 0)
+        || replay::numbers_differ(list, at + 4 * n, n, arrowed, 0)
 }
 
 // Whether the potential groups differ from those that the list has at `at`. A list that says no rounds differs: nothing would be computed.
@@ -61,10 +58,7 @@ fn potential_groups_differ(
     requires { (at + 6 * n ≤ length list.now) × (n ≤ h * w) × (h ≤ 32) × (w ≤ 32) }
     ensures { DiffersUnless result (PotentialSo rounds.labels rounds.kinds (sized h w) (take (h * w) cells.now) (marked onarrow.now) list.now at n) }
 {
-    if rounds.labels == 0 {
-        return true;
-    }
-    if rounds.kinds == 0 {
+    if rounds.labels == 0 || rounds.kinds == 0 {
         return true;
     }
     let mut names = arrays::no_names();
@@ -75,7 +69,7 @@ fn potential_groups_differ(
         rounds.labels,
         cells,
         onarrow,
-        true,
+        Members::Potential,
         h,
         w,
         &mut names,
@@ -91,10 +85,7 @@ fn kinds_differ(list: &[u8], at: usize, n: usize, kinds: &[u8; 1024], owners: &[
     requires { (at + 3 * n ≤ length list.now) × (n ≤ 1024) }
     ensures { DiffersUnless result (KindsSo list.now at n kinds.now owners.now) }
 {
-    if replay::cells_differ(list, at, n, kinds, 0) {
-        return true;
-    }
-    replay::names_differ(list, at + n, n, owners)
+    replay::cells_differ(list, at, n, kinds, 0) || replay::names_differ(list, at + n, n, owners)
 }
 
 // Computes kinds and owners, and compares them and the arrow blocks with those that the list has at `at`.
@@ -162,7 +153,7 @@ fn run_arrows(
         rounds.labels,
         cells,
         onarrow,
-        false,
+        Members::Squares,
         h,
         w,
         &mut blocks,
@@ -188,20 +179,17 @@ fn run_arrows(
 }
 
 // Computes the groups and kinds of a board, and compares them with those that the list has at `at`.
-fn run_board(list: &[u8], rounds: Rounds, at: usize, b: Board) -> Run
+fn run_board(list: &[u8], rounds: Rounds, at: usize, b: Board) -> Option<Run>
     requires { at ≤ length list.now }
 {
     let h = b.problem.height;
     let w = b.problem.width;
-    if 32 < h {
-        return Run::broken();
-    }
-    if 32 < w {
-        return Run::broken();
+    if 32 < h || 32 < w {
+        return None;
     }
     let n = replay::area(h, w);
     if list.len() < at + 15 * n + 2 {
-        return Run::broken();
+        return None;
     }
     let arrows = b.problem.arrows;
     let ends = b.problem.ends;
@@ -209,74 +197,57 @@ fn run_board(list: &[u8], rounds: Rounds, at: usize, b: Board) -> Run
     let cells = b.cells;
     let mut onarrow = arrays::no_marks();
     if !arrows::mark_arrows(&arrows, total, &mut onarrow) {
-        return Run::broken();
+        return None;
     }
     let differs = potential_groups_differ(list, rounds, at, n, &cells, &onarrow, h, w);
     let found = run_arrows(list, rounds, at + 6 * n, n, &cells, &onarrow, h, w);
-    found.also(differs)
+    Some(found.also(differs))
 }
 
 // Opens the record, adds the decisions and compares the board with what the list has at `at`.
-fn run_record(list: &[u8], rounds: Rounds, record: &[u8], decisions: &[u8], at: usize) -> Run
+fn run_record(
+    list: &[u8],
+    rounds: Rounds,
+    record: &[u8],
+    decisions: &[u8],
+    at: usize,
+) -> Option<Run>
     requires { at ≤ length list.now }
 {
-    let o = Board::open(record, 1, &[]);
-    let answer = o.answer;
-    let fresh = o.board;
-    if replay::number(answer) != 0 {
-        return Run::broken();
-    }
-    let d = fresh.decide_all(decisions);
-    let answer = d.answer;
-    let board = d.board;
-    if replay::number(answer) != 0 {
-        return Run::broken();
-    }
+    let board = Board::open(record, 1, &[])
+        .ok()?
+        .decide_all(decisions)
+        .ok()?;
     run_board(list, rounds, at, board)
 }
 
-// Goes through the entry at `at`.
-fn run_entry(list: &[u8], rounds: Rounds, at: usize) -> Run
-    requires { at < length list.now }
-{
-    let decisions = at + 2 + replay::number_at(list, at);
-    if list.len() < decisions {
-        return Run::broken();
-    }
-    let end = decisions + 2 + 2 * replay::number_at(list, decisions);
-    if list.len() < end {
-        return Run::broken();
-    }
-    run_record(
-        list,
-        rounds,
-        &list[at + 2..decisions],
-        &list[decisions + 2..end],
-        end,
-    )
-}
+impl Entries for Rounds {
+    ghost BEFORE = { 4 };
 
-// Goes through the entries.
-fn go_through(list: &[u8]) -> Tally {
-    let start = replay::data_start(list);
-    let rounds = Rounds {
-        labels: replay::number_at(list, start),
-        kinds: replay::number_at(list, start + 2),
-    };
-    let mut tally = Tally::of(list, 4);
-    while tally.at < list.len() {
-        tally = tally.with(run_entry(list, rounds, tally.at), list.len());
+    const BEFORE: usize = 4;
+
+    fn of(data: &[u8]) -> Rounds {
+        Rounds {
+            labels: replay::number_at(data, 0),
+            kinds: replay::number_at(data, 2),
+        }
     }
-    tally
+
+    fn run(&self, list: &[u8], at: usize) -> Option<Run> {
+        let mut cursor = Cursor { list, at };
+        let bytes = cursor.counted()?;
+        let count = cursor.number()?;
+        let decisions = cursor.take(2 * count)?;
+        let rounds = *self;
+        run_record(list, rounds, bytes, decisions, cursor.at)
+    }
 }
 
 fn main(rt: HostRuntime) -> io::Result<()> {
-    let mut space = replay::room();
-    let list = replay::read_list(rt.reader(), &mut space)?;
-    let (_, written) = go_through(list).print(
-        b" boards, ",
-        b" arrow blocks, ",
+    replay::replay::<Rounds, _, _>(
+        rt.reader(),
         &mut io::writer(&rt),
-    );
-    written
+        " boards, ",
+        " arrow blocks, ",
+    )
 }

@@ -9,7 +9,6 @@ use mathlib.Core.List.{List, [], ◌∷◌}
 use lib.ListN.{length, get_or, take, drop, length-take, drop_of_length-le}
 use lib.Seq.{slice, slice-cons, drop-drop}
 use borrow.Author.Tests.{eq-eqb, ne_eqb}
-use mathlib.Core.Option.{some}
 use Rattle.grid.specs.Count.{count}
 use Rattle.grid.proofs.Count.{bump_yes, bump_no, count_front}
 use Rattle.grid.proofs.ListLaws.{Dec-So, So-false}

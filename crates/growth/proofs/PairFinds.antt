@@ -18,7 +18,7 @@ use Rattle.growth.specs.Pairs.{pair_at, view_on, Scene}
 use Rattle.growth.specs.Growth.{reason4a_at, reason4b_at, most_apart, block_cell_fence, gap, reason3_at}
 use Rattle.literals.specs.Literals.{each}
 use Rattle.shift.specs.Fits.{shift_fits}
-use Rattle.literals.specs.declared.Finding.TheVariants.{Nothing, Reason}
+use Rattle.std.specs.Prelude.{Some, None}
 use Rattle.literals.proofs.Findings.{found_none, Wrote-found}
 use Rattle.growth.proofs.PairChecks.{shift_none, shift_some, growth_none, growth_some, gap-none, gap-some, gap_places, most_taken, empty_agree}
 use Rattle.growth.proofs.PairNames.{scene_owner}
@@ -43,18 +43,18 @@ module _ {h w : ℕ} {lines : List (List ℕ)} {cells arrows kinds owners : List
 
   module _ {b : List ℕ} where
     -- reason 3
-    pub no_shift : shift_fits board f e ≡ true → FoundAs (reason3_at board both) b b Nothing
+    pub no_shift : shift_fits board f e ≡ true → FoundAs (reason3_at board both) b b None
     no_shift t = rw (shift_none board both f e last_name cur_name t) (found_none b)
 
-    pub shift_found : shift_fits board f e ≡ false → {a : List ℕ} {k : ℕ} → Wrote (block_cell_fence board f (get_or arrows cur 0) e) b a k → FoundAs (reason3_at board both) b a (Reason k)
+    pub shift_found : shift_fits board f e ≡ false → {a : List ℕ} {k : ℕ} → Wrote (block_cell_fence board f (get_or arrows cur 0) e) b a k → FoundAs (reason3_at board both) b a (Some k)
     unfolding pair_at
     shift_found t w = rw (shift_some board both f e last_name cur_name t) (Wrote-found w)
 
     -- reason 4 (a)
-    pub no_growth : length (block board f) + 1 ≤ length (reach board e) → FoundAs (reason4a_at board both) b b Nothing
+    pub no_growth : length (block board f) + 1 ≤ length (reach board e) → FoundAs (reason4a_at board both) b b None
     no_growth t = rw (growth_none board both f e last_name cur_name t) (found_none b)
 
-    pub growth_found : length (reach board e) < length (block board f) + 1 → {a : List ℕ} {k : ℕ} → Wrote (block_cell_fence board f (get_or arrows cur 0) e) b a k → FoundAs (reason4a_at board both) b a (Reason k)
+    pub growth_found : length (reach board e) < length (block board f) + 1 → {a : List ℕ} {k : ℕ} → Wrote (block_cell_fence board f (get_or arrows cur 0) e) b a k → FoundAs (reason4a_at board both) b a (Some k)
     unfolding pair_at
     growth_found t w = rw (growth_some board both f e last_name cur_name t) (Wrote-found w)
 
@@ -81,10 +81,10 @@ module _ {h w : ℕ} {lines : List (List ℕ)} {cells arrows kinds owners : List
 
     module _ {b : List ℕ} where
       -- reason 4 (b)
-      pub no_gap : length (block board e) ≤ length (reach board f) + 1 + most_apart cells false between → FoundAs (reason4b_at board both) b b Nothing
+      pub no_gap : length (block board e) ≤ length (reach board f) + 1 + most_apart cells false between → FoundAs (reason4b_at board both) b b None
       no_gap t = rw (gap-none board both f e last_name cur_name (rw count_is t)) (found_none b)
 
       pub gap_found : length (reach board f) + 1 + most_apart cells false between < length (block board e)
-          → {a : List ℕ} {k : ℕ} → Wrote (block_cell_fence board e (get_or arrows last 0) f ++ each 0 (filter (empty cells) between)) b a k → FoundAs (reason4b_at board both) b a (Reason k)
+          → {a : List ℕ} {k : ℕ} → Wrote (block_cell_fence board e (get_or arrows last 0) f ++ each 0 (filter (empty cells) between)) b a k → FoundAs (reason4b_at board both) b a (Some k)
       unfolding pair_at
       gap_found t w = rw (gap-some board both f e last_name cur_name (rw count_is t), empties_are) (Wrote-found w)

@@ -2,7 +2,7 @@
 -- Assumes nothing.
 use Rattle.std.specs.Prelude.{ℕ, suc, ◌+◌, max, Bool, true, false, cond, not, List, [], ◌∷◌, ◌++◌, eqb, ltb, length, get_or}
 use Rattle.std.proofs.Math.Option.{none}
-use Rattle.grid.specs.Lists.{filter, flat_map, last, init, tail}
+use Rattle.grid.specs.Lists.{filter, flat_map, init, tail}
 use Rattle.grid.specs.Cells.{Literal, empty, undecided}
 use Rattle.groups.specs.Arrows.{Pair, pairs}
 use Rattle.kinds.specs.Kinds.{View, block, reach, fence}

@@ -7,15 +7,9 @@ use Rattle.grid.specs.Cells.{square}
 use Rattle.groups.specs.Arrows.{on_arrow, Pair}
 use Rattle.groups.specs.Arrays.{CellArray, lines_of, Drawn}
 use Rattle.kinds.specs.Kinds.{View, view}
-use Rattle.literals.specs.Literals.{Found}
-use Rattle.growth.specs.Growth.{reason3_at, reason4_at}
 use Rattle.reach.specs.Chains.{Chains}
 use Rattle.reach.specs.Near.{Sizes, SquaresOf}
 use Rattle.kinds.specs.Inside.{puzzle_with, Held}
-
--- reason 3 for a pair where k is 0, else reason 4 in the edition k
-unfoldable pub reason_at : ℕ → View → Pair → Found
-reason_at k v pair = cond (eqb k 0) (reason3_at v pair) (reason4_at v pair k)
 
 -- the pair of the squares at two places of the arrows
 unfoldable pub pair_at : List ℕ → ℕ → ℕ → Pair

@@ -26,8 +26,9 @@ pub fn gap_count(cells: &[u8; 1024], arrows: &[u16; 1024], from: usize, to: usiz
 {
     let mut count = 0;
     let mut k = from;
+    // no for: behind a cell that is counted it steps by two
     while k < to {
-        if cells[grid::wide(arrows[k])] == 2 {
+        if cells[usize::from(arrows[k])] == 2 {
             count += 1;
             k += 2;
         } else {
@@ -49,11 +50,9 @@ pub fn reason_for_gap(
     ensures { Wrote (each 0 (filter (empty cells.now) (slice from to arrows.now))) buffer.old buffer.new result }
 {
     let mut count = 0;
-    let mut k = from;
-    while k < to {
-        let i = grid::wide(arrows[k]);
+    for k in from..to {
+        let i = usize::from(arrows[k]);
         count = literals::push(buffer, count, i, 0, cells[i] == 0);
-        k += 1;
     }
     count
 }
@@ -82,10 +81,8 @@ pub fn reason_for_arrow_block(
         → Wrote (each 1 (block v f)) buffer.old buffer.new result }
 {
     let mut count = 0;
-    let mut i = 0;
-    while i < n {
+    for i in 0..n {
         count = literals::push(buffer, count, i, 1, in_block(kinds, owners, f, i));
-        i += 1;
     }
     count
 }
@@ -95,7 +92,7 @@ pub fn block_size(squares: &[u16; 1024], f: u16) -> usize
     requires { f < 1024 }
     ensures { (kinds owners : List ℕ) (n : ℕ) → Blocks kinds owners n squares.now → get_or kinds f 0 ≡ 1 → result ≡ length (block_in kinds owners n f) }
 {
-    grid::wide(squares[f as usize])
+    usize::from(squares[usize::from(f)])
 }
 
 // How many cells the reach of the arrow block named f has.

@@ -1,4 +1,3 @@
-pub mod Values
 pub mod Leaves
 pub mod PairByPair
 pub mod Returns

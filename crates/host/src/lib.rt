@@ -156,9 +156,7 @@ pub fn evolmino_board_open(record: &[u8], edition: u32, sizes: &[u16], board: &m
     ensures { (result ≡ answer_number (open_of «record».now edition sizes.now).answer)
         × (board.new ≡ after_open board.old (open_of «record».now edition sizes.now)) }
 {
-    let k = host_board::opened(*board, record, edition, sizes);
-    *board = k.board;
-    k.number
+    host_board::answer_number(host_board::open_in(board, record, edition, sizes))
 }
 
 // Adds a decision. Returns 0, or the negated number of a refusal, which leaves the board as it was: 6 a board that no list of calls could leave, 7 an index
@@ -166,16 +164,14 @@ pub fn evolmino_board_open(record: &[u8], edition: u32, sizes: &[u16], board: &m
 pub fn evolmino_board_decide(board: &mut Board, index: usize, value: u8) -> i32
     ensures { (result ≡ answer_number (decide_of board.old index value).answer) × (board.new ≡ (decide_of board.old index value).board) }
 {
-    let answer = lent::decide_in(board, index, value);
-    host_board::answer_number(answer)
+    host_board::answer_number(lent::decide_in(board, index, value))
 }
 
 // Removes the latest decision. Returns 0, or the negated number of a refusal, which leaves the board as it was: 6, 10 where there is no decision.
 pub fn evolmino_board_undo(board: &mut Board) -> i32
     ensures { (result ≡ answer_number (undo_of board.old).answer) × (board.new ≡ (undo_of board.old).board) }
 {
-    let answer = lent::undo_in(board);
-    host_board::answer_number(answer)
+    host_board::answer_number(lent::undo_in(board))
 }
 
 // Finds a reason, for a player from 0 to 3 whose count of hints rises. The literals stand in the buffer's first places, value × 32,768 + index each. Returns
@@ -186,15 +182,14 @@ pub fn evolmino_board_find(board: &mut Board, player: u8, literals: &mut [u16]) 
         × (board.new ≡ after_find board.old player (length literals.old))
         × (literals.new ≡ buffer_after board.old player literals.old) }
 {
-    let finding = lent::find_in(board, player, literals);
-    host_board::finding_number(finding)
+    host_board::finding_number(lent::find_in(board, player, literals))
 }
 
 // Tells whether the board is finished: 1 for yes, 0 for no, or the negated number of a refusal, 6.
 pub fn evolmino_board_finished(board: &Board) -> i32
     ensures { result ≡ verdict_number (finished_of board.now) }
 {
-    host_board::finished_number(*board)
+    host_board::finished_number(board)
 }
 
 // Tells which cells are certain, as `evolmino_certain` does: 6 a board that no list of calls could leave, then 11 an output of less than 8 + H × W bytes.
@@ -202,12 +197,12 @@ pub fn evolmino_board_certain(board: &Board, budget: u64, output: &mut [u8]) -> 
     ensures { (result ≡ said_number (board_certain board.now budget (length output.old)))
         × (output.new ≡ output_with (said_bytes (board_certain board.now budget (length output.old))) output.old) }
 {
-    host_board::certain_number(*board, budget, output)
+    host_board::certain_number(board, budget, output)
 }
 
 // Tells how many hints a player has taken, or the negated number of a refusal: 6, 17 a player above 3.
 pub fn evolmino_board_hints(board: &Board, player: u8) -> i32
     ensures { result ≡ count_number (hints_of board.now player) }
 {
-    host_board::hints_number(*board, player)
+    host_board::hints_number(board, player)
 }

@@ -15,13 +15,20 @@ use borrow.Author.Tests.{le-leb, lt-leb}
 use Rattle.grid.specs.Grid.{size}
 use Rattle.grid.proofs.SideLaws.{area as area_most}
 use Rattle.grid.proofs.ListLaws.{split}
+use Rattle.std.specs.Prelude.{Option, Some, None, Ok, Err}
+use Rattle.std.specs.Prelude.{⊤}
+use Rattle.std.specs.Option.{unwrap_or}
+use Rattle.std.specs.Result.{result_and}
+use Rattle.std.specs.declared.result.Result.{Result}
+use Rattle.refusal.specs.Refusals.{number_of, outcome_of, returned_of}
+use Rattle.refusal.specs.declared.Refusal.{Refusal}
 use Rattle.record.specs.Record.{Outcome, ok, refused, ◌>>=◌, unless, Puzzle, read_record}
 use Rattle.record.specs.Problem.{grid_of, puzzle_of}
 use Rattle.record.specs.Leaf.{leaf_with, is_edition, sizes_of, leaf_of}
 use Rattle.record.specs.declared.Answer.{Answer}
 use Rattle.record.specs.declared.Answer.TheVariants as answers
 use Rattle.board.specs.declared.Board.{Board}
-use Rattle.board.specs.declared.Opened.{Opened}
+use Rattle.board.specs.Answers.{Opened, told, opened_as, done_as}
 use Rattle.board.specs.Form.{well_formed}
 use Rattle.board.specs.Kept.{opening, open_of, leaf_on, cells_on}
 use Rattle.board.specs.Decide.{area, decide_of, undo_of}
@@ -31,7 +38,7 @@ use Rattle.literals.specs.Literals.{Found}
 use Rattle.literals.specs.Buffer.{finding_by, buffer_by}
 use Rattle.literals.specs.declared.Finding.{Finding}
 use Rattle.literals.specs.declared.Finding.TheVariants as findings
-use Rattle.reasons.specs.Find.{reason_on, find_of, buffer_after}
+use Rattle.reasons.specs.Find.{reason_on, find_of, found_as, buffer_after}
 use Rattle.reasons.proofs.BoardArrays.{board_sizes, board_arrays}
 use Rattle.reasons.proofs.ReasonLaws.{reason_length}
 use Rattle.call.specs.Inside.{edition_of}
@@ -41,7 +48,7 @@ use Rattle.certain.specs.declared.Certainty.{Certainty}
 use Rattle.certain.specs.declared.Certainty.TheVariants as certainties
 use Rattle.exported.specs.Written.{output_with}
 use Rattle.host_certain.specs.Told.{certainty_number, certain_bytes, said_of, said_number, said_bytes}
-use Rattle.host_board.specs.Lent.{answer_number, finding_number, opened_over, after_open, board_certain, hints_of}
+use Rattle.host_board.specs.Lent.{answer_number, finding_number, count_number, opened_over, after_open, board_certain, hints_of}
 
 -- ---- open
 
@@ -63,14 +70,60 @@ narrowed s e ns = go (split (is_edition e))
         let q : cond (is_edition e) e 0 ≡ 0 = rw f refl in
         ap (λ (k : ℕ). open_of s k ns) q ∙ ap opening (none_such 0 (unfold is_edition in refl) (read_record s) ∙ sym (none_such e f (read_record s)))
 
--- what is opened over a board, by the answer
-pub opened_done : (was : Board) (o p : Opened) → o ≡ p → o.answer ≡ answers.Done → (pos 0 ≡ answer_number p.answer) × (o.board ≡ after_open was p)
-unfolding answer_number after_open opened_over
-opened_done was o p e d = rw (← e) (rw d (refl, refl))
+-- what is opened over a board, by the outcome
+module _ (was : Board) (s : List ℕ) (e : ℕ) (ns : List ℕ) where
+  pub opened_done : {b : Board} → ok b ≡ opened_as (open_of s (edition_of e) ns) → (ok tt ≡ done_as (open_of s e ns).answer) × (b ≡ after_open was (open_of s e ns))
+  unfolding after_open opened_over
+  opened_done {b} h = let x = rw (narrowed s e ns) at h in go (open_of s e ns).answer (open_of s e ns).board x
+    where
+      go : (a : Answer) (o : Board) → ok b ≡ told a o → (ok tt ≡ done_as a) × (b ≡ opened_over a was o)
+      go answers.Done o x = (refl, cc)
+      go (answers.Refused k) o x = let z : ◌≡◌ {A = ℕ} 0 1 = cc in absurd (omega arith)
 
-pub opened_refused : (was : Board) (o p : Opened) {k : ℕ} → o ≡ p → o.answer ≡ answers.Refused k → (neg_ℤ (pos k) ≡ answer_number p.answer) × (was ≡ after_open was p)
-unfolding answer_number after_open opened_over
-opened_refused was o p e d = rw (← e) (rw d (refl, refl))
+  pub opened_refused : {k : ℕ} → refused k ≡ opened_as (open_of s (edition_of e) ns) → (refused k ≡ done_as (open_of s e ns).answer) × (was ≡ after_open was (open_of s e ns))
+  unfolding after_open opened_over
+  opened_refused {k} h = let x = rw (narrowed s e ns) at h in go (open_of s e ns).answer (open_of s e ns).board x
+    where
+      go : (a : Answer) (o : Board) → refused k ≡ told a o → (refused k ≡ done_as a) × (was ≡ opened_over a was o)
+      go answers.Done o x = let z : ◌≡◌ {A = ℕ} 0 1 = cc in absurd (omega arith)
+      go (answers.Refused j) o x = let z : j ≡ k = cc in (rw z refl, refl)
+
+-- ---- what calls return
+
+pub answer_done : (a : Answer) → ok tt ≡ done_as a → pos 0 ≡ answer_number a
+unfolding answer_number
+answer_done answers.Done e = refl
+answer_done (answers.Refused k) e = let z : ◌≡◌ {A = ℕ} 0 1 = cc in absurd (omega arith)
+
+pub answer_refused : (a : Answer) {k : ℕ} → refused k ≡ done_as a → neg_ℤ (pos k) ≡ answer_number a
+unfolding answer_number
+answer_refused answers.Done e = let z : ◌≡◌ {A = ℕ} 0 1 = cc in absurd (omega arith)
+answer_refused (answers.Refused j) {k} e = let z : j ≡ k = cc in rw z refl
+
+pub answer_returned : (r : Result ⊤ Refusal) (s : Result ℕ Refusal) (a : Answer) → s ≡ result_and r (Ok 0) → outcome_of r ≡ done_as a → returned_of s ≡ answer_number a
+answer_returned (Ok u) s a e h = rw e (answer_done a h)
+answer_returned (Err k) s a e h = rw e (answer_refused a h)
+
+pub few_found : (o : Option ℕ) → ((k : ℕ) → o ≡ Some k → k < 2147483648) → unwrap_or o 0 < 2147483648
+few_found None h = omega arith
+few_found (Some k) h = h k refl
+
+pub finding_found : (f : Finding) (o : Option ℕ) → ok o ≡ found_as f → pos (unwrap_or o 0) ≡ finding_number f
+unfolding finding_number
+finding_found findings.Nothing o e = let z : o ≡ None = cc in rw z refl
+finding_found (findings.Reason k) o e = let z : o ≡ Some k = cc in rw z refl
+finding_found (findings.Refused k) o e = let z : ◌≡◌ {A = ℕ} 0 1 = cc in absurd (omega arith)
+
+pub finding_refused : (f : Finding) {k : ℕ} → refused k ≡ found_as f → neg_ℤ (pos k) ≡ finding_number f
+unfolding finding_number
+finding_refused findings.Nothing e = let z : ◌≡◌ {A = ℕ} 0 1 = cc in absurd (omega arith)
+finding_refused (findings.Reason n) e = let z : ◌≡◌ {A = ℕ} 0 1 = cc in absurd (omega arith)
+finding_refused (findings.Refused j) {k} e = let z : j ≡ k = cc in rw z refl
+
+pub count_returned : (r : Result ℕ Refusal) (o : Outcome ℕ) → outcome_of r ≡ o → returned_of r ≡ count_number o
+unfolding count_number
+count_returned (Ok n) o e = rw (← e) refl
+count_returned (Err r) o e = rw (← e) refl
 
 -- ---- find
 

@@ -6,7 +6,7 @@ use Rattle.record.specs.Record.{Outcome, ok, refused, ◌>>=◌, unless}
 use Rattle.record.specs.declared.Answer.{Answer}
 use Rattle.record.specs.declared.Answer.TheVariants as answers
 use Rattle.board.specs.declared.Board.{Board}
-use Rattle.board.specs.declared.Opened.{Opened}
+use Rattle.board.specs.Answers.{Opened}
 use Rattle.board.specs.Form.{well_formed}
 use Rattle.board.specs.Decide.{area}
 use Rattle.board.specs.Hints.{count_of}

@@ -1,79 +1,59 @@
-// The numbers that the exported calls on a board return: of an answer and of a finding, which `lent` gives, and by value those of open, finished, certain
-// and hints; open gives with its number the board as it leaves it. The calls over a lent board are in `host`, and `host_c` exports them.
+// The calls on a board that a caller lends, and the numbers that they return: open into the board's memory, and what finished, certain and hints tell of it.
+// Decide, undo and find on a lent board are in `lent`. `host` puts the two together, and `host_c` exports them.
 #![tactic(auto)]
 
-ghost use Rattle.std.specs.Prelude.{◌≡◌, ℕ, ◌<◌, length};
-ghost use Rattle.literals.specs.declared.Finding.TheVariants.{Reason};
+ghost use Rattle.std.specs.Prelude.{◌≡◌, ℕ, ◌<◌, ◌^◌, length, Some};
+ghost use Rattle.std.specs.Result.{ForOk};
+ghost use Rattle.refusal.specs.Refusals.{ok, outcome_of};
 ghost use Rattle.exported.specs.Written.{output_with};
+ghost use Rattle.record.specs.declared.Answer.{Answer};
+ghost use Rattle.board.specs.Answers.{done_as};
 ghost use Rattle.board.specs.Kept.{open_of};
+ghost use Rattle.literals.specs.declared.Finding.{Finding};
+ghost use Rattle.reasons.specs.Find.{found_as};
 ghost use Rattle.finished.specs.Verdicts.{finished_of};
 ghost use Rattle.host_certain.specs.Told.{said_number, said_bytes};
 ghost use Rattle.host_board.specs.Lent.{answer_number, finding_number, verdict_number, after_open, board_certain, hints_of, count_number};
 
 use board::Board;
-use exported::{counted, negated};
+use exported::negated;
 use finished::Verdict;
-use literals::Finding;
-use record::Answer;
+use refusal::{Refusal, returned};
 
-// The number that open returns, with the board as it leaves it.
-#[derive(Clone, Copy)]
-pub struct Kept {
-    pub number: i32,
-    pub board: Board,
-}
-
-// An answer as a number: 0 for done, or the negated number of a refusal.
-pub fn answer_number(answer: Answer) -> i32
-    ensures { result ≡ answer_number answer }
+// What a call returns that has nothing to tell: 0, or the negated number of a refusal.
+pub fn answer_number(answer: Result<(), Refusal>) -> i32
+    ensures { (a : Answer) → outcome_of answer ≡ done_as a → result ≡ answer_number a }
 {
-    match answer {
-        Answer::Done => 0,
-        Answer::Refused(k) => negated(k),
-    }
+    returned(answer.and(Ok(0)))
 }
 
-// What find answers as a number: how many literals there are, 0 for none, or the negated number of a refusal.
-pub fn finding_number(finding: Finding) -> i32
-    requires { (k : ℕ) → finding ≡ Reason k → k < 2147483648 }
-    ensures { result ≡ finding_number finding }
+// What find returns: how many literals there are, 0 for none, or the negated number of a refusal.
+pub fn finding_number(finding: Result<Option<usize>, Refusal>) -> i32
+    requires { (k : ℕ) → outcome_of finding ≡ ok (Some k) → k < 2 ^ 31 }
+    ensures { (f : Finding) → outcome_of finding ≡ found_as f → result ≡ finding_number f }
 {
     match finding {
-        Finding::Nothing => 0,
-        Finding::Reason(count) => counted(count),
-        Finding::Refused(k) => negated(k),
+        Ok(found) => returned(Ok(found.unwrap_or(0))),
+        Err(refusal) => returned(Err(refusal)),
     }
 }
 
-// Opens a record in an edition with sizes: 0 and the board that is opened, or the negated number of a refusal and the board that was there. Refused:
-// 1 to 5 for the record, 16 for another edition than 1 and 2, 22 for sizes that may not stand.
-pub fn opened(board: Board, record: &[u8], edition: u32, sizes: &[u16]) -> Kept
-    ensures { (result.number ≡ answer_number (open_of «record».now edition sizes.now).answer)
-        × (result.board ≡ after_open board (open_of «record».now edition sizes.now)) }
+// Opens a record in an edition with sizes, in the memory of a board that a refusal leaves as it was. Refused: 1 to 5 for the record, 16 for another edition
+// than 1 and 2, 22 for sizes that may not stand.
+pub fn open_in(board: &mut Board, record: &[u8], edition: u32, sizes: &[u16]) -> Result<(), Refusal>
+    ensures { (outcome_of result ≡ done_as (open_of «record».now edition sizes.now).answer)
+        × (board.new ≡ after_open board.old (open_of «record».now edition sizes.now)) }
 {
-    let e = call::edition_of(edition);
-    let o = Board::open(record, e, sizes);
-    let answer = o.answer;
-    match answer {
-        Answer::Done => {
-            let fresh = o.board;
-            Kept {
-                number: 0,
-                board: fresh,
-            }
-        }
-        Answer::Refused(k) => Kept {
-            number: negated(k),
-            board,
-        },
-    }
+    let fresh = Board::open(record, call::edition_of(edition), sizes)?;
+    *board = fresh;
+    Ok(())
 }
 
 // `finished`: 1 for yes, 0 for no, or the negated number of a refusal, 6.
-pub fn finished_number(board: Board) -> i32
-    ensures { result ≡ verdict_number (finished_of board) }
+pub fn finished_number(board: &Board) -> i32
+    ensures { result ≡ verdict_number (finished_of board.now) }
 {
-    let verdict = finished::finished(board);
+    let verdict = finished::finished(*board);
     match verdict {
         Verdict::Yes => 1,
         Verdict::No => 0,
@@ -82,32 +62,39 @@ pub fn finished_number(board: Board) -> i32
 }
 
 // `certain`, its answer written to the output as `host_certain` writes it: 6, then 11 for an output below 8 + H × W bytes.
-pub fn certain_number(board: Board, budget: u64, output: &mut [u8]) -> i32
-    ensures { (result ≡ said_number (board_certain board budget (length output.old)))
-        × (output.new ≡ output_with (said_bytes (board_certain board budget (length output.old))) output.old) }
+pub fn certain_number(board: &Board, budget: u64, output: &mut [u8]) -> i32
+    ensures { (result ≡ said_number (board_certain board.now budget (length output.old)))
+        × (output.new ≡ output_with (said_bytes (board_certain board.now budget (length output.old))) output.old) }
 {
-    if !board.well_formed() {
+    if !board.is_formed() {
         return negated(6);
     }
     let n = board.problem.height * board.problem.width;
     if output.len() < 8 + n {
         return negated(11);
     }
-    let facts = certain::certain(board, budget);
+    let facts = certain::certain(*board, budget);
     host_certain::write_certain(facts, n, output)
 }
 
-// How many hints the player has taken, or the negated number of a refusal: 6, then 17 for a player above 3.
-pub fn hints_number(board: Board, player: u8) -> i32
-    ensures { result ≡ count_number (hints_of board player) }
+// How many hints the player has taken. Refused: 6, then 17 for a player above 3.
+#[tactic(auto, using(crate::proofs::LentLaws::hints_ill, crate::proofs::LentLaws::hints_stranger, crate::proofs::LentLaws::hints_told))]
+fn hints_taken(board: &Board, player: u8) -> Result<usize, Refusal>
+    ensures told { outcome_of result ≡ hints_of board.now player }
+    ensures few { ForOk result (λ n. n < 2 ^ 31) }
 {
-    if !board.well_formed() {
-        return negated(6);
+    if !board.is_formed() {
+        return Err(Refusal::Board);
     }
     if 3 < player {
-        return negated(17);
+        return Err(Refusal::Player);
     }
-    let at = grid::byte(player);
-    let count = board.hints[at];
-    counted(grid::wide(count))
+    Ok(usize::from(board.hints[usize::from(player)]))
+}
+
+// The same as a number: the count, or the negated number of the refusal.
+pub fn hints_number(board: &Board, player: u8) -> i32
+    ensures { result ≡ count_number (hints_of board.now player) }
+{
+    returned(hints_taken(board, player))
 }

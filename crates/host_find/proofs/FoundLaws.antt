@@ -18,9 +18,9 @@ use Rattle.literals.specs.Literals.{Found}
 use Rattle.reasons.specs.Reasons.{find_reason}
 use Rattle.groups.specs.Arrays.{lines_of}
 use Rattle.inconsistency.specs.Arrays.{ArrowArrays}
-use Rattle.literals.specs.Buffer.{finding_by, buffer_by}
-use Rattle.literals.specs.Inside.{FoundAs}
-use Rattle.literals.specs.declared.Finding.TheVariants.{Reason}
+use Rattle.literals.specs.Buffer.{buffer_by}
+use Rattle.literals.specs.Inside.{count_of, FoundAs}
+use Rattle.std.specs.Prelude.{Some}
 use Rattle.reasons.proofs.ReasonLaws.{reason_length}
 use Rattle.exported.specs.Written.{bytes_of}
 use Rattle.host_find.specs.Host.{returned, output_after}
@@ -34,8 +34,8 @@ pub record Literals (found : Found) (k : ℕ) (buffer : List ℕ) : Type 0 where
   pub first : take k buffer ≡ map word reason
 
 -- so an answer of k literals says
-pub found_Literals : (f : Found) {before after : List ℕ} {k : ℕ} → FoundAs f before after (Reason k) → Literals f k after
-unfolding finding_by buffer_by
+pub found_Literals : (f : Found) {before after : List ℕ} {k : ℕ} → FoundAs f before after (Some k) → Literals f k after
+unfolding count_of buffer_by
 found_Literals none x = let z : ◌≡◌ {A = ℕ} 0 1 = cc x.answer in absurd (omega arith)
 found_Literals (some r) {before} {after} {k} x =
     let n : k ≡ length r = cc x.answer in

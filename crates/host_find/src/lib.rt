@@ -18,7 +18,6 @@ ghost use Rattle.host_find.specs.Host.{host_finds, host_finds_with, returned, ou
 ghost use Rattle.host_find.specs.Inside.{leaf_finds};
 
 use exported::{negated, write_numbers};
-use literals::Finding;
 use record::Answer;
 
 // Finds in an edition on the arrays of an accepted record, the slices of its sizes and the states of its cells. The output is long enough for every
@@ -55,12 +54,11 @@ fn find_on<'a>(
         &mut literals,
     );
     match found {
-        Finding::Nothing => 0,
-        Finding::Reason(count) => {
+        None => 0,
+        Some(count) => {
             write_numbers(&literals, count, output);
             count as i32
         }
-        Finding::Refused(k) => negated(k),
     }
 }
 

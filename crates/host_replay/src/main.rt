@@ -11,7 +11,7 @@ ghost use Rattle.replay.specs.Comparisons.{DiffersUnless};
 ghost use Rattle.replay.specs.Lists.{byte_in, differs};
 ghost use Rattle.host_replay.specs.HostCalls.{fresh, CallSo};
 
-use replay::{Run, Tally};
+use replay::{Cursor, Entries, Run};
 use std::io;
 
 // What stands in every place of the array before a call.
@@ -29,34 +29,21 @@ fn fresh_array() -> [u8; 8192]
 
 // The number of a refusal, negated, and a number that is never returned where there is no such refusal.
 fn refused(k: usize) -> i32 {
-    match k {
-        1 => -1,
-        2 => -2,
-        3 => -3,
-        4 => -4,
-        5 => -5,
-        6 => -6,
-        7 => -7,
-        8 => -8,
-        9 => -9,
-        10 => -10,
-        11 => -11,
-        12 => -12,
-        _ => -13,
+    if (1..=12).contains(&k) {
+        return -(k as i32);
     }
+    -13
 }
 
 // The number that a call with these two halves in the list returns.
 fn expected_number(high: usize, low: usize) -> i32
     requires { low < 65536 }
 {
-    if high == 0 {
-        return low as i32;
+    match high {
+        0 => low as i32,
+        65535 => refused(65536 - low),
+        _ => refused(0),
     }
-    if high == 65535 {
-        return refused(65536 - low);
-    }
-    refused(0)
 }
 
 // How many bytes of literals go with these two halves.
@@ -96,55 +83,38 @@ fn call_differs(
     returned != expected || array_differs(list, at, n, &array)
 }
 
-// Makes the call of the entry at `at`.
-fn run_entry(list: &[u8], at: usize) -> Run
-    requires { at < length list.now }
-{
-    let decisions = at + 2 + replay::number_at(list, at);
-    if list.len() < decisions {
-        return Run::broken();
-    }
-    let output = decisions + 2 + replay::number_at(list, decisions);
-    if list.len() < output {
-        return Run::broken();
-    }
-    let size = replay::number_at(list, output);
-    let high = replay::number_at(list, output + 2);
-    let low = replay::number_at(list, output + 4);
-    let literals = output + 6;
-    let n = literal_bytes(high, low);
-    if list.len() < literals + n {
-        return Run::broken();
-    }
-    if 8000 < size {
-        return Run::broken();
-    }
-    Run::of(
-        call_differs(
-            list,
-            &list[at + 2..decisions],
-            &list[decisions + 2..output],
-            size,
-            expected_number(high, low),
-            literals,
-            n,
-        ),
-        literals + n,
-    )
-}
+// Host calls, each with what it returns and the literals that it leaves.
+#[derive(Drop)]
+struct Calls;
 
-// Goes through the entries.
-fn go_through(list: &[u8]) -> Tally {
-    let mut tally = Tally::of(list, 0);
-    while tally.at < list.len() {
-        tally = tally.with(run_entry(list, tally.at), list.len());
+impl Entries for Calls {
+    ghost BEFORE = { 0 };
+
+    const BEFORE: usize = 0;
+
+    fn of(_data: &[u8]) -> Calls {
+        Calls
     }
-    tally
+
+    fn run(&self, list: &[u8], at: usize) -> Option<Run> {
+        let mut cursor = Cursor { list, at };
+        let bytes = cursor.counted()?;
+        let decisions = cursor.counted()?;
+        let size = cursor.number()?;
+        let high = cursor.number()?;
+        let low = cursor.number()?;
+        let at = cursor.at;
+        let n = literal_bytes(high, low);
+        cursor.take(n)?;
+        if 8000 < size {
+            return None;
+        }
+        let expected = expected_number(high, low);
+        let differs = call_differs(list, bytes, decisions, size, expected, at, n);
+        Some(Run::of(differs, cursor.at))
+    }
 }
 
 fn main(rt: HostRuntime) -> io::Result<()> {
-    let mut space = replay::room();
-    let list = replay::read_list(rt.reader(), &mut space)?;
-    let (_, written) = go_through(list).print(b" calls, ", b"", &mut io::writer(&rt));
-    written
+    replay::replay::<Calls, _, _>(rt.reader(), &mut io::writer(&rt), " calls, ", "")
 }

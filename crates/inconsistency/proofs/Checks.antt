@@ -1,8 +1,8 @@
--- What the searches for reasons 1 and 2 found, as an answer and a lent buffer.
+-- The arrays of a board as the searches for reasons ask for them.
 -- Assumes nothing.
 use Prim.Native.Nat.{ℕ, ◌*◌, ◌≤◌, ◌<◌}
-use mathlib.Core.Bool.{Bool, true, false}
-use mathlib.Core.Path.{◌≡◌, sym, ap, ◌∙◌, subst}
+use mathlib.Core.Bool.{Bool}
+use mathlib.Core.Path.{◌≡◌, sym, ap, ◌∙◌}
 use mathlib.Core.List.{List, Memᴰ}
 use lib.ListN.{length, take}
 use Rattle.grid.specs.Lists.{member}
@@ -11,25 +11,16 @@ use Rattle.grid.specs.Grid.{Grid, size, cells_of}
 use Rattle.grid.specs.Side.{sized}
 use Rattle.grid.proofs.SideLaws.{area, sized-size}
 use Rattle.grid.proofs.ListLaws.{flat_map-mem}
-use Rattle.record.specs.Record.{Puzzle}
 use Rattle.record.specs.Problem.{arrow_cells}
 use Rattle.groups.specs.Arrows.{on_arrow}
 use Rattle.grid.specs.Cells.{square}
 use Rattle.grid.proofs.GridLaws.{size_most}
 use Rattle.grid.proofs.FilledLaws.{filled_length}
+use Rattle.groups.specs.declared.Members.TheVariants.{Potential, Squares}
 use Rattle.groups.specs.Arrays.{no_group, label_at, label_array, Line, lines_of, mask_of, counts, marked, Counted, GroupTable}
 use Rattle.groups.proofs.TableLaws.{table_on}
 use Rattle.groups.proofs.MarkLaws.{arrow_Marks}
 use Rattle.kinds.specs.Inside.{puzzle_with, Held}
-use Rattle.kinds.specs.Kinds.{view}
-use Rattle.literals.specs.declared.Finding.{Finding}
-use Rattle.literals.specs.declared.Finding.TheVariants.{Nothing, Reason, Refused}
-use Rattle.literals.specs.Literals.{Found, or_else}
-use Rattle.units.specs.Units.{reason1}
-use Rattle.paths.specs.Paths.{reason2}
-use Rattle.growth.specs.Growth.{reason34}
-use Rattle.sized.specs.Sized.{reason5}
-use Rattle.inconsistency.specs.Reasons.{find_reason}
 use Rattle.units.specs.Arrays.{PotentialTable}
 use Rattle.paths.specs.Ends.{BlockTable}
 use Rattle.growth.specs.Pairs.{view_on, Blocks}
@@ -37,9 +28,7 @@ use Rattle.growth.proofs.PairChecks.{block_in_lem}
 use Rattle.shift.specs.Shift.{block_in}
 use Rattle.reach.proofs.BlockSize.{block_cell, block_size}
 use Rattle.inconsistency.specs.Arrays.{ArrowArrays}
-use Rattle.literals.specs.Inside.{FoundAs, Fit}
-use Rattle.literals.proofs.Findings.{nothing_found, not_refused, found_first, found_next}
-use Rattle.record.specs.Leaf.{Range, leaf_with}
+use Rattle.literals.specs.Inside.{Fit}
 
 -- ---- the arrays of a board
 
@@ -60,13 +49,13 @@ module _ (h w : ℕ) (tall : h ≤ 32) (wide : w ≤ 32) {arrows ends : List ℕ
 
   -- the tables of the potential groups and of the blocks
   pub potentials_held : (cells : List ℕ) {onarrow groups names squares arrowed : List ℕ} {count : ℕ}
-      → GroupTable (sized h w) (counts true (take (h * w) cells)) (square (take (h * w) cells)) (marked onarrow) groups names squares arrowed count → Marks onarrow (λ i. member i (take total arrows))
+      → GroupTable (sized h w) (counts Potential (take (h * w) cells)) (square (take (h * w) cells)) (marked onarrow) groups names squares arrowed count → Marks onarrow (λ i. member i (take total arrows))
       → PotentialTable (puzzle_with (sized h w) (lines_of arrows ends number)) (take (h * w) cells) groups names squares arrowed count
   unfolding counts
   potentials_held cells t m = table_on (sized h w) _ (lines_of arrows ends number) (Marks-are m) t
 
   pub blocks_held : (cells : List ℕ) {onarrow groups names squares arrowed : List ℕ} {count : ℕ}
-      → GroupTable (sized h w) (counts false (take (h * w) cells)) (square (take (h * w) cells)) (marked onarrow) groups names squares arrowed count → Marks onarrow (λ i. member i (take total arrows))
+      → GroupTable (sized h w) (counts Squares (take (h * w) cells)) (square (take (h * w) cells)) (marked onarrow) groups names squares arrowed count → Marks onarrow (λ i. member i (take total arrows))
       → BlockTable (puzzle_with (sized h w) (lines_of arrows ends number)) (take (h * w) cells) groups onarrow names squares arrowed count
   unfolding counts
   blocks_held cells t m = record { table = table_on (sized h w) _ (lines_of arrows ends number) (Marks-are m) t; arrows_are = Marks-are m }
@@ -87,34 +76,10 @@ Blocks-Counted h w tall wide lines cells {kinds} {owners} held counted f l b =
 
 -- ---- one search after another
 
--- an answer that is nothing leaves the buffer, and none is a refusal
-pub same_after : (f : Found) {a b : List ℕ} {r : Finding} → FoundAs f a b r → r ≡ Nothing → b ≡ a
-same_after f {a} {b} x e = (nothing_found f (subst (FoundAs f a b) e x)).1
-
-pub never_refused : (f : Found) {a b : List ℕ} {r : Finding} {k : ℕ} → FoundAs f a b r → r ≡ Refused k → ⊥
-never_refused f {a} {b} x e = not_refused f (subst (FoundAs f a b) e x)
+-- the arrows' cells are as many as were counted
+pub Arrows-counted : {n : ℕ} {arrows ends : List ℕ} {number total m : ℕ} → ArrowArrays n arrows ends number total → m ≡ total → ArrowArrays n arrows ends number m
+Arrows-counted d e = rw e d
 
 -- the buffer is as long as it was
 pub Fit-after : {h w : ℕ} {a b : List ℕ} → Fit h w a → b ≡ a → Fit h w b
 Fit-after f e = record { tall = f.tall; wide = f.wide; room = rw e f.room }
-
-module _ (k : ℕ) (sizes : List Range) (p : Puzzle) (cells : List ℕ) {a b : List ℕ} {r : Finding} (x : FoundAs (reason1 p cells) a b r) where
-  -- reason 1 applies
-  pub first_found : {m : ℕ} → r ≡ Reason m → FoundAs (find_reason (leaf_with k sizes p) cells) a b (Reason m)
-  unfolding find_reason
-  first_found e = found_first (reason1 p cells) _ (subst (FoundAs (reason1 p cells) a b) e x)
-
-  module _ (e : r ≡ Nothing) {c : List ℕ} {q : Finding} (y : FoundAs (reason2 p cells) b c q) where
-    -- reason 2 applies
-    pub second_found : {m : ℕ} → q ≡ Reason m → FoundAs (find_reason (leaf_with k sizes p) cells) a c (Reason m)
-    unfolding find_reason
-    second_found d =
-        found_next (reason1 p cells) _ (subst (FoundAs (reason1 p cells) a b) e x)
-        (found_first (reason2 p cells) _ (subst (FoundAs (reason2 p cells) b c) d y))
-
-    -- neither applies
-    pub rest_found : q ≡ Nothing → {t : List ℕ} {r' : Finding} → FoundAs (or_else (reason34 k (view p cells)) (reason5 (view p cells) sizes)) c t r' → FoundAs (find_reason (leaf_with k sizes p) cells) a t r'
-    unfolding find_reason
-    rest_found d z =
-        found_next (reason1 p cells) _ (subst (FoundAs (reason1 p cells) a b) e x)
-        (found_next (reason2 p cells) _ (subst (FoundAs (reason2 p cells) b c) d y) z)

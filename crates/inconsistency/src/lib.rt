@@ -18,7 +18,7 @@ ghost use Rattle.sized.specs.Sized.{reason5};
 ghost use Rattle.sized.specs.Inside.{SizesOn};
 ghost use Rattle.literals.specs.Literals.{or_else};
 
-use literals::Finding;
+use groups::Members;
 
 // Reasons 3 and 4, else 5, if one applies. The searches work in the arrays of the names, the blocks and their arrow cells, which nothing reads any more
 // then.
@@ -37,7 +37,7 @@ fn check_arrows(
     h: usize,
     w: usize,
     buffer: &mut [u16],
-) -> Finding
+) -> Option<usize>
     requires { Fit h w buffer.old × Ready h w cells.now arrows.now ends.now number blocks.old squares.now arrowed.old × (edition ≡ 0 → ⊥)
         × Work names.old blocks.old arrowed.old × SizesOn (h * w) (lines_of arrows.now ends.now number) lowest.now highest.now }
     ensures { FoundAs (or_else (reason34 edition (view_on h w (lines_of arrows.now ends.now number) cells.now))
@@ -56,17 +56,15 @@ fn check_arrows(
         edition, cells, arrows, ends, number, &kinds, &owners, &head, &next, &sizes, squares, h, w,
         names, blocks, arrowed, buffer,
     );
-    match finding {
-        Finding::Nothing => sized::check_sizes(
-            lowest, highest, cells, &kinds, &owners, &head, &next, &sizes, squares, h, w, names,
-            buffer,
-        ),
-        Finding::Reason(literals) => Finding::Reason(literals),
-        Finding::Refused(number) => Finding::Refused(number),
+    if let Some(literals) = finding {
+        return Some(literals);
     }
+    sized::check_sizes(
+        lowest, highest, cells, &kinds, &owners, &head, &next, &sizes, squares, h, w, names, buffer,
+    )
 }
 
-// The first reason that applies, on the arrays of a board that is known to be well formed: for `reasons`, `finished` and `certain`, which have
+// The first reason that applies, if there is one, on the arrays of a board that is known to be well formed: how many literals of it stand in the buffer. For `reasons`, `finished` and `certain`, which have
 // tested their board, and for what goes by an accepted record alone, as `host_find` does. The slices have the lowest and the highest size of
 // each cell, 0 for none; a board without sizes lends empty ones.
 pub fn find_inconsistency<'a>(
@@ -80,7 +78,7 @@ pub fn find_inconsistency<'a>(
     h: usize,
     w: usize,
     buffer: &mut [u16],
-) -> Finding
+) -> Option<usize>
     requires { Fit h w buffer.old × ArrowArrays (h * w) arrows.now ends.now number (last 0 (take number ends.now)) × (edition ≡ 0 → ⊥)
         × SizesOn (h * w) (lines_of arrows.now ends.now number) lowest.now highest.now }
     ensures { FoundAs (find_reason (leaf_with edition (kept_ranges lowest.now highest.now (length lowest.now)) (puzzle_with (sized h w) (lines_of arrows.now ends.now number))) (take (h * w) cells.now)) buffer.old buffer.new result }
@@ -95,7 +93,7 @@ pub fn find_inconsistency<'a>(
     let potentials = groups::compute_connected_components(
         cells,
         &onarrow,
-        true,
+        Members::Potential,
         h,
         w,
         &mut labels,
@@ -106,19 +104,13 @@ pub fn find_inconsistency<'a>(
     let first = units::check_potential_groups(
         cells, &labels, &names, potentials, &squares, &arrowed, h, w, buffer,
     );
-    match first {
-        Finding::Nothing => {}
-        Finding::Reason(count) => {
-            return Finding::Reason(count);
-        }
-        Finding::Refused(k) => {
-            return Finding::Refused(k);
-        }
+    if let Some(count) = first {
+        return Some(count);
     }
     let blocks = groups::compute_connected_components(
         cells,
         &onarrow,
-        false,
+        Members::Squares,
         h,
         w,
         &mut labels,
@@ -129,24 +121,23 @@ pub fn find_inconsistency<'a>(
     let second = paths::check_blocks(
         cells, &labels, &onarrow, &names, blocks, &arrowed, h, w, buffer,
     );
-    match second {
-        Finding::Nothing => check_arrows(
-            edition,
-            lowest,
-            highest,
-            cells,
-            arrows,
-            ends,
-            number,
-            &mut labels,
-            &mut names,
-            &squares,
-            &mut arrowed,
-            h,
-            w,
-            buffer,
-        ),
-        Finding::Reason(count) => Finding::Reason(count),
-        Finding::Refused(k) => Finding::Refused(k),
+    if let Some(count) = second {
+        return Some(count);
     }
+    check_arrows(
+        edition,
+        lowest,
+        highest,
+        cells,
+        arrows,
+        ends,
+        number,
+        &mut labels,
+        &mut names,
+        &squares,
+        &mut arrowed,
+        h,
+        w,
+        buffer,
+    )
 }

@@ -5,13 +5,13 @@ use native.Mathlib.Omega.{arith}
 use native.Mathlib.Decide.{dec_lt}
 use mathlib.Core.Path.{◌≡◌, refl, sym, ap, subst, ◌∙◌}
 use mathlib.Core.List.{List, [], ◌∷◌, ◌++◌, map}
-use lib.ListN.{length, get_or, length-append, length-map, get_or-eq_default}
+use lib.ListN.{length, get_or, take, replicate, length-append, length-map, get_or-eq_default}
+use Rattle.std.proofs.lemmas.List.{length-take, get_or-take, get_or_default}
 use Rattle.grid.specs.Lists.{upto, array_of, flat_map}
 use Rattle.grid.specs.Grid.{size, row, col, cells_of}
 use Rattle.grid.specs.Side.{InGrid}
-use Rattle.grid.proofs.AppendLaws.{flat_map-append, map_agree}
-use Rattle.grid.proofs.ListLaws.{length-map-upto, upto-mem}
-use Rattle.grid.proofs.ArrayLaws.{array_length, array_in, array_out}
+use Rattle.grid.proofs.AppendLaws.{flat_map-append}
+use Rattle.grid.proofs.ArrayLaws.{array_length, array_take, array_in, array_out}
 use Rattle.grid.proofs.FilledLaws.{filled_same}
 use Rattle.grid.proofs.SideLaws.{area, in_place, some_wide}
 use Rattle.record.specs.Record.{Puzzle}
@@ -21,9 +21,9 @@ use Rattle.record.specs.declared.Problem.{Problem}
 use Rattle.record.proofs.LinesLaws.{Lines-of, problem_Lines}
 use Rattle.record.proofs.ProblemLaws.{length_ends}
 use Rattle.record.proofs.RecordLaws.{Valid-size}
-use Rattle.writer.proofs.ArrayLaws.{total, map_places, ends_map, cells_map, total_is, few, Parts, parts}
+use Rattle.writer.proofs.ArrayLaws.{total, ends_map, cells_map, total_is, few, Parts, parts}
 use Rattle.join.specs.Join.{placed, code_beside, joined_grid, left_cell, right_cell, codes_beside, joined}
-use Rattle.join.specs.Inside.{SideBySide, Placing, Behind}
+use Rattle.join.specs.Inside.{SideBySide, Placing, code_on, Behind}
 use Rattle.join.proofs.JoinLaws.{joined-Valid}
 
 -- ---- arrows one after another
@@ -92,22 +92,18 @@ array_all l i h = go (dec_lt i (length l)) (dec_lt i 1024)
     go (no a) (yes b) = array_out 0 l 0 i (omega arith) b ∙ sym (get_or-eq_default l 0 {n = i} (omega arith))
     go (no a) (no b) = get_or-eq_default (array_of 0 l) 0 {n = i} (omega (arith, array_length 0 l h)) ∙ sym (get_or-eq_default l 0 {n = i} (omega arith))
 
--- a list that is moved place by place
-moved_places : (f : ℕ → ℕ) (l : List ℕ) (n : ℕ) → n ≡ length l → map (λ t. f (get_or (array_of 0 l) t 0)) (upto n) ≡ map f l
-moved_places f l n e =
-    ap (λ (k : ℕ). map (λ t. f (get_or (array_of 0 l) t 0)) (upto k)) e
-    ∙ map_agree (λ t. f (get_or (array_of 0 l) t 0)) (λ t. f (get_or l t 0)) (upto (length l)) (λ t m. ap f (array_in 0 l 0 t (upto-mem (length l) m)))
-    ∙ map_places f l
+-- the first n places of an array that keeps a list of n numbers
+front : (l : List ℕ) (n : ℕ) → n ≡ length l → take n (array_of 0 l) ≡ l
+front l n e = rw e (array_take 0 l)
 
 -- what they make of two problems with a and n arrow cells
-pub record Built (l r : Problem) (a n : ℕ) (codes zeros first line ends : List ℕ) : Type 0 where
+pub record Built (l r : Problem) (a n : ℕ) (codes first line ends : List ℕ) : Type 0 where
   pub left_total : a ≡ total l.ends l.count
   pub right_total : n ≡ total r.ends r.count
-  pub cells : codes ≡ array_of 0 (map (λ j. code_beside l.cells l.width r.cells r.width (j / (l.width + 1 + r.width)) (j % (l.width + 1 + r.width))) (upto (l.height * (l.width + 1 + r.width))))
-  pub empty : zeros ≡ array_of 0 []
-  pub left : Behind 0 a (λ t. placed 0 l.width (l.width + 1 + r.width) (get_or l.arrows t 0)) zeros first
-  pub right : Behind a n (λ t. placed (l.width + 1) r.width (l.width + 1 + r.width) (get_or r.arrows t 0)) first line
-  pub later : Behind l.count r.count (λ t. a + get_or r.ends t 0) l.ends ends
+  pub cells : codes ≡ array_of 0 (map (code_on l r) (upto (l.height * (l.width + 1 + r.width))))
+  pub left : Behind 0 (placed 0 l.width (l.width + 1 + r.width)) (take a l.arrows) (replicate 1024 0) first
+  pub right : Behind a (placed (l.width + 1) r.width (l.width + 1 + r.width)) (take n r.arrows) first line
+  pub later : Behind l.count (λ e. a + e) (take r.count r.ends) l.ends ends
 
 abbrev pub after_built : Problem → Problem → List ℕ → List ℕ → List ℕ → Problem
 after_built l r codes line ends = record {
@@ -134,22 +130,21 @@ module _ (p q : Puzzle) (v : Valid p) (w : Valid q) (level : p.grid.height ≡ q
       filled_same 0 (λ j. code_beside (array_of 0 p.given) p.grid.width (array_of 0 q.given) q.grid.width (j / W) (j % W)) (λ j. code_beside p.given p.grid.width q.given q.grid.width (j / W) (j % W))
       (p.grid.height * W) (area p.grid.height W v.high.0 wide) (λ i l. code_same (i / W) (i % W))
 
-  Built-of : (a n : ℕ) (codes zeros first line ends : List ℕ) → Built (problem_of p) (problem_of q) a n codes zeros first line ends → after_built (problem_of p) (problem_of q) codes line ends ≡ problem_of (joined p q)
-  unfolding problem_of
-  Built-of s m codes zeros first line ends b =
+  Built-of : (a n : ℕ) (codes first line ends : List ℕ) → Built (problem_of p) (problem_of q) a n codes first line ends → after_built (problem_of p) (problem_of q) codes line ends ≡ problem_of (joined p q)
+  unfolding problem_of array_of
+  Built-of s m codes first line ends b =
       let A : List ℕ = arrow_cells p.arrows in
       let B : List ℕ = arrow_cells q.arrows in
       let x = b.left_total ∙ total_is p v in
       let y = b.right_total ∙ total_is q w in
-      let F : ℕ → ℕ = λ t. left_cell p q (get_or (array_of 0 A) t 0) in
-      let one = b.left [] refl b.empty in
-      let two = b.right (map F (upto s)) (length-map-upto F s) one in
-      let e1 = moved_places (left_cell p q) A s x in
-      let e2 = moved_places (right_cell p q) B m y in
+      let e1 = ap (map (left_cell p q)) (front A s x) in
+      let e2 = ap (map (right_cell p q)) (front B m y) in
+      let one : first ≡ array_of 0 (map (left_cell p q) A) = b.left [] refl refl ∙ ap (array_of 0) e1 in
+      let two = b.right (map (left_cell p q) A) (length-map A (left_cell p q) ∙ sym x) one in
       let three = b.later (ends_from 0 p.arrows) (length_ends 0 p.arrows) refl in
-      let e3 = moved_places (λ k. s + k) (ends_from 0 q.arrows) (length q.arrows) (sym (length_ends 0 q.arrows)) ∙ ap (λ (n : ℕ). map (λ k. n + k) (ends_from 0 q.arrows)) x in
+      let e3 = ap (map (λ k. s + k)) (front (ends_from 0 q.arrows) (length q.arrows) (sym (length_ends 0 q.arrows))) ∙ ap (λ (n : ℕ). map (λ k. n + k) (ends_from 0 q.arrows)) x in
       let c1 : codes ≡ array_of 0 (codes_beside p q) = b.cells ∙ codes_same in
-      let c2 : line ≡ array_of 0 (map (left_cell p q) A ++ map (right_cell p q) B) = two ∙ rw (e1, e2) refl in
+      let c2 : line ≡ array_of 0 (map (left_cell p q) A ++ map (right_cell p q) B) = two ∙ rw e2 refl in
       let c3 : ends ≡ array_of 0 (ends_from 0 p.arrows ++ map (λ e. length A + e) (ends_from 0 q.arrows)) = three ∙ rw e3 refl in
       rw (c1, c2, c3) (problem_joined p q)
 
@@ -188,11 +183,11 @@ module _ (p q : Puzzle) (v : Valid p) (w : Valid q) (l r : Problem) (e : l ≡ p
   pub wide_of : l.width + 1 + r.width ≤ 32 → (joined_grid p q).width ≤ 32
   wide_of k = omega (arith, k, same_width p l e, same_width q r f)
 
-  pub built : l.height ≡ r.height → l.width + 1 + r.width ≤ 32 → (a n : ℕ) (codes zeros first line ends : List ℕ) → Built l r a n codes zeros first line ends
+  pub built : l.height ≡ r.height → l.width + 1 + r.width ≤ 32 → (a n : ℕ) (codes first line ends : List ℕ) → Built l r a n codes first line ends
       → after_built l r codes line ends ≡ problem_of (joined p q)
   built h k =
-      subst (λ x. (a n : ℕ) (codes zeros first line ends : List ℕ) → Built x r a n codes zeros first line ends → after_built x r codes line ends ≡ problem_of (joined p q)) (sym e)
-      (subst (λ y. (a n : ℕ) (codes zeros first line ends : List ℕ) → Built (problem_of p) y a n codes zeros first line ends → after_built (problem_of p) y codes line ends ≡ problem_of (joined p q)) (sym f)
+      subst (λ x. (a n : ℕ) (codes first line ends : List ℕ) → Built x r a n codes first line ends → after_built x r codes line ends ≡ problem_of (joined p q)) (sym e)
+      (subst (λ y. (a n : ℕ) (codes first line ends : List ℕ) → Built (problem_of p) y a n codes first line ends → after_built (problem_of p) y codes line ends ≡ problem_of (joined p q)) (sym f)
       (Built-of p q v w (level_of h) (wide_of k)))
 
   Fit-of : l.height ≡ r.height → l.width + 1 + r.width ≤ 32 → Fit l r
@@ -210,6 +205,17 @@ pub places : (l : Problem) → Parts l → (d m : ℕ) → d + l.width ≤ m →
 places l P d m inside wide n e t h =
     let i : InGrid l.height l.width (get_or l.arrows t 0) = record { tall = P.tall; wide = P.wide; within = P.cells t (omega (arith, e)) } in
     record { some = some_wide i; row = omega (arith, (in_place i).row, P.tall); inside = inside; wide = wide }
+
+-- the numbers of the first n places
+pub front_below : (n : ℕ) (l : List ℕ) (k : ℕ) → k < length (take n l) → k < n
+front_below n l k h = omega (arith, length-take n l)
+
+pub front_at : (n : ℕ) (l : List ℕ) (k z : ℕ) → k < length (take n l) → get_or (take n l) k z ≡ get_or l k 0
+front_at n l k z h = get_or-take n l k z (front_below n l k h) ∙ get_or_default l k z 0 (omega (arith, length-take n l))
+
+-- so it has where only the first n cells are given
+pub place_in : (l : Problem) → Parts l → (d m : ℕ) → d + l.width ≤ m → m ≤ 32 → (n : ℕ) → n ≡ total l.ends l.count → (k z : ℕ) → k < length (take n l.arrows) → Placing d l.width m (get_or (take n l.arrows) k z)
+place_in l P d m inside wide n e k z h = rw (front_at n l.arrows k z h) (places l P d m inside wide n e k (front_below n l.arrows k h))
 
 pub sides : (l r : Problem) → Fit l r → SideBySide l.height l.width r.width
 sides l r f = record { tall = f.left.tall; wide = f.wide }

@@ -5,10 +5,9 @@ use native.Mathlib.Omega.{arith}
 use native.Mathlib.Nat.{mod-lt, div-lt_iff_lt-mul}
 use mathlib.Core.Path.{◌≡◌, sym, ap, subst, ◌∙◌}
 use mathlib.Core.List.{List, [], ◌∷◌, ◌++◌, append_assoc, append-nil, map, map-append}
-use lib.ListN.{length, set, length-append}
-use Rattle.grid.specs.Lists.{upto, range, array_of}
-use Rattle.grid.proofs.ListLaws.{length-map-upto}
-use Rattle.grid.proofs.AppendLaws.{upto_more}
+use lib.ListN.{length, get_or, set, take, length-append, length-map, length-take}
+use Rattle.std.proofs.lemmas.List.{take_more}
+use Rattle.grid.specs.Lists.{array_of}
 use Rattle.grid.proofs.ArrayLaws.{array_more}
 use Rattle.grid.proofs.SideLaws.{area, index_small}
 use Rattle.join.specs.Inside.{SideBySide, Spot, Placing, Behind}
@@ -36,16 +35,16 @@ pub place_small : {d w m i : ℕ} → Placing d w m i → (i / w * m < 1024) × 
 place_small {d} {w} {m} {i} p = index_small {h = 32} {w = m} (i / w) (d + i % w) (omega arith) p.wide p.row (omega (arith, p.inside, mod-lt i p.some))
 
 -- values behind others
-pub Behind-none : (at : ℕ) (F : ℕ → ℕ) (a : List ℕ) → Behind at 0 F a a
-unfolding upto range
-Behind-none at F a l e f = f ∙ ap (array_of 0) (sym (append-nil l))
+pub Behind-none : (at : ℕ) (G : ℕ → ℕ) (list a : List ℕ) → Behind at G (take 0 list) a a
+Behind-none at G list a l e f = f ∙ ap (array_of 0) (sym (append-nil l))
 
-pub Behind-more : (at k v : ℕ) (F : ℕ → ℕ) (a b : List ℕ) → at + k < 1024 → v ≡ F k → Behind at k F a b → Behind at (k + 1) F a (set b (at + k) v)
-Behind-more at k v F a b h f i l e g =
-    let m : List ℕ = l ++ map F (upto k) in
-    let n : length m ≡ at + k = omega (arith, length-append l (map F (upto k)), length-map-upto F k) in
+pub Behind-more : (at k v : ℕ) (G : ℕ → ℕ) (list a b : List ℕ) → k < length list → at + k < 1024 → v ≡ G (get_or list k 0) → Behind at G (take k list) a b
+    → Behind at G (take (k + 1) list) a (set b (at + k) v)
+Behind-more at k v G list a b s h f i l e g =
+    let m : List ℕ = l ++ map G (take k list) in
+    let n : length m ≡ at + k = omega (arith, length-append l (map G (take k list)), length-map (take k list) G, length-take k list) in
     ap (λ (x : List ℕ). set x (at + k) v) (i l e g)
     ∙ subst (λ (j : ℕ). set (array_of 0 m) j v ≡ array_of 0 (m ++ (v ∷ []))) n (array_more 0 m v (omega arith))
     ∙ ap (array_of 0)
-    (append_assoc l (map F (upto k)) (v ∷ [])
-    ∙ ap (λ (x : List ℕ). l ++ x) (ap (λ (x : ℕ). map F (upto k) ++ (x ∷ [])) f ∙ sym (map-append F (upto k) (k ∷ [])) ∙ ap (map F) (sym (upto_more k))))
+    (append_assoc l (map G (take k list)) (v ∷ [])
+    ∙ ap (λ (x : List ℕ). l ++ x) (ap (λ (x : ℕ). map G (take k list) ++ (x ∷ [])) f ∙ sym (map-append G (take k list) (get_or list k 0 ∷ [])) ∙ ap (map G) (sym (take_more list k 0 s))))

@@ -1,117 +1,85 @@
 // Joining the records of two leaves of equal height: the left grid, a column of black cells and the right grid, written as one record.
 #![tactic(auto)]
 
-ghost use Rattle.std.specs.Prelude.{◌≡◌, map, ℕ, ◌+◌, ◌*◌, ◌/◌, ◌%◌, ◌≤◌, ◌<◌, length, get_or};
+ghost use Rattle.std.specs.Prelude.{◌≡◌, map, ℕ, ◌+◌, ◌*◌, ◌≤◌, length, All};
 ghost use Rattle.grid.specs.Lists.{upto, array_of};
 ghost use Rattle.record.specs.Record.{Puzzle};
 ghost use Rattle.record.specs.Valid.{Valid};
 ghost use Rattle.record.specs.Problem.{problem_of};
-ghost use Rattle.exported.specs.Written.{written, output_with};
+ghost use Rattle.exported.specs.Written.{written, output_with, Writes};
 ghost use Rattle.join.specs.Join.{placed, code_beside, joined, join_puzzles, join_record};
-ghost use Rattle.join.specs.Inside.{SideBySide, Spot, Placing, Behind};
+ghost use Rattle.join.specs.Inside.{SideBySide, Spot, Placing, code_on, Gives, Behind};
 
-use exported::{counted, negated};
-use record::{Answer, Problem};
+use record::Problem;
+use refusal::Refusal;
 
 // A grid of `width` columns that stands from the column `from` on among `total` columns.
-#[derive(Clone, Copy)]
+#[derive(Clone, Copy, Debug, PartialEq, Eq)]
 struct Stand {
     from: usize,
     width: usize,
     total: usize,
 }
 
-// The code at a row and a column of the joined grid: the left's, black in the column between, the right's.
-fn code_at(
-    left: &[u8; 1024],
-    left_width: usize,
-    right: &[u8; 1024],
-    right_width: usize,
-    y: usize,
-    x: usize,
-) -> u8
-    requires { Spot left_width right_width y x }
-    ensures { result ≡ code_beside left.now left_width right.now right_width y x }
-{
-    if x < left_width {
-        return left[y * left_width + x];
+impl Stand {
+    // Where the cell i of the grid comes.
+    #[tactic(auto, unfolding(crate::specs::Join::placed))]
+    fn place(self, i: u16) -> u16
+        requires { Placing self.from self.width self.total i }
+        ensures { result ≡ placed self.from self.width self.total i }
+    {
+        let i = usize::from(i);
+        (i / self.width * self.total + (self.from + i % self.width)) as u16
     }
-    if x == left_width {
+}
+
+// The code at a row and a column of the joined grid: the left's, black in the column between, the right's.
+#[tactic(auto, unfolding(crate::specs::Join::code_beside))]
+fn code_at(left: &Problem, right: &Problem, y: usize, x: usize) -> u8
+    requires { Spot left.now.width right.now.width y x }
+    ensures { result ≡ code_beside left.now.cells left.now.width right.now.cells right.now.width y x }
+{
+    if x < left.width {
+        return left.cells[y * left.width + x];
+    }
+    if x == left.width {
         return 1;
     }
-    right[y * right_width + (x - (left_width + 1))]
+    right.cells[y * right.width + (x - (left.width + 1))]
 }
 
 // The codes of the joined grid.
-fn join_codes(
-    height: usize,
-    left: &[u8; 1024],
-    left_width: usize,
-    right: &[u8; 1024],
-    right_width: usize,
-) -> [u8; 1024]
-    requires { SideBySide height left_width right_width }
-    ensures { result ≡ array_of 0 (map (λ j. code_beside left.now left_width right.now right_width (j / (left_width + 1 + right_width)) (j % (left_width + 1 + right_width))) (upto (height * (left_width + 1 + right_width)))) }
+fn join_codes(left: &Problem, right: &Problem) -> [u8; 1024]
+    requires { SideBySide left.now.height left.now.width right.now.width }
+    ensures { result ≡ array_of 0 (map (code_on left.now right.now) (upto (left.now.height * (left.now.width + 1 + right.now.width)))) }
 {
-    let width = left_width + 1 + right_width;
-    let mut codes = record::no_codes();
-    let mut j = 0;
-    while j < height * width {
-        codes[j] = code_at(left, left_width, right, right_width, j / width, j % width);
-        j += 1;
+    let width = left.width + 1 + right.width;
+    let mut codes = [0; 1024];
+    for j in 0..left.height * width {
+        codes[j] = code_at(left, right, j / width, j % width);
     }
     codes
 }
 
-// Where the cell i of a grid comes that stands among more columns.
-fn place(stand: Stand, i: usize) -> usize
-    requires { Placing stand.from stand.width stand.total i }
-    ensures { (result ≡ placed stand.from stand.width stand.total i) × (result < 1024) }
+// Puts what F makes of each number of a list behind the first `at` numbers of an array.
+fn append<F: Fn(u16) -> u16>(list: &[u16], at: usize, line: &mut [u16; 1024], each: F)
+    requires { (at + length list.now ≤ 1024) × All (F.pre each) list.now }
+    ensures { (G : ℕ → ℕ) → Gives (F.post each) G list.now → Behind at G list.now line.old line.new }
 {
-    i / stand.width * stand.total + (stand.from + i % stand.width)
-}
-
-// Puts n arrow cells, moved to their places, behind the first `at` of the line.
-fn append_line(stand: Stand, cells: &[u16; 1024], n: usize, at: usize, line: &mut [u16; 1024])
-    requires { (at + n ≤ 1024) × ((t : ℕ) → t < n → Placing stand.from stand.width stand.total (get_or cells.now t 0)) }
-    ensures { Behind at n (λ t. placed stand.from stand.width stand.total (get_or cells.now t 0)) line.old line.new }
-{
-    let mut t = 0;
-    while t < n {
-        let i = grid::wide(cells[t]);
-        line[at + t] = place(stand, i) as u16;
-        t += 1;
-    }
-}
-
-// Puts n ends of arrows, each `by` later, behind the first `at` of the ends.
-fn append_ends(by: usize, later: &[u16; 1024], n: usize, at: usize, ends: &mut [u16; 1024])
-    requires { (at + n ≤ 1024) × (by ≤ 1024) × ((t : ℕ) → t < n → get_or later.now t 0 ≤ 1024) }
-    ensures { Behind at n (λ t. by + get_or later.now t 0) ends.old ends.new }
-{
-    let mut t = 0;
-    while t < n {
-        let end = grid::wide(later[t]);
-        ends[at + t] = (by + end) as u16;
-        t += 1;
+    for (k, &number) in list.iter().enumerate() {
+        line[at + k] = each(number);
     }
 }
 
 // The joined problem.
-fn put_beside(left: Problem, right: Problem) -> Problem
-    requires { ((p : Puzzle) × Valid p × (left ≡ problem_of p)) × ((q : Puzzle) × Valid q × (right ≡ problem_of q)) × (left.height ≡ right.height) × (left.width + 1 + right.width ≤ 32) }
-    ensures { (p q : Puzzle) → Valid p → Valid q → left ≡ problem_of p → right ≡ problem_of q → result ≡ problem_of (joined p q) }
+fn put_beside(left: &Problem, right: &Problem) -> Problem
+    requires { ((p : Puzzle) × Valid p × (left.now ≡ problem_of p)) × ((q : Puzzle) × Valid q × (right.now ≡ problem_of q))
+        × (left.now.height ≡ right.now.height) × (left.now.width + 1 + right.now.width ≤ 32) }
+    ensures { (p q : Puzzle) → Valid p → Valid q → left.now ≡ problem_of p → right.now ≡ problem_of q → result ≡ problem_of (joined p q) }
 {
     let width = left.width + 1 + right.width;
-    let cells = join_codes(
-        left.height,
-        &left.cells,
-        left.width,
-        &right.cells,
-        right.width,
-    );
-    let left_total = record::arrow_total(&left.ends, left.count);
-    let right_total = record::arrow_total(&right.ends, right.count);
+    let left_total = left.arrow_total();
+    let right_total = right.arrow_total();
     let here = Stand {
         from: 0,
         width: left.width,
@@ -122,15 +90,19 @@ fn put_beside(left: Problem, right: Problem) -> Problem
         width: right.width,
         total: width,
     };
-    let mut arrows = record::no_cells();
-    append_line(here, &left.arrows, left_total, 0, &mut arrows);
-    append_line(there, &right.arrows, right_total, left_total, &mut arrows);
+    let first = &left.arrows[..left_total];
+    let second = &right.arrows[..right_total];
+    let mut arrows = [0; 1024];
+    append(first, 0, &mut arrows, |i| here.place(i));
+    append(second, left_total, &mut arrows, |i| there.place(i));
+    let later = &right.ends[..right.count];
+    let by = left_total as u16;
     let mut ends = left.ends;
-    append_ends(left_total, &right.ends, right.count, left.count, &mut ends);
+    append(later, left.count, &mut ends, |end| by + end);
     Problem {
         height: left.height,
         width,
-        cells,
+        cells: join_codes(left, right),
         arrows,
         ends,
         count: left.count + right.count,
@@ -138,24 +110,33 @@ fn put_beside(left: Problem, right: Problem) -> Problem
 }
 
 // Joins two problems into a lent output: 18 for unequal heights, 19 for a joined width above 32, 15 for an output that is too short.
-fn join_problems(left: Problem, right: Problem, output: &mut [u8]) -> i32
-    requires { ((p : Puzzle) × Valid p × (left ≡ problem_of p)) × ((q : Puzzle) × Valid q × (right ≡ problem_of q)) }
-    ensures { (p q : Puzzle) → Valid p → Valid q → left ≡ problem_of p → right ≡ problem_of q
-        → (result ≡ written (join_puzzles (length output.old) p q)) × (output.new ≡ output_with (join_puzzles (length output.old) p q) output.old) }
+fn write_joined(left: &Problem, right: &Problem, output: &mut [u8]) -> Result<usize, Refusal>
+    requires { ((p : Puzzle) × Valid p × (left.now ≡ problem_of p)) × ((q : Puzzle) × Valid q × (right.now ≡ problem_of q)) }
+    ensures { (p q : Puzzle) → Valid p → Valid q → left.now ≡ problem_of p → right.now ≡ problem_of q
+        → Writes (join_puzzles (length output.old) p q) result output.old output.new }
 {
     let width = left.width + 1 + right.width;
     if left.height != right.height {
-        return negated(18);
+        return Err(Refusal::UnequalHeights);
     }
     if 32 < width {
-        return negated(19);
+        return Err(Refusal::TooWide);
     }
     let whole = put_beside(left, right);
-    let length = record::record_length(whole.height, whole.width, &whole.ends, whole.count);
+    let length = whole.record_length();
     if output.len() < length {
-        return negated(15);
+        return Err(Refusal::RecordOutputShort);
     }
-    counted(writer::write(whole, output))
+    Ok(writer::write(whole, output))
+}
+
+// Joins two records into a lent output: the left's own refusals, the right's, and then those of the two puzzles.
+fn join_records(left: &[u8], right: &[u8], output: &mut [u8]) -> Result<usize, Refusal>
+    ensures { Writes (join_record (length output.old) left.now right.now) result output.old output.new }
+{
+    let first = Problem::read(left)?;
+    let second = Problem::read(right)?;
+    write_joined(&first, &second, output)
 }
 
 // Joins two records into a lent output: the left grid, a column of black cells, the right grid, the left's arrows and then the right's. Returns the
@@ -164,15 +145,5 @@ pub fn join(left: &[u8], right: &[u8], output: &mut [u8]) -> i32
     ensures { (result ≡ written (join_record (length output.old) left.now right.now))
         × (output.new ≡ output_with (join_record (length output.old) left.now right.now) output.old) }
 {
-    let first = record::read(left);
-    let first_answer = first.answer;
-    if let Answer::Refused(n) = first_answer {
-        return negated(n);
-    }
-    let second = record::read(right);
-    let second_answer = second.answer;
-    if let Answer::Refused(n) = second_answer {
-        return negated(n);
-    }
-    join_problems(first.problem, second.problem, output)
+    refusal::returned(join_records(left, right, output))
 }

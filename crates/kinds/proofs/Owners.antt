@@ -1,23 +1,43 @@
 -- The arrow blocks that a cell touches, met one by one.
 -- Assumes nothing.
 use Prim.Native.Nat.{ℕ, ◌≤◌, ◌<◌}
+use native.Mathlib.Omega.{arith}
 use native.Mathlib.Decide.{ℕ_discrete}
 use mathlib.Core.Logic.{◌⊎◌, inl, inr}
 use mathlib.Core.Path.{◌≡◌, refl, sym, ap, ◌∙◌, subst}
-use mathlib.Core.Bool.{true, false}
+use mathlib.Core.Bool.{Bool, true, false, cond}
 use mathlib.Core.List.Memᴰ
 use mathlib.Core.List.{List, [], ◌∷◌, ◌++◌, map, Memᴰ, append-nil, map-append}
 use lib.Dec.{eqb, ltb}
 use lib.ListN.{get_or}
-use borrow.Author.Tests.{eq-eqb, ne_eqb, lt-ltb, le-ltb}
+use borrow.Author.Tests.{eq-eqb, ne_eqb, lt-ltb, le-ltb, ltb-true, ltb-false}
+use Rattle.std.specs.Prelude.{Some, None}
+use Rattle.std.proofs.lemmas.Option.{none-some}
 use Rattle.grid.specs.Lists.{filter, once}
 use Rattle.grid.specs.Grid.{Grid, neighbours}
 use Rattle.grid.proofs.ListLaws.{once-nil, once_one, mem-once}
 use Rattle.grid.proofs.AppendLaws.{filter-append}
 use Rattle.kinds.specs.Kinds.{Kind, vacant, barrier, floating, in_block, neighbour, kind_touching}
-use Rattle.kinds.specs.Inside.{meet_of, Owned, nobody, one, many, arrow_block_at, arrow_blocks_at, kind_in}
+use Rattle.kinds.specs.Inside.{meet_of, Owned, nobody, one, many, block_named, arrow_block_at, arrow_blocks_at, kind_in}
 use Rattle.kinds.specs.declared.Owner.{Owner}
 use Rattle.kinds.specs.declared.Owner.TheVariants.{Nobody, One, Many}
+
+-- a name that is told is a block's, and where none is told there is none
+named_some : (f x : ℕ) → Some x ≡ block_named f → (x ≡ f) × (x < 1024)
+unfolding block_named
+named_some f x e = go (ltb f 1024) refl e
+  where
+    go : (b : Bool) → ltb f 1024 ≡ b → Some x ≡ cond b (Some f) None → (x ≡ f) × (x < 1024)
+    go true t e = let q : x ≡ f = cc in (q, omega (arith, q, ltb-true f 1024 t))
+    go false t e = absurd (none-some x (sym e))
+
+named_none : (f : ℕ) → None ≡ block_named f → 1024 ≤ f
+unfolding block_named
+named_none f e = go (ltb f 1024) refl e
+  where
+    go : (b : Bool) → ltb f 1024 ≡ b → None ≡ cond b (Some f) None → 1024 ≤ f
+    go true t e = absurd (none-some f e)
+    go false t e = ltb-false f 1024 t
 
 -- one more name
 Owned-more : {l : List ℕ} {o : Owner} (x : ℕ) → Owned l o → Owned (l ++ (x ∷ [])) (meet_of o x)
@@ -48,19 +68,19 @@ module _ (blocks arrowed : List ℕ) where
   more js j = ap (filter (λ f. ltb f 1024)) (map-append (arrow_block_at blocks arrowed) js (j ∷ [])) ∙ filter-append (λ f. ltb f 1024) (map (arrow_block_at blocks arrowed) js) (arrow_block_at blocks arrowed j ∷ [])
 
   -- one more cell, in an arrow block or in none
-  pub Owned-hit : (js : List ℕ) (j x : ℕ) {o : Owner} → x ≡ arrow_block_at blocks arrowed j → x < 1024 → Owned (arrow_blocks_at blocks arrowed js) o → Owned (arrow_blocks_at blocks arrowed (js ++ (j ∷ []))) (meet_of o x)
+  pub Owned-hit : (js : List ℕ) (j x : ℕ) {o : Owner} → Some x ≡ block_named (arrow_block_at blocks arrowed j) → Owned (arrow_blocks_at blocks arrowed js) o → Owned (arrow_blocks_at blocks arrowed (js ++ (j ∷ []))) (meet_of o x)
   unfolding arrow_blocks_at filter
-  Owned-hit js j x {o} e h q = subst (λ (l : List ℕ). Owned l (meet_of o x)) (sym (more js j ∙ ap (λ (l : List ℕ). arrow_blocks_at blocks arrowed js ++ l) single)) (Owned-more x q)
+  Owned-hit js j x {o} e q = subst (λ (l : List ℕ). Owned l (meet_of o x)) (sym (more js j ∙ ap (λ (l : List ℕ). arrow_blocks_at blocks arrowed js ++ l) single)) (Owned-more x q)
     where
       single : arrow_blocks_at blocks arrowed (j ∷ []) ≡ x ∷ []
-      single = rw (← e, lt-ltb x 1024 h)
+      single = let n = named_some (arrow_block_at blocks arrowed j) x e in rw (← n.0, lt-ltb x 1024 n.1)
 
-  pub Owned-miss : (js : List ℕ) (j x : ℕ) {o : Owner} → x ≡ arrow_block_at blocks arrowed j → 1024 ≤ x → Owned (arrow_blocks_at blocks arrowed js) o → Owned (arrow_blocks_at blocks arrowed (js ++ (j ∷ []))) o
+  pub Owned-miss : (js : List ℕ) (j : ℕ) {o : Owner} → None ≡ block_named (arrow_block_at blocks arrowed j) → Owned (arrow_blocks_at blocks arrowed js) o → Owned (arrow_blocks_at blocks arrowed (js ++ (j ∷ []))) o
   unfolding arrow_blocks_at filter
-  Owned-miss js j x {o} e h q = subst (λ (l : List ℕ). Owned l o) (sym (more js j ∙ ap (λ (l : List ℕ). arrow_blocks_at blocks arrowed js ++ l) nothing ∙ append-nil (arrow_blocks_at blocks arrowed js))) q
+  Owned-miss js j {o} e q = subst (λ (l : List ℕ). Owned l o) (sym (more js j ∙ ap (λ (l : List ℕ). arrow_blocks_at blocks arrowed js ++ l) nothing ∙ append-nil (arrow_blocks_at blocks arrowed js))) q
     where
       nothing : arrow_blocks_at blocks arrowed (j ∷ []) ≡ []
-      nothing = rw (← e, le-ltb x 1024 h)
+      nothing = rw (le-ltb (arrow_block_at blocks arrowed j) 1024 (named_none (arrow_block_at blocks arrowed j) e))
 
 -- ---- the kind that they make of an undecided cell
 
@@ -88,13 +108,13 @@ module _ (blocks arrowed : List ℕ) (g : Grid) (cells : List ℕ) (i : ℕ) whe
   unfolding kind_in
   kind_empty e = rw e
 
-  pub kind_arrow : (x : ℕ) → get_or cells i 0 ≡ 1 → x ≡ arrow_block_at blocks arrowed i → x < 1024 → in_block x ≡ kind_in blocks arrowed g cells i
+  pub kind_arrow : (x : ℕ) → get_or cells i 0 ≡ 1 → Some x ≡ block_named (arrow_block_at blocks arrowed i) → in_block x ≡ kind_in blocks arrowed g cells i
   unfolding kind_in
-  kind_arrow x e q h = rw (e, ← q, lt-ltb x 1024 h)
+  kind_arrow x e q = let n = named_some (arrow_block_at blocks arrowed i) x q in rw (e, ← n.0, lt-ltb x 1024 n.1)
 
-  pub kind_alone : (x : ℕ) → get_or cells i 0 ≡ 1 → x ≡ arrow_block_at blocks arrowed i → 1024 ≤ x → floating ≡ kind_in blocks arrowed g cells i
+  pub kind_alone : get_or cells i 0 ≡ 1 → None ≡ block_named (arrow_block_at blocks arrowed i) → floating ≡ kind_in blocks arrowed g cells i
   unfolding kind_in
-  kind_alone x e q h = rw (e, ← q, le-ltb x 1024 h)
+  kind_alone e q = rw (e, le-ltb (arrow_block_at blocks arrowed i) 1024 (named_none (arrow_block_at blocks arrowed i) q))
 
   pub kind_open : (k : Kind) → (get_or cells i 0 ≡ 0 → ⊥) → (get_or cells i 0 ≡ 1 → ⊥) → kind_touching (once (arrow_blocks_at blocks arrowed (neighbours g i))) ≡ k → k ≡ kind_in blocks arrowed g cells i
   unfolding kind_in

@@ -1,6 +1,6 @@
 -- What the inner functions of kinds promise each other, and the grid and views that the crates above speak of.
 -- Assumes nothing.
-use Rattle.std.specs.Prelude.{ℕ, ◌≤◌, ◌<◌, ◌≡◌, Bool, true, false, cond, ◌&&◌, not, eqb, ltb, get_or}
+use Rattle.std.specs.Prelude.{ℕ, ◌≤◌, ◌<◌, ◌≡◌, Bool, true, false, cond, ◌&&◌, not, eqb, ltb, get_or, Option, Some, None}
 use mathlib.Core.List.{List, [], map, Memᴰ}
 use Rattle.grid.specs.Lists.{upto, filter, once, array_of}
 use Rattle.grid.specs.Grid.{Grid, neighbours}
@@ -62,6 +62,10 @@ pub data Owned (l : List ℕ) : Owner → Type 0 where
   nobody : ((x : ℕ) → Memᴰ x l → ⊥) → Owned l Nobody
   one : {f : ℕ} → Memᴰ f l → ((x : ℕ) → Memᴰ x l → x ≡ f) → Owned l (One f)
   many : {e f : ℕ} → Memᴰ e l → Memᴰ f l → (e ≡ f → ⊥) → Owned l Many
+
+-- the name of a block, if it is one: 1024 stands for none
+unfoldable pub block_named : ℕ → Option ℕ
+block_named f = cond (ltb f 1024) (Some f) None
 
 module _ (blocks arrowed : List ℕ) where
   -- the name of the arrow block of cell j, 1024 where it is in none

@@ -1,23 +1,25 @@
 // The kinds of a board's cells.
 #![tactic(auto)]
 
-ghost use Rattle.std.specs.Prelude.{◌≡◌, ℕ, ◌*◌, ◌≤◌, ◌<◌, Bool, ◌&&◌, ◌||◌, List, [], ◌∷◌, ◌++◌, eqb, get_or, set, take, replicate};
+ghost use Rattle.std.specs.Prelude.{◌≡◌, ℕ, ◌*◌, ◌≤◌, ◌<◌, Bool, ◌&&◌, ◌||◌, List, [], ◌∷◌, ◌++◌, eqb, get_or, take, replicate};
 ghost use Rattle.grid.specs.Marks.{Marks};
 ghost use Rattle.grid.specs.Grid.{neighbours};
 ghost use Rattle.grid.specs.Side.{sized, InGrid};
 ghost use Rattle.groups.specs.Flood.{free, Only, Unlabelled, Walked, Sofar};
 ghost use Rattle.kinds.specs.Kinds.{view};
 ghost use Rattle.kinds.specs.Arrays.{kind_code, owner_by};
-ghost use Rattle.kinds.specs.Inside.{Limits, puzzle_with, Given, Held, kind_from, meet_of, Owned, arrow_block_at, arrow_blocks_at, kind_in, codes_in, owners_in, unnamed, Walkable};
+ghost use Rattle.kinds.specs.Inside.{Limits, puzzle_with, Given, Held, kind_from, meet_of, Owned, block_named, arrow_block_at, arrow_blocks_at, kind_in, codes_in, owners_in, unnamed, Walkable};
 
-use grid::Side;
+// The kinds by their numbers, as they stand in an array.
+pub const EMPTY: u8 = 0;
 
-// No mark is set.
-pub fn clear(marks: &mut [u8; 1024])
-    ensures { marks.new ≡ replicate 1024 0 }
-{
-    *marks = [0u8; 1024];
-}
+pub const ARROW_BLOCK: u8 = 1;
+
+pub const ARROW_BLOCK_NEIGHBOR: u8 = 2;
+
+pub const BARRIER: u8 = 3;
+
+pub const FLOATING: u8 = 4;
 
 // Marks the name at place j if that place has the tag.
 pub fn mark_name(tags: &[u8; 1024], tag: u8, names: &[u16; 1024], j: usize, marks: &mut [u8; 1024])
@@ -32,14 +34,17 @@ pub fn mark_name(tags: &[u8; 1024], tag: u8, names: &[u16; 1024], j: usize, mark
     if 1024 <= f {
         return;
     }
-    marks[f as usize] = 1;
+    marks[usize::from(f)] = 1;
 }
+
+// Stands for the name of a cell that is in no group.
+const NO_GROUP: u16 = 1024;
 
 // Stands for the name of a floating group that has none yet.
 const UNNAMED: u16 = 1025;
 
 // The arrow blocks that a cell touches.
-#[derive(Clone, Copy)]
+#[derive(Clone, Copy, Debug, PartialEq, Eq)]
 enum Owner {
     Nobody,
     One(u16),
@@ -47,7 +52,7 @@ enum Owner {
 }
 
 // The kind of a cell, with the name of its arrow block.
-#[derive(Clone, Copy)]
+#[derive(Clone, Copy, Debug, PartialEq, Eq)]
 enum DetailedCellKind {
     // Decided empty.
     Empty,
@@ -61,53 +66,65 @@ enum DetailedCellKind {
     Floating,
 }
 
-// The number of a kind.
-fn kind_code(kind: DetailedCellKind) -> u8
-    ensures { result ≡ kind_code (kind_from kind) }
-{
-    match kind {
-        DetailedCellKind::Empty => 0,
-        DetailedCellKind::ArrowBlock(_) => 1,
-        DetailedCellKind::ArrowBlockNeighbor(_) => 2,
-        DetailedCellKind::Barrier => 3,
-        DetailedCellKind::Floating => 4,
+impl Owner {
+    // One more arrow block is met.
+    #[tactic(auto, unfolding(crate::specs::Inside::meet_of))]
+    fn meet(self, f: u16) -> Owner
+        ensures { result ≡ meet_of self f }
+    {
+        match self {
+            Owner::Nobody => Owner::One(f),
+            Owner::One(e) => { if e == f { Owner::One(e) } else { Owner::Many } }
+            Owner::Many => Owner::Many,
+        }
     }
 }
 
-// The arrow block of a kind, 1024 where it has none, and UNNAMED for a floating group.
-fn kind_owner(kind: DetailedCellKind) -> u16
-    ensures { result ≡ owner_by unnamed (kind_from kind) }
-{
-    match kind {
-        DetailedCellKind::Empty => 1024,
-        DetailedCellKind::ArrowBlock(f) => f,
-        DetailedCellKind::ArrowBlockNeighbor(f) => f,
-        DetailedCellKind::Barrier => 1024,
-        DetailedCellKind::Floating => UNNAMED,
+impl DetailedCellKind {
+    // The number of a kind.
+    #[tactic(auto, unfolding(crate::specs::Arrays::kind_code, crate::specs::Inside::kind_from))]
+    fn code(self) -> u8
+        ensures { result ≡ kind_code (kind_from self) }
+    {
+        match self {
+            DetailedCellKind::Empty => EMPTY,
+            DetailedCellKind::ArrowBlock(_) => ARROW_BLOCK,
+            DetailedCellKind::ArrowBlockNeighbor(_) => ARROW_BLOCK_NEIGHBOR,
+            DetailedCellKind::Barrier => BARRIER,
+            DetailedCellKind::Floating => FLOATING,
+        }
+    }
+
+    // The arrow block of a kind, NO_GROUP where it has none, and UNNAMED for a floating group.
+    #[tactic(auto, unfolding(crate::specs::Arrays::owner_by, crate::specs::Inside::kind_from))]
+    fn owner(self) -> u16
+        ensures { result ≡ owner_by unnamed (kind_from self) }
+    {
+        match self {
+            DetailedCellKind::Empty => NO_GROUP,
+            DetailedCellKind::ArrowBlock(f) => f,
+            DetailedCellKind::ArrowBlockNeighbor(f) => f,
+            DetailedCellKind::Barrier => NO_GROUP,
+            DetailedCellKind::Floating => UNNAMED,
+        }
     }
 }
 
-// One more arrow block is met.
-fn meet(owner: Owner, f: u16) -> Owner
-    ensures { result ≡ meet_of owner f }
-{
-    match owner {
-        Owner::Nobody => Owner::One(f),
-        Owner::One(e) => { if e == f { Owner::One(e) } else { Owner::Many } }
-        Owner::Many => Owner::Many,
-    }
-}
-
-// The name of the arrow block of cell j, 1024 where it is in none.
-fn arrow_block_at(blocks: &[u16; 1024], arrowed: &[u16; 1024], j: usize) -> u16
+// The name of the arrow block of cell j, if it is in one.
+#[tactic(auto, using(std::proofs::lemmas::Bool::Decides::nat_tests), unfolding(crate::specs::Inside::block_named, crate::specs::Inside::arrow_block_at))]
+fn arrow_block_at(blocks: &[u16; 1024], arrowed: &[u16; 1024], j: usize) -> Option<u16>
     requires { j < 1024 }
-    ensures { result ≡ arrow_block_at blocks.now arrowed.now j }
+    ensures { result ≡ block_named (arrow_block_at blocks.now arrowed.now j) }
 {
     let f = blocks[j];
     if 1024 <= f {
-        return 1024;
+        return None;
     }
-    if arrowed[f as usize] != 0 { f } else { 1024 }
+    if arrowed[usize::from(f)] != 0 {
+        Some(f)
+    } else {
+        None
+    }
 }
 
 // One more neighbour j: its arrow block is met, if it is in one.
@@ -116,11 +133,10 @@ fn meet_at(blocks: &[u16; 1024], arrowed: &[u16; 1024], j: usize, owner: Owner) 
     ensures { (js : List ℕ) → Owned (arrow_blocks_at blocks.now arrowed.now js) owner
         → Owned (arrow_blocks_at blocks.now arrowed.now (js ++ (j ∷ []))) result }
 {
-    let f = arrow_block_at(blocks, arrowed, j);
-    if 1024 <= f {
-        return owner;
+    match arrow_block_at(blocks, arrowed, j) {
+        Some(f) => owner.meet(f),
+        None => owner,
     }
-    meet(owner, f)
 }
 
 // The arrow blocks that cell i touches.
@@ -132,12 +148,8 @@ fn look_around(blocks: &[u16; 1024], arrowed: &[u16; 1024], h: usize, w: usize, 
     let x = i % w;
     let mut owner = Owner::Nobody;
     for k in 0..4 {
-        let side = grid::toward(h, w, y, x, k);
-        match side {
-            Side::At(j) => {
-                owner = meet_at(blocks, arrowed, j, owner);
-            }
-            Side::Off => {}
+        if let Some(j) = grid::toward(h, w, y, x, k) {
+            owner = meet_at(blocks, arrowed, j, owner);
         }
     }
     owner
@@ -156,42 +168,20 @@ fn kind_at(
     ensures { kind_from result ≡ kind_in blocks.now arrowed.now (sized h w) cells.now i }
 {
     let cell = cells[i];
-    if cell == 0 {
+    if cell == grid::EMPTY {
         return DetailedCellKind::Empty;
     }
-    if cell == 1 {
-        let f = arrow_block_at(blocks, arrowed, i);
-        if f < 1024 {
-            return DetailedCellKind::ArrowBlock(f);
-        }
-        return DetailedCellKind::Floating;
+    if cell == grid::SQUARE {
+        return match arrow_block_at(blocks, arrowed, i) {
+            Some(f) => DetailedCellKind::ArrowBlock(f),
+            None => DetailedCellKind::Floating,
+        };
     }
-    let owner = look_around(blocks, arrowed, h, w, i);
-    match owner {
+    match look_around(blocks, arrowed, h, w, i) {
         Owner::Nobody => DetailedCellKind::Floating,
         Owner::One(f) => DetailedCellKind::ArrowBlockNeighbor(f),
         Owner::Many => DetailedCellKind::Barrier,
     }
-}
-
-// Writes the kind of cell i and its arrow block.
-fn set_kind(
-    cells: &[u8; 1024],
-    blocks: &[u16; 1024],
-    arrowed: &[u16; 1024],
-    h: usize,
-    w: usize,
-    i: usize,
-    kinds: &mut [u8; 1024],
-    owners: &mut [u16; 1024],
-)
-    requires { InGrid h w i }
-    ensures { (kinds.new ≡ set kinds.old i (kind_code (kind_in blocks.now arrowed.now (sized h w) cells.now i)))
-        × (owners.new ≡ set owners.old i (owner_by unnamed (kind_in blocks.now arrowed.now (sized h w) cells.now i))) }
-{
-    let kind = kind_at(cells, blocks, arrowed, h, w, i);
-    kinds[i] = kind_code(kind);
-    owners[i] = kind_owner(kind);
 }
 
 // The kind of each cell and its arrow block; floating groups have no name yet. The arrays come without kinds and owners.
@@ -208,9 +198,10 @@ fn compute_cell_kinds(
     ensures { (kinds.new ≡ codes_in blocks.now arrowed.now (sized h w) cells.now (h * w))
         × (owners.new ≡ owners_in blocks.now arrowed.now (sized h w) cells.now (h * w)) }
 {
-    let n = h * w;
-    for i in 0..n {
-        set_kind(cells, blocks, arrowed, h, w, i, kinds, owners);
+    for i in 0..h * w {
+        let kind = kind_at(cells, blocks, arrowed, h, w, i);
+        kinds[i] = kind.code();
+        owners[i] = kind.owner();
     }
 }
 
@@ -227,10 +218,8 @@ fn traverse_grid(owners: &mut [u16; 1024], h: usize, w: usize, i: usize, name: u
     let y = i / w;
     let x = i % w;
     for k in 0..4 {
-        let side = grid::toward(h, w, y, x, k);
-        match side {
-            Side::At(j) => traverse_grid(owners, h, w, j, name),
-            Side::Off => {}
+        if let Some(j) = grid::toward(h, w, y, x, k) {
+            traverse_grid(owners, h, w, j, name);
         }
     }
 }
@@ -240,8 +229,7 @@ fn name_floating_groups(owners: &mut [u16; 1024], h: usize, w: usize)
     requires { Limits h w }
     ensures { (p : ℕ → Bool) → Unlabelled p owners.old → Sofar (sized h w) p owners.old (h * w) owners.new }
 {
-    let n = h * w;
-    for i in 0..n {
+    for i in 0..h * w {
         if owners[i] == UNNAMED {
             traverse_grid(owners, h, w, i, i as u16);
         }

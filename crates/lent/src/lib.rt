@@ -2,39 +2,38 @@
 #![tactic(auto)]
 
 ghost use Rattle.std.specs.Prelude.{◌≡◌, length};
+ghost use Rattle.refusal.specs.Refusals.{outcome_of};
+ghost use Rattle.board.specs.Answers.{done_as};
 ghost use Rattle.board.specs.Decide.{decide_of, undo_of};
 ghost use Rattle.board.specs.Hints.{after_find};
-ghost use Rattle.reasons.specs.Find.{find_of, buffer_after};
+ghost use Rattle.reasons.specs.Find.{find_of, found_as, buffer_after};
 
 use board::Board;
-use literals::Finding;
-use record::Answer;
+use refusal::Refusal;
 
 // `decide` on a lent board.
-pub fn decide_in(board: &mut Board, index: usize, value: u8) -> Answer
-    ensures { (result ≡ (decide_of board.old index value).answer) × (board.new ≡ (decide_of board.old index value).board) }
+pub fn decide_in(board: &mut Board, index: usize, value: u8) -> Result<(), Refusal>
+    ensures { (outcome_of result ≡ done_as (decide_of board.old index value).answer) × (board.new ≡ (decide_of board.old index value).board) }
 {
-    let d = (*board).decide(index, value);
-    *board = d.board;
-    d.answer
+    *board = board.decide(index, value)?;
+    Ok(())
 }
 
 // `undo` on a lent board.
-pub fn undo_in(board: &mut Board) -> Answer
-    ensures { (result ≡ (undo_of board.old).answer) × (board.new ≡ (undo_of board.old).board) }
+pub fn undo_in(board: &mut Board) -> Result<(), Refusal>
+    ensures { (outcome_of result ≡ done_as (undo_of board.old).answer) × (board.new ≡ (undo_of board.old).board) }
 {
-    let d = (*board).undo();
-    *board = d.board;
-    d.answer
+    *board = board.undo()?;
+    Ok(())
 }
 
 // `find` on a lent board.
-pub fn find_in(board: &mut Board, player: u8, buffer: &mut [u16]) -> Finding
-    ensures { (result ≡ find_of board.old player buffer.old)
+pub fn find_in(board: &mut Board, player: u8, buffer: &mut [u16]) -> Result<Option<usize>, Refusal>
+    ensures { (outcome_of result ≡ found_as (find_of board.old player buffer.old))
         × (board.new ≡ after_find board.old player (length buffer.old))
         × (buffer.new ≡ buffer_after board.old player buffer.old) }
 {
-    let a = reasons::find(*board, player, buffer);
-    *board = a.board;
-    a.finding
+    let asked = reasons::find(*board, player, buffer);
+    *board = asked.board;
+    asked.finding
 }

@@ -8,50 +8,51 @@ use mathlib.Core.Option.{none, some}
 use lib.ListN.{length, take, drop, length-append, length-map, length-drop, drop_of_length-le}
 use lib.Seq.{take_all, take_at, drop_at, drop-drop}
 use borrow.Rule.Slice.PartMut.{put_mid}
+use Rattle.std.specs.Prelude.{Option, Some, None, MatchOption}
 use Rattle.grid.specs.Cells.{Literal, word}
 use Rattle.literals.specs.Buffer.{finding_by, buffer_by}
-use Rattle.literals.specs.Inside.{Wrote, FoundAs}
-use Rattle.literals.specs.Literals.{Found, or_else, first_found_of}
 use Rattle.literals.specs.declared.Finding.{Finding}
-use Rattle.literals.specs.declared.Finding.TheVariants.{Nothing, Reason, Refused}
+use Rattle.literals.specs.declared.Finding.TheVariants.{Nothing, Reason}
+use Rattle.literals.specs.Inside.{count_of, Wrote, FoundAs}
+use Rattle.literals.specs.Literals.{Found, or_else, first_found_of}
 use Rattle.literals.proofs.BufferLaws.{wrote_length}
 
 -- nothing was found, and the buffer is as it was
-pub found_none : (b : List ℕ) → FoundAs none b b Nothing
-unfolding finding_by buffer_by
+pub found_none : (b : List ℕ) → FoundAs none b b None
+unfolding count_of buffer_by
 found_none b = record { answer = refl; buffer = refl }
 
--- where the answer is Nothing, nothing was found and the buffer is as it was
-pub nothing_found : (f : Found) {b a : List ℕ} → FoundAs f b a Nothing → (f ≡ none) × (a ≡ b)
-unfolding finding_by buffer_by
+-- where the answer is none, nothing was found and the buffer is as it was
+pub nothing_found : (f : Found) {b a : List ℕ} → FoundAs f b a None → (f ≡ none) × (a ≡ b)
+unfolding count_of buffer_by
 nothing_found none x = (refl, x.buffer)
 nothing_found (some r) x = let z : ◌≡◌ {A = ℕ} 0 1 = cc x.answer in absurd (omega arith)
 
 -- the literals that stand in the buffer are what was found
-pub Wrote-found : {ls : List Literal} {b a : List ℕ} {k : ℕ} → Wrote ls b a k → FoundAs (some ls) b a (Reason k)
-unfolding finding_by buffer_by
-Wrote-found w = record { answer = ap Reason w.many; buffer = rw (← w.many) w.whole }
+pub Wrote-found : {ls : List Literal} {b a : List ℕ} {k : ℕ} → Wrote ls b a k → FoundAs (some ls) b a (Some k)
+unfolding count_of buffer_by
+Wrote-found w = record { answer = ap Some w.many; buffer = rw (← w.many) w.whole }
 
 -- a reason is the first, whatever comes after it
-pub found_first : (f g : Found) {b a : List ℕ} {k : ℕ} → FoundAs f b a (Reason k) → FoundAs (or_else f g) b a (Reason k)
-unfolding finding_by or_else
+pub found_first : (f g : Found) {b a : List ℕ} {k : ℕ} → FoundAs f b a (Some k) → FoundAs (or_else f g) b a (Some k)
+unfolding count_of or_else
 found_first none g x = let z : ◌≡◌ {A = ℕ} 0 1 = cc x.answer in absurd (omega arith)
 found_first (some r) g x = x
 
 -- what comes after nothing
-pub found_next : (f g : Found) {b a a' : List ℕ} {r : Finding} → FoundAs f b a Nothing → FoundAs g a a' r → FoundAs (or_else f g) b a' r
+pub found_next : (f g : Found) {b a a' : List ℕ} {r : Option ℕ} → FoundAs f b a None → FoundAs g a a' r → FoundAs (or_else f g) b a' r
 unfolding or_else
 found_next f g x y = let n = nothing_found f x in rw n.0 (rw n.1 at y)
 
 -- what was found holds where the buffer before it is an equal one
-pub found_same : {f : Found} {b b' a : List ℕ} {r : Finding} → b ≡ b' → FoundAs f b a r → FoundAs f b' a r
+pub found_same : {f : Found} {b b' a : List ℕ} {r : Option ℕ} → b ≡ b' → FoundAs f b a r → FoundAs f b' a r
 found_same e x = rw e at x
 
--- no search ends with a refusal
-pub not_refused : (f : Found) {b a : List ℕ} {k : ℕ} → FoundAs f b a (Refused k) → ⊥
-unfolding finding_by
-not_refused none x = let z : ◌≡◌ {A = ℕ} 0 1 = cc x.answer in omega arith
-not_refused (some r) x = let z : ◌≡◌ {A = ℕ} 0 1 = cc x.answer in omega arith
+-- as find answers it, which refused nothing
+pub finding_as : (f : Found) {b a : List ℕ} {r : Option ℕ} {s : Finding} → FoundAs f b a r → MatchOption r (s ≡ Nothing) (λ k. s ≡ Reason k) → s ≡ finding_by 0 f
+unfolding count_of finding_by
+finding_as none x m = rw x.answer at m
+finding_as (some r) x m = rw x.answer at m
 
 -- ---- the first reason of a list
 

@@ -4,7 +4,7 @@
 
 ghost use Rattle.std.specs.Prelude.{◌≡◌, Bool, ◌&&◌, ◌||◌, List, [], ◌∷◌, ℕ, ◌+◌, ◌*◌, ◌≤◌, ◌<◌, eqb, length, get_or, replicate};
 ghost use Rattle.grid.specs.Grid.{neighbours};
-ghost use Rattle.grid.specs.Side.{sized, towards, InGrid, InPlace};
+ghost use Rattle.grid.specs.Side.{sized, InGrid};
 ghost use Rattle.kinds.specs.Kinds.{view, reach};
 ghost use Rattle.reach.specs.Chains.{Chains};
 ghost use Rattle.kinds.specs.Inside.{Limits, puzzle_with, Held};
@@ -12,7 +12,7 @@ ghost use Rattle.reach.specs.Inside.{reaches_at, float_among};
 ghost use Rattle.groups.specs.Arrays.{Names};
 ghost use Rattle.reach.specs.Near.{Sizes, SquaresOf, Listed, Listing, NearFloats};
 
-use grid::Side;
+use kinds::{ARROW_BLOCK, ARROW_BLOCK_NEIGHBOR, FLOATING};
 
 // Counts cell i for its owner, unless it is a square of an arrow block: those the grouping step has counted. Otherwise the size that is read is
 // written back, so that there is no branch to predict.
@@ -21,8 +21,8 @@ fn count_cell(kinds: &[u8; 1024], owners: &[u16; 1024], i: usize, sizes: &mut [u
     ensures { Sizes kinds.now owners.now (i + 1) sizes.new }
 {
     let f = owners[i];
-    let other = kinds[i] != 1;
-    let slot = (f % 1024) as usize;
+    let other = kinds[i] != ARROW_BLOCK;
+    let slot = usize::from(f % 1024);
     let size = sizes[slot];
     sizes[slot] = grid::pick((f < 1024) & other, size + 1, size);
 }
@@ -50,44 +50,20 @@ fn list_float(
     ensures { (t : ℕ → Bool) → Listed t near.old groups.old count
         → Listed (λ m. t m || float_among kinds.now owners.now (j ∷ []) m) near.new groups.new result }
 {
-    if kinds[j] != 4 {
+    if kinds[j] != FLOATING {
         return count;
     }
-    let m = owners[j];
+    let name = owners[j];
+    let m = usize::from(name);
     if 1024 <= m {
         return count;
     }
-    if near[m as usize] == 1 {
+    if near[m] == 1 {
         return count;
     }
-    near[m as usize] = 1;
-    groups[count] = m;
+    near[m] = 1;
+    groups[count] = name;
     count + 1
-}
-
-// The same for the neighbour in direction k of the cell at row y, column x, if there is one.
-fn list_float_toward(
-    kinds: &[u8; 1024],
-    owners: &[u16; 1024],
-    h: usize,
-    w: usize,
-    y: usize,
-    x: usize,
-    k: usize,
-    near: &mut [u8; 1024],
-    groups: &mut [u16; 1024],
-    count: usize,
-) -> usize
-    requires in_place { InPlace h w y x × (k < 4) }
-    requires listing { Listing near.old groups.old count }
-    ensures { (t : ℕ → Bool) → Listed t near.old groups.old count
-        → Listed (λ m. t m || float_among kinds.now owners.now (towards (sized h w) (y * w + x) k) m) near.new groups.new result }
-{
-    let side = grid::toward(h, w, y, x, k);
-    match side {
-        Side::At(j) => list_float(kinds, owners, j, near, groups, count),
-        Side::Off => count,
-    }
 }
 
 // Marks and lists the floating groups that touch cell i, if that is a neighbour of its owner; the new count. The row and the
@@ -106,14 +82,16 @@ fn list_floats_beside(
     ensures { (t : ℕ → Bool) → Listed t near.old groups.old count
         → Listed (λ m. t m || (eqb (get_or kinds.now i 0) 2 && float_among kinds.now owners.now (neighbours (sized h w) i) m)) near.new groups.new result }
 {
-    if kinds[i] != 2 {
+    if kinds[i] != ARROW_BLOCK_NEIGHBOR {
         return count;
     }
     let y = i / w;
     let x = i % w;
     let mut total = count;
     for k in 0..4 {
-        total = list_float_toward(kinds, owners, h, w, y, x, k, near, groups, total);
+        if let Some(j) = grid::toward(h, w, y, x, k) {
+            total = list_float(kinds, owners, j, near, groups, total);
+        }
     }
     total
 }
@@ -137,12 +115,13 @@ pub fn near_floats(
         → NearFloats (view (puzzle_with (sized h w) arrows) cells) f near.new groups.new result }
     ensures names { Names groups.new result }
 {
-    kinds::clear(near);
+    *near = [0; 1024];
     let mut total = 0;
-    let mut i = head[f as usize];
+    let mut i = usize::from(head[usize::from(f)]);
+    // A `while`: the next cell stands in the chain, and in no range.
     while i < 1024 {
-        total = list_floats_beside(kinds, owners, h, w, i as usize, near, groups, total);
-        i = next[i as usize];
+        total = list_floats_beside(kinds, owners, h, w, i, near, groups, total);
+        i = usize::from(next[i]);
     }
     total
 }
@@ -161,9 +140,10 @@ pub fn reach_size(
         → NearFloats (view (puzzle_with (sized h w) arrows) cells) f near groups.now count → get_or kinds f 0 ≡ 1
         → result ≡ length (reach (view (puzzle_with (sized h w) arrows) cells) f) }
 {
-    let mut total = grid::wide(squares[f as usize]) + grid::wide(sizes[f as usize]);
+    let f = usize::from(f);
+    let mut total = usize::from(squares[f]) + usize::from(sizes[f]);
     for k in 0..count {
-        total += grid::wide(sizes[groups[k] as usize]);
+        total += usize::from(sizes[usize::from(groups[k])]);
     }
     total
 }

@@ -17,10 +17,12 @@ use Rattle.grid.specs.Cells.{square}
 use Rattle.record.specs.Problem.{arrows_from}
 use Rattle.groups.specs.Arrows.{on_arrow, Pair, pairs}
 use Rattle.groups.specs.Arrays.{lines_of}
-use Rattle.growth.specs.Pairs.{reason_at, pair_at, NextSquare, view_on, Scene, Line, Whole}
+use Rattle.pairs.specs.declared.Stage.{Stage}
+use Rattle.growth.specs.Pairs.{pair_at, NextSquare, view_on, Scene, Line, Whole}
+use Rattle.pairs.specs.Stages.{reason_at}
 use Rattle.literals.specs.Inside.{FoundAs}
 use Rattle.literals.specs.Literals.{Found, or_else, first_found_of}
-use Rattle.literals.specs.declared.Finding.TheVariants.{Nothing, Reason}
+use Rattle.std.specs.Prelude.{Some, None}
 use Rattle.literals.proofs.Findings.{nothing_found, found_first, first_append}
 use Rattle.growth.proofs.PairNames.{next_taken}
 use Rattle.growth.proofs.PairPlaces.{pairs_start, pairs_more, pairs_end}
@@ -28,10 +30,10 @@ use Rattle.growth.proofs.PairPlaces.{pairs_start, pairs_more, pairs_end}
 -- ---- one arrow
 
 -- the first reason among the pairs from the place k on
-abbrev pub ahead : ℕ → ℕ → ℕ → List (List ℕ) → List ℕ → List ℕ → ℕ → ℕ → Found
+abbrev pub ahead : Stage → ℕ → ℕ → List (List ℕ) → List ℕ → List ℕ → ℕ → ℕ → Found
 ahead stage h w lines cells arrows to k = first_found_of (reason_at stage (view_on h w lines cells)) (pairs (take (h * w) cells) (slice k to arrows))
 
-module _ (stage : ℕ) {h w : ℕ} {lines : List (List ℕ)} {cells arrows kinds owners : List ℕ} {from to : ℕ} (s : Scene h w lines cells arrows kinds owners from to) (long : to ≤ length arrows) where
+module _ (stage : Stage) {h w : ℕ} {lines : List (List ℕ)} {cells arrows kinds owners : List ℕ} {from to : ℕ} (s : Scene h w lines cells arrows kinds owners from to) (long : to ≤ length arrows) where
   abbrev F : Pair → Found
   F = reason_at stage (view_on h w lines cells)
 
@@ -55,11 +57,11 @@ module _ (stage : ℕ) {h w : ℕ} {lines : List (List ℕ)} {cells arrows kinds
     first_taken = square_taken cells (h * w) (get_or arrows last 0) (s.inside last low within) ∙ first
 
     -- the pair of a square and the next gives none, or the reason
-    pub search_more : cur < to → {b a : List ℕ} → FoundAs (F (pair_at arrows last cur)) b a Nothing → ahead stage h w lines cells arrows to last ≡ ahead stage h w lines cells arrows to cur
+    pub search_more : cur < to → {b a : List ℕ} → FoundAs (F (pair_at arrows last cur)) b a None → ahead stage h w lines cells arrows to last ≡ ahead stage h w lines cells arrows to cur
     unfolding first_found_of or_else
     search_more q x = ap (first_found_of F) (pairs_more L arrows to long last within first_taken taken q) ∙ rw (nothing_found (F (pair_at arrows last cur)) x).0 refl
 
-    pub search_found : cur < to → {b a : List ℕ} {k : ℕ} → FoundAs (F (pair_at arrows last cur)) b a (Reason k) → FoundAs (ahead stage h w lines cells arrows to last) b a (Reason k)
+    pub search_found : cur < to → {b a : List ℕ} {k : ℕ} → FoundAs (F (pair_at arrows last cur)) b a (Some k) → FoundAs (ahead stage h w lines cells arrows to last) b a (Some k)
     unfolding first_found_of
     search_found q x =
         rw (pairs_more L arrows to long last within first_taken taken q)
@@ -101,13 +103,13 @@ module _ (f : Pair → Found) (cells arrows ends : List ℕ) (number from a : �
     rest_split = rw (lines_more arrows ends number from a h k) (first_append f (pairs cells (slice from (get_or ends a 0) arrows)) (flat_map (pairs cells) (lines_from arrows ends number (get_or ends a 0) (a + 1))))
 
     -- the next arrow gives none, or the reason
-    pub rest_more : {b b' : List ℕ} → FoundAs (first_found_of f (pairs cells (slice from (get_or ends a 0) arrows))) b b' Nothing
+    pub rest_more : {b b' : List ℕ} → FoundAs (first_found_of f (pairs cells (slice from (get_or ends a 0) arrows))) b b' None
         → rest_of f cells (lines_from arrows ends number from a) ≡ rest_of f cells (lines_from arrows ends number (get_or ends a 0) (a + 1))
     unfolding or_else
     rest_more x = rest_split ∙ rw (nothing_found (first_found_of f (pairs cells (slice from (get_or ends a 0) arrows))) x).0 refl
 
-    pub rest_found : {b b' : List ℕ} {n : ℕ} → FoundAs (first_found_of f (pairs cells (slice from (get_or ends a 0) arrows))) b b' (Reason n)
-        → FoundAs (rest_of f cells (lines_from arrows ends number from a)) b b' (Reason n)
+    pub rest_found : {b b' : List ℕ} {n : ℕ} → FoundAs (first_found_of f (pairs cells (slice from (get_or ends a 0) arrows))) b b' (Some n)
+        → FoundAs (rest_of f cells (lines_from arrows ends number from a)) b b' (Some n)
     rest_found x =
         rw rest_split
         (found_first (first_found_of f (pairs cells (slice from (get_or ends a 0) arrows))) (rest_of f cells (lines_from arrows ends number (get_or ends a 0) (a + 1))) x)

@@ -23,12 +23,8 @@ use Rattle.groups.proofs.MarkLaws.{mask_test}
 use Rattle.groups.proofs.TableLaws.{tally_is, name_low}
 use Rattle.literals.specs.Literals.{or_else, first_found_of}
 use Rattle.paths.specs.Paths.{reason2, reason2_at}
-use Rattle.units.specs.Arrays.{first_name}
+use Rattle.std.specs.Prelude.{Option, Some, None, find}
 use Rattle.paths.specs.Ends.{BlockTable, crossed, arrow_cell_of, arrow_cells_from, found_way, EndsJoined, Crossing}
-use Rattle.units.specs.declared.Name.{Name}
-use Rattle.units.specs.declared.Name.TheVariants.{At, Nobody}
-use Rattle.paths.specs.declared.Ends.{Ends}
-use Rattle.paths.specs.declared.Ends.TheVariants.{Between, Nowhere}
 use Rattle.units.proofs.Names.{first_agree}
 
 -- ---- the next cell that passes
@@ -74,26 +70,26 @@ module _ (t : ℕ → Bool) (n : ℕ) where
 
 module _ (g : Grid) (cells : List ℕ) (n : ℕ) (L : ℕ → List ℕ) where
   -- the first two arrow cells of the block named
-  abbrev pub ends_of : Name → Ends
-  ends_of Nobody = Nowhere
-  ends_of (At f) = Between (get_or (L f) 0 n) (get_or (L f) 1 n)
+  abbrev pub ends_of : Option ℕ → Option (ℕ × ℕ)
+  ends_of None = None
+  ends_of (Some f) = Some (get_or (L f) 0 n, get_or (L f) 1 n)
 
   two : ℕ → Bool
   two f = leb 2 (length (L f))
 
   -- a block with fewer than two, or two
   one_block : (x : ℕ) (l : List ℕ) → l ≡ L x → ((a b : ℕ) → Memᴰ a (L x) → Memᴰ b (L x) → Joined g (square cells) b a) → (xs : List ℕ)
-      → first_found_of (λ f. reason2_at g cells (L f)) xs ≡ found_way g cells (ends_of (first_name two xs)) → EndsJoined g cells (ends_of (first_name two xs))
-      → (first_found_of (λ f. reason2_at g cells (L f)) (x ∷ xs) ≡ found_way g cells (ends_of (first_name two (x ∷ xs)))) × EndsJoined g cells (ends_of (first_name two (x ∷ xs)))
-  unfolding two first_name first_found_of reason2_at or_else found_way EndsJoined
+      → first_found_of (λ f. reason2_at g cells (L f)) xs ≡ found_way g cells (ends_of (find two xs)) → EndsJoined g cells (ends_of (find two xs))
+      → (first_found_of (λ f. reason2_at g cells (L f)) (x ∷ xs) ≡ found_way g cells (ends_of (find two (x ∷ xs)))) × EndsJoined g cells (ends_of (find two (x ∷ xs)))
+  unfolding two first_found_of reason2_at or_else found_way EndsJoined
   one_block x [] e together xs ih jh = rw (← e) (ih, jh)
   one_block x (a ∷ []) e together xs ih jh = rw (← e) (ih, jh)
   one_block x (a ∷ b ∷ r) e together xs ih jh =
       rw (← e, le-leb 2 (length (a ∷ b ∷ r)) (omega arith), ← e) (refl, together a b (rw (← e) (Memᴰ.head refl)) (rw (← e) (Memᴰ.tail (Memᴰ.head refl))))
 
   all_blocks : (xs : List ℕ) → ((f : ℕ) → Memᴰ f xs → (a b : ℕ) → Memᴰ a (L f) → Memᴰ b (L f) → Joined g (square cells) b a)
-      → (first_found_of (λ f. reason2_at g cells (L f)) xs ≡ found_way g cells (ends_of (first_name two xs))) × EndsJoined g cells (ends_of (first_name two xs))
-  unfolding first_name first_found_of found_way EndsJoined
+      → (first_found_of (λ f. reason2_at g cells (L f)) xs ≡ found_way g cells (ends_of (find two xs))) × EndsJoined g cells (ends_of (find two xs))
+  unfolding first_found_of found_way EndsJoined
   all_blocks [] h = (refl, tt)
   all_blocks (x ∷ xs) h = let r = all_blocks xs (λ f m. h f (Memᴰ.tail m)) in one_block x (L x) refl (h x (Memᴰ.head refl)) xs r.0 r.1
 
@@ -119,12 +115,12 @@ module _ (puzzle : Puzzle) (cells : List ℕ) {blocks onarrow firsts squares arr
       (λ j m. ap (λ (l : List ℕ). eqb (get_or l j 0) 1) B.arrows_are ∙ mask_test g (on_arrow puzzle.arrows) j (group-mem g p (labels g p) f j m).0))
 
   -- reason 2 by the first name that has two arrow cells
-  pub Crossing-is : (n : ℕ) → Crossing puzzle cells (ends_of g cells n arrow_cells (first_name (crossed arrowed) (take number firsts)))
+  pub Crossing-is : (n : ℕ) → Crossing puzzle cells (ends_of g cells n arrow_cells (find (crossed arrowed) (take number firsts)))
   unfolding reason2 crossed two
   Crossing-is n =
       let r = all_blocks g cells n arrow_cells (names g p (labels g p)) (λ f m. joined f) in
-      let same : first_name (two g cells n arrow_cells) (names g p (labels g p)) ≡ first_name (crossed arrowed) (take number firsts)
-      = first_agree _ (crossed arrowed) (names g p (labels g p)) (λ f m. test f (name_low g p f m)) ∙ ap (first_name (crossed arrowed)) (sym B.table.firsts_are) in
+      let same : find (two g cells n arrow_cells) (names g p (labels g p)) ≡ find (crossed arrowed) (take number firsts)
+      = first_agree _ (crossed arrowed) (names g p (labels g p)) (λ f m. test f (name_low g p f m)) ∙ ap (find (crossed arrowed)) (sym B.table.firsts_are) in
       record { reason = rw (← same) r.0; joined = rw (← same) r.1 }
     where
       test : (f : ℕ) → f < size g → leb 2 (length (arrow_cells f)) ≡ leb 2 (get_or arrowed f 0)
@@ -137,13 +133,13 @@ module _ (puzzle : Puzzle) (cells : List ℕ) {blocks onarrow firsts squares arr
           linked_label g p b a gb.0 ga.0 gb.1 (gb.2 ∙ sym ga.2)
 
   -- with the ends that were found
-  pub Crossing-at : (n : ℕ) → n ≡ size g → {f a b : ℕ} → f < 1024 → first_name (crossed arrowed) (take number firsts) ≡ At f
-      → a ≡ get_or (arrow_cells_from blocks onarrow n f 0) 0 n → b ≡ get_or (arrow_cells_from blocks onarrow n f (a + 1)) 0 n → Crossing puzzle cells (Between a b)
+  pub Crossing-at : (n : ℕ) → n ≡ size g → {f a b : ℕ} → f < 1024 → find (crossed arrowed) (take number firsts) ≡ Some f
+      → a ≡ get_or (arrow_cells_from blocks onarrow n f 0) 0 n → b ≡ get_or (arrow_cells_from blocks onarrow n f (a + 1)) 0 n → Crossing puzzle cells (Some (a, b))
   Crossing-at n e {f} {a} {b} h at ea eb =
       let l = arrow_cells_lem n f e h in
       let a_is : a ≡ get_or (arrow_cells f) 0 n = ea ∙ ap (λ (m : List ℕ). get_or m 0 n) l in
       let b_is : b ≡ get_or (arrow_cells f) 1 n = eb ∙ rw a_is (second_is (arrow_cell_of blocks onarrow f) n (arrow_cells f) l) in
-      rw (a_is, b_is) (subst (λ (m : Name). Crossing puzzle cells (ends_of g cells n arrow_cells m)) at (Crossing-is n))
+      rw (a_is, b_is) (subst (λ (m : Option ℕ). Crossing puzzle cells (ends_of g cells n arrow_cells m)) at (Crossing-is n))
 
-  pub Crossing-nowhere : first_name (crossed arrowed) (take number firsts) ≡ Nobody → Crossing puzzle cells Nowhere
-  Crossing-nowhere at = subst (λ (m : Name). Crossing puzzle cells (ends_of g cells 0 arrow_cells m)) at (Crossing-is 0)
+  pub Crossing-nowhere : find (crossed arrowed) (take number firsts) ≡ None → Crossing puzzle cells None
+  Crossing-nowhere at = subst (λ (m : Option ℕ). Crossing puzzle cells (ends_of g cells 0 arrow_cells m)) at (Crossing-is 0)

@@ -7,27 +7,25 @@ use Rattle.grid.specs.Side.{sized}
 use Rattle.kinds.specs.Inside.{puzzle_with}
 use Rattle.literals.specs.Literals.{each}
 use Rattle.literals.specs.Inside.{Wrote, FoundAs}
-use Rattle.literals.specs.declared.Finding.TheVariants.{Nothing, Reason}
+use Rattle.std.specs.Prelude.{Option, Some, None}
 use Rattle.literals.proofs.Findings.{found_none, Wrote-found}
 use Rattle.paths.specs.Paths.{way, reason2}
 use Rattle.paths.specs.Search.{PathEnds}
 use Rattle.paths.specs.Ends.{found_way, EndsJoined, Crossing}
-use Rattle.paths.specs.declared.Ends.{Ends}
-use Rattle.paths.specs.declared.Ends.TheVariants.{Between, Nowhere}
 
-module _ (h w : ℕ) (arrows : List (List ℕ)) (cells : List ℕ) {ends : Ends} (c : Crossing (puzzle_with (sized h w) arrows) cells ends) where
+module _ (h w : ℕ) (arrows : List (List ℕ)) (cells : List ℕ) {ends : Option (ℕ × ℕ)} (c : Crossing (puzzle_with (sized h w) arrows) cells ends) where
   -- the ends of a path are squares of one block
-  pub crossing_ends : {a b : ℕ} → ends ≡ Between a b → h ≤ 32 → w ≤ 32 → PathEnds h w cells a b
+  pub crossing_ends : {a b : ℕ} → ends ≡ Some (a, b) → h ≤ 32 → w ≤ 32 → PathEnds h w cells a b
   unfolding EndsJoined
   crossing_ends e tall wide = record { tall = tall; wide = wide; joined = subst (EndsJoined (sized h w) cells) e c.joined }
 
   -- the path is the reason
-  pub crossing_found : {a b k : ℕ} {before after : List ℕ} → ends ≡ Between a b → Wrote (each 1 (way (sized h w) cells a b)) before after k
-      → FoundAs (reason2 (puzzle_with (sized h w) arrows) cells) before after (Reason k)
+  pub crossing_found : {a b k : ℕ} {before after : List ℕ} → ends ≡ Some (a, b) → Wrote (each 1 (way (sized h w) cells a b)) before after k
+      → FoundAs (reason2 (puzzle_with (sized h w) arrows) cells) before after (Some k)
   unfolding found_way
   crossing_found e x = rw (c.reason, e) (Wrote-found x)
 
   -- without ends there is none
-  pub crossing_none : (before : List ℕ) → ends ≡ Nowhere → FoundAs (reason2 (puzzle_with (sized h w) arrows) cells) before before Nothing
+  pub crossing_none : (before : List ℕ) → ends ≡ None → FoundAs (reason2 (puzzle_with (sized h w) arrows) cells) before before None
   unfolding found_way
   crossing_none before e = rw (c.reason, e) (found_none before)

@@ -1,6 +1,6 @@
 -- What the parts of reason 2 ask of the arrays that they are lent: the blocks, the arrow cells of each, and the ends of the path.
 -- Assumes nothing.
-use Rattle.std.specs.Prelude.{ℕ, ◌-◌, ◌*◌, ◌≡◌, Bool, ◌&&◌, List, eqb, leb, get_or, take}
+use Rattle.std.specs.Prelude.{ℕ, ◌-◌, ◌*◌, ◌≡◌, Bool, ◌&&◌, List, eqb, leb, get_or, take, Option, Some, None}
 use Rattle.std.proofs.Math.Option.{none, some}
 use Rattle.grid.specs.Lists.{range, filter}
 use Rattle.grid.specs.Grid.{Grid}
@@ -12,9 +12,7 @@ use Rattle.groups.specs.Arrows.{on_arrow}
 use Rattle.groups.specs.Arrays.{mask_of, TableOf}
 use Rattle.literals.specs.Literals.{Found, each}
 use Rattle.paths.specs.Paths.{way, reason2}
-use Rattle.paths.specs.declared.Ends.{Ends}
 use Rattle.kinds.specs.Inside.{puzzle_with}
-use Rattle.paths.specs.declared.Ends.TheVariants.{Between, Nowhere}
 
 -- the table of the blocks of the cells, and the arrow cells
 pub record BlockTable (p : Puzzle) (cells blocks onarrow names squares arrowed : List ℕ) (number : ℕ) : Type 0 where
@@ -33,18 +31,18 @@ arrow_cell_of blocks onarrow f i = eqb (get_or blocks i 0) f && eqb (get_or onar
 abbrev pub arrow_cells_from : List ℕ → List ℕ → ℕ → ℕ → ℕ → List ℕ
 arrow_cells_from blocks onarrow n f from = filter (arrow_cell_of blocks onarrow f) (range from (n - from))
 
--- the reason with the path from a to b
-unfoldable pub found_way : Grid → List ℕ → Ends → Found
-found_way g cells Nowhere = none
-found_way g cells (Between a b) = some (each 1 (way g cells a b))
+-- the reason with the path from a to b, or none
+unfoldable pub found_way : Grid → List ℕ → Option (ℕ × ℕ) → Found
+found_way g cells None = none
+found_way g cells (Some (a, b)) = some (each 1 (way g cells a b))
 
 -- a and b, if there are any, are squares of one block
-unfoldable pub EndsJoined : Grid → List ℕ → Ends → Type 0
-EndsJoined g cells Nowhere = Unit {0}
-EndsJoined g cells (Between a b) = Joined g (square cells) b a
+unfoldable pub EndsJoined : Grid → List ℕ → Option (ℕ × ℕ) → Type 0
+EndsJoined g cells None = Unit {0}
+EndsJoined g cells (Some (a, b)) = Joined g (square cells) b a
 
 -- the ends of the path of reason 2
-pub record Crossing (p : Puzzle) (cells : List ℕ) (ends : Ends) : Type 0 where
+pub record Crossing (p : Puzzle) (cells : List ℕ) (ends : Option (ℕ × ℕ)) : Type 0 where
   pub reason : reason2 p cells ≡ found_way p.grid cells ends
   pub joined : EndsJoined p.grid cells ends
 

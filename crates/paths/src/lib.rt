@@ -1,7 +1,7 @@
 // Reason 2: a block with two arrow cells, and the squares of a shortest way between them.
 #![tactic(auto)]
 
-ghost use Rattle.std.specs.Prelude.{◌≡◌, ℕ, ◌*◌, ◌<◌, ◌≤◌, length, get_or, take, drop, replicate, List, ◌++◌};
+ghost use Rattle.std.specs.Prelude.{◌≡◌, ℕ, ◌*◌, ◌<◌, ◌≤◌, length, get_or, take, drop, replicate, List, ◌++◌, find, All};
 ghost use Rattle.grid.specs.Grid.{size};
 ghost use Rattle.grid.specs.Side.{InGrid, sized};
 ghost use Rattle.record.specs.Record.{Puzzle};
@@ -9,31 +9,16 @@ ghost use Rattle.literals.specs.Literals.{each};
 ghost use Rattle.paths.specs.Paths.{list_from, way, reason2};
 ghost use Rattle.literals.specs.Inside.{Wrote, Fit, FoundAs};
 ghost use Rattle.groups.specs.Arrays.{Names};
-ghost use Rattle.units.specs.Arrays.{first_name};
 ghost use Rattle.paths.specs.Ends.{BlockTable, crossed, arrow_cell_of, arrow_cells_from, Crossing, Blocked};
 ghost use Rattle.kinds.specs.Inside.{puzzle_with};
 ghost use Rattle.paths.specs.Search.{Offered, Room, ListedBeside, Listing, PathEnds};
-
-use literals::Finding;
-use units::Name;
-
-// The first two arrow cells of a block that has two or more.
-#[derive(Clone, Copy)]
-pub enum Ends {
-    Between(usize, usize),
-    Nowhere,
-}
 
 // Sets the first n places to 1024, which is no cell.
 fn reset(places: &mut [u16; 1024], n: usize)
     requires { (n ≤ 1024) × (length places.old ≡ 1024) }
     ensures { places.new ≡ replicate n 1024 ++ drop n places.old }
 {
-    let mut i = 0;
-    while i < n {
-        places[i] = 1024;
-        i += 1;
-    }
+    places[..n].fill(1024);
 }
 
 // Lists cell j with its parent p, if it is a square that is not listed yet; the new count.
@@ -73,14 +58,12 @@ fn list_neighbours(
     ensures { ListedBeside h w (take (h * w) cells.now) t order.old from.old count order.new from.new result }
 {
     let p = order[t];
-    let around = grid::neighbours(h, w, grid::wide(p));
+    let around = grid::neighbours(h, w, usize::from(p));
     let sides = around.cells;
     let number = around.count;
     let mut listed = count;
-    let mut k = 0;
-    while k < number {
-        listed = list_cell(cells, from, order, listed, grid::wide(sides[k]), p);
-        k += 1;
+    for k in 0..number {
+        listed = list_cell(cells, from, order, listed, usize::from(sides[k]), p);
     }
     listed
 }
@@ -102,6 +85,7 @@ fn breadth_first(
     order[0] = b as u16;
     let mut count = 1;
     let mut t = 0;
+    // no for: the list grows while it is gone through, and ends where it stops to grow
     while t < count {
         count = list_neighbours(cells, h, w, t, from, order, count);
         t += 1;
@@ -127,29 +111,26 @@ fn reason_for_path(
     breadth_first(cells, h, w, b, from, order);
     let mut cell = a;
     let mut count = 0;
+    // no for: the way goes from parent to parent, and has no index
     while cell != b {
         buffer[count] = literals::literal(cell, 1);
-        cell = grid::wide(from[cell]);
+        cell = usize::from(from[cell]);
         count += 1;
     }
     buffer[count] = literals::literal(cell, 1);
     count + 1
 }
 
-// The lowest numbered block with two arrow cells or more, of those that are listed.
-fn first_crossed(names: &[u16; 1024], number: usize, arrowed: &[u16; 1024]) -> Name
-    requires { Names names.now number }
-    ensures { result ≡ first_name (crossed arrowed.now) (take number names.now) }
+// The name of the lowest numbered block with two arrow cells or more, of those that are listed.
+#[tactic(auto, unfolding(crate::specs::Ends::crossed))]
+fn first_crossed(names: &[u16], arrowed: &[u16; 1024]) -> Option<u16>
+    requires { All (λ f. f < 1024) names.now }
+    ensures { result ≡ find (crossed arrowed.now) names.now }
 {
-    let mut k = 0;
-    while k < number {
-        let f = grid::wide(names[k]);
-        if 2 <= arrowed[f] {
-            return Name::At(f);
-        }
-        k += 1;
-    }
-    Name::Nobody
+    names
+        .iter()
+        .copied()
+        .find(|&f| 2 <= arrowed[usize::from(f)])
 }
 
 // Whether cell i is an arrow cell of the block named f.
@@ -174,17 +155,15 @@ fn next_arrow_cell(
     requires { n ≤ 1024 }
     ensures { (result ≡ get_or (arrow_cells_from blocks.now onarrow.now n f from) 0 n) × (result ≤ n) }
 {
-    let mut i = from;
-    while i < n {
+    for i in from..n {
         if is_arrow_cell_of(blocks, onarrow, f, i) {
             return i;
         }
-        i += 1;
     }
     n
 }
 
-// The first two arrow cells of the lowest numbered block that has two or more.
+// The first two arrow cells of the lowest numbered block that has two or more, if there is one.
 fn find_crossing(
     blocks: &[u16; 1024],
     onarrow: &[u8; 1024],
@@ -192,23 +171,18 @@ fn find_crossing(
     names: &[u16; 1024],
     number: usize,
     arrowed: &[u16; 1024],
-) -> Ends
+) -> Option<(usize, usize)>
     requires { (n ≤ 1024) × Names names.now number }
     ensures { (p : Puzzle) (cells squares : List ℕ)
         → BlockTable p cells blocks.now onarrow.now names.now squares arrowed.now number → n ≡ size p.grid → Crossing p cells result }
 {
-    let name = first_crossed(names, number, arrowed);
-    match name {
-        Name::At(f) => {
-            let a = next_arrow_cell(blocks, onarrow, n, f as u16, 0);
-            let b = next_arrow_cell(blocks, onarrow, n, f as u16, a + 1);
-            Ends::Between(a, b)
-        }
-        Name::Nobody => Ends::Nowhere,
-    }
+    let f = first_crossed(&names[..number], arrowed)?;
+    let a = next_arrow_cell(blocks, onarrow, n, f, 0);
+    let b = next_arrow_cell(blocks, onarrow, n, f, a + 1);
+    Some((a, b))
 }
 
-// Reason 2, if it applies.
+// How many literals reason 2 has, which stand in the buffer then, or none where it does not apply.
 pub fn check_blocks(
     cells: &[u8; 1024],
     blocks: &[u16; 1024],
@@ -219,20 +193,15 @@ pub fn check_blocks(
     h: usize,
     w: usize,
     buffer: &mut [u16],
-) -> Finding
+) -> Option<usize>
     requires { Fit h w buffer.old × Blocked h w cells.now blocks.now onarrow.now names.now arrowed.now number }
     ensures { (lines : List (List ℕ)) (squares : List ℕ)
         → BlockTable (puzzle_with (sized h w) lines) (take (h * w) cells.now) blocks.now onarrow.now names.now squares arrowed.now number
         → FoundAs (reason2 (puzzle_with (sized h w) lines) (take (h * w) cells.now)) buffer.old buffer.new result }
 {
-    let ends = find_crossing(blocks, onarrow, h * w, names, number, arrowed);
-    match ends {
-        Ends::Between(a, b) => {
-            let mut from = [0u16; 1024];
-            let mut order = [0u16; 1024];
-            let count = reason_for_path(cells, h, w, a, b, &mut from, &mut order, buffer);
-            Finding::Reason(count)
-        }
-        Ends::Nowhere => Finding::Nothing,
-    }
+    let (a, b) = find_crossing(blocks, onarrow, h * w, names, number, arrowed)?;
+    let mut from = [0u16; 1024];
+    let mut order = [0u16; 1024];
+    let count = reason_for_path(cells, h, w, a, b, &mut from, &mut order, buffer);
+    Some(count)
 }

@@ -16,7 +16,7 @@ use borrow.Author.Tests.{eq-eqb, ne_eqb, eqb-true, lt-ltb, le-ltb}
 use Rattle.grid.specs.Lists.{range, upto, any, filter, member, Distinct}
 use Rattle.grid.specs.Grid.{Grid, neighbours}
 use Rattle.grid.specs.Side.{towards, beside_of}
-use Rattle.grid.specs.declared.Side.TheVariants.{At, Off}
+use Rattle.std.specs.Prelude.{Some, None}
 use Rattle.grid.proofs.ListLaws.{length-range, filter-length, filter_split, Distinct-snoc, at_mem, So-false, member-mem, Distinct-few}
 use Rattle.grid.proofs.SideLaws.{beside_at, beside_off}
 use Rattle.grid.proofs.AroundLaws.{gathered, gathered_all}
@@ -210,10 +210,10 @@ Listing-room m L h ne = listed_room L.so_far m h (mark_off L.so_far.marked m h n
 
 module _ (kinds owners : List ℕ) (g : Grid) {near groups : List ℕ} {c : ℕ} (t : ℕ → Bool) where
   -- a direction with a neighbour, and one without
-  pub side_at : (i k j : ℕ) → At j ≡ beside_of g i k → Listed (λ m. t m || float_among kinds owners (j ∷ []) m) near groups c → Listed (λ m. t m || float_among kinds owners (towards g i k) m) near groups c
+  pub side_at : (i k j : ℕ) → Some j ≡ beside_of g i k → Listed (λ m. t m || float_among kinds owners (j ∷ []) m) near groups c → Listed (λ m. t m || float_among kinds owners (towards g i k) m) near groups c
   side_at i k j e L = rw (beside_at g i k j e) L
 
-  pub side_off : (i k : ℕ) → Off ≡ beside_of g i k → Listed t near groups c → Listed (λ m. t m || float_among kinds owners (towards g i k) m) near groups c
+  pub side_off : (i k : ℕ) → None ≡ beside_of g i k → Listed t near groups c → Listed (λ m. t m || float_among kinds owners (towards g i k) m) near groups c
   side_off i k e L = rw (beside_off g i k e) (float_none kinds owners L)
 
   -- the directions before k are passed: none, one more, and all

@@ -1,16 +1,16 @@
 // The reach of an arrow block as marks, and the cells of each owner in chains.
 #![tactic(auto)]
 
-ghost use Rattle.std.specs.Prelude.{◌≡◌, ℕ, ◌+◌, ◌*◌, ◌≤◌, ◌<◌, Bool, ◌||◌, List, get_or, replicate};
+ghost use Rattle.std.specs.Prelude.{◌≡◌, ℕ, ◌+◌, ◌*◌, ◌≤◌, ◌<◌, Bool, ◌||◌, List, replicate};
 ghost use Rattle.grid.specs.Marks.{Marks};
 ghost use Rattle.grid.specs.Grid.{neighbours};
 ghost use Rattle.grid.specs.Side.{sized, InGrid};
 ghost use Rattle.kinds.specs.Kinds.{view};
 ghost use Rattle.reach.specs.Chains.{ChainsFrom, Chains};
 ghost use Rattle.kinds.specs.Inside.{Limits, puzzle_with, Held};
-ghost use Rattle.reach.specs.Inside.{near_at, near_among, reaches, Counted, Reached, Reach};
+ghost use Rattle.reach.specs.Inside.{near_at, near_among, reaches, Reached, Reach};
 
-use grid::Side;
+use kinds::{ARROW_BLOCK, ARROW_BLOCK_NEIGHBOR, FLOATING};
 
 // Puts cell i in front of the chain of its owner, if it has one. Without one the places are written with what they hold.
 fn chain_cell(owners: &[u16; 1024], i: usize, head: &mut [u16; 1024], next: &mut [u16; 1024])
@@ -20,7 +20,7 @@ fn chain_cell(owners: &[u16; 1024], i: usize, head: &mut [u16; 1024], next: &mut
 {
     let f = owners[i];
     let owned = f < 1024;
-    let slot = (f % 1024) as usize;
+    let slot = usize::from(f % 1024);
     let first = head[slot];
     let behind = next[i];
     next[i] = grid::pick(owned, first, behind);
@@ -33,50 +33,21 @@ pub fn chain_cells(owners: &[u16; 1024], n: usize, head: &mut [u16; 1024], next:
     requires { (n ≤ 1024) × (head.old ≡ replicate 1024 1024) × (next.old ≡ replicate 1024 1024) }
     ensures { Chains owners.now head.new next.new n }
 {
-    let mut i = n;
-    while 0 < i {
-        i -= 1;
+    for i in (0..n).rev() {
         chain_cell(owners, i, head, next);
     }
 }
 
 // Whether a cell of this kind and owner is in the reach of the block f.
+#[tactic(auto, using(std::proofs::lemmas::Bool::Decides::nat_tests), unfolding(crate::specs::Inside::reaches))]
 pub fn in_reach(near: &[u8; 1024], f: u16, kind: u8, owner: u16) -> bool
     ensures { result ≡ reaches near.now f kind owner }
 {
-    if kind == 1 {
-        return owner == f;
+    match kind {
+        ARROW_BLOCK | ARROW_BLOCK_NEIGHBOR => owner == f,
+        FLOATING => owner < 1024 && near[usize::from(owner)] == 1,
+        _ => false,
     }
-    if kind == 2 {
-        return owner == f;
-    }
-    if kind != 4 {
-        return false;
-    }
-    if 1024 <= owner {
-        return false;
-    }
-    near[owner as usize] == 1
-}
-
-// Marks and counts cell i if it is in the reach of the block f.
-fn mark_reached(
-    kinds: &[u8; 1024],
-    owners: &[u16; 1024],
-    near: &[u8; 1024],
-    f: u16,
-    i: usize,
-    marks: &mut [u8; 1024],
-    count: usize,
-) -> usize
-    requires { (i < 1024) × (count < 1024) }
-    ensures { Counted (reaches near.now f (get_or kinds.now i 0) (get_or owners.now i 0)) i marks.old count marks.new result }
-{
-    if in_reach(near, f, kinds[i], owners[i]) {
-        marks[i] = 1;
-        return count + 1;
-    }
-    count
 }
 
 // Marks the cells of the reach of the block f, and counts them.
@@ -91,10 +62,13 @@ fn mark_reach(
     requires { n ≤ 1024 }
     ensures { Reached kinds.now owners.now near.now f n marks.new result }
 {
-    kinds::clear(marks);
-    let mut count: usize = 0;
+    *marks = [0; 1024];
+    let mut count = 0;
     for i in 0..n {
-        count = mark_reached(kinds, owners, near, f, i, marks, count);
+        if in_reach(near, f, kinds[i], owners[i]) {
+            marks[i] = 1;
+            count += 1;
+        }
     }
     count
 }
@@ -113,7 +87,7 @@ fn mark_floats_beside(
     ensures { (t : ℕ → Bool) → Marks near.old t
         → Marks near.new (λ m. t m || near_at kinds.now owners.now f i (neighbours (sized h w) i) m) }
 {
-    if kinds[i] != 2 {
+    if kinds[i] != ARROW_BLOCK_NEIGHBOR {
         return;
     }
     if owners[i] != f {
@@ -122,10 +96,8 @@ fn mark_floats_beside(
     let y = i / w;
     let x = i % w;
     for k in 0..4 {
-        let side = grid::toward(h, w, y, x, k);
-        match side {
-            Side::At(j) => kinds::mark_name(kinds, 4, owners, j, near),
-            Side::Off => {}
+        if let Some(j) = grid::toward(h, w, y, x, k) {
+            kinds::mark_name(kinds, FLOATING, owners, j, near);
         }
     }
 }
@@ -142,9 +114,8 @@ fn mark_near_floats(
     requires { Limits h w }
     ensures { Marks near.new (near_among kinds.now owners.now (sized h w) f (h * w)) }
 {
-    kinds::clear(near);
-    let n = h * w;
-    for i in 0..n {
+    *near = [0; 1024];
+    for i in 0..h * w {
         mark_floats_beside(kinds, owners, h, w, f, i, near);
     }
 }

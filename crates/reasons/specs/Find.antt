@@ -1,6 +1,6 @@
 -- What find answers on a board, and what it leaves in the lent buffer. What it leaves on the board is `after_find` of crate board.
 -- Assumes nothing.
-use Rattle.std.specs.Prelude.{ℕ, ◌/◌, ◌%◌, List, map, length, take}
+use Rattle.std.specs.Prelude.{ℕ, ◌/◌, ◌%◌, List, map, length, take, Option, Some, None}
 use Rattle.std.proofs.Math.Option.{none, some}
 use Rattle.record.specs.Record.{Outcome, ok, refused}
 use Rattle.grid.specs.Cells.{Literal}
@@ -20,6 +20,12 @@ reason_on b = find_reason (leaf_on b) (cells_on b)
 -- what find answers player q
 unfoldable pub find_of : Board → ℕ → List ℕ → Finding
 find_of b q buffer = finding_by (find_refusal b q (length buffer)) (reason_on b)
+
+-- the answer as an outcome: a refusal, none, or how many literals there are
+abbrev pub found_as : Finding → Outcome (Option ℕ)
+found_as Nothing = ok None
+found_as (Reason k) = ok (Some k)
+found_as (Refused k) = refused k
 
 -- what find of player q leaves in the buffer
 unfoldable pub buffer_after : Board → ℕ → List ℕ → List ℕ

@@ -4,16 +4,17 @@
 
 ghost use Rattle.std.specs.Prelude.{◌≡◌, ◌≤◌, length, take, replicate};
 ghost use Rattle.board.specs.Hints.{hinted, after_find};
-ghost use Rattle.reasons.specs.Find.{find_of, buffer_after};
+ghost use Rattle.refusal.specs.Refusals.{outcome_of};
+ghost use Rattle.reasons.specs.Find.{find_of, found_as, buffer_after};
 ghost use Rattle.reasons.specs.Inside.{lent_sizes};
 
 use board::Board;
-use literals::Finding;
+use refusal::Refusal;
 
 // The answer of `find`, with the board as find leaves it.
 #[derive(Clone, Copy)]
 pub struct Asked {
-    pub finding: Finding,
+    pub finding: Result<Option<usize>, Refusal>,
     pub board: Board,
 }
 
@@ -21,7 +22,7 @@ pub struct Asked {
 pub fn no_literals() -> [u16; Board::LITERALS]
     ensures { result ≡ replicate 3073 0 }
 {
-    [0u16; Board::LITERALS]
+    [0; Board::LITERALS]
 }
 
 // How many of n cells are lent with their sizes to the search for a reason: none on a leaf without sizes, which then pays for none.
@@ -44,75 +45,64 @@ pub fn first_sizes(sizes: &[u16], n: usize) -> &[u16]
 }
 
 // The board with one more hint counted for the player, and for no other.
+#[tactic(auto, unfolding(board::specs::Hints::hinted, board::specs::Hints::with_hints))]
 fn hinted(board: Board, player: u8) -> Board
     requires { player ≤ 3 }
     ensures { result ≡ hinted board player }
 {
-    let at = grid::byte(player);
-    let count = board.hints[at];
+    let at = usize::from(player);
     let mut left = board;
-    left.hints[at] = board::raised(count);
+    left.hints[at] = board::raised(board.hints[at]);
     left
 }
 
-// Why the board can't be finished: the first reason that applies, its literals written to the buffer's first places. Refused: 6 a
-// board that no list of calls could leave, 17 a player above 3, 11 a buffer shorter than 3 × H × W + 1 literals. A find that is not refused
-// raises its player's count of hints, and changes nothing else on the board; the reason doesn't depend on the player.
-pub fn find(board: Board, player: u8, buffer: &mut [u16]) -> Asked
-    ensures { (result.finding ≡ find_of board player buffer.old) × (result.board ≡ after_find board player (length buffer.old))
-        × (buffer.new ≡ buffer_after board player buffer.old) }
+// Why the board can't be finished: how many literals the first reason that applies has, written to the buffer's first places, and none where no reason
+// does. Refused: 6 a board that no list of calls could leave, 17 a player above 3, 11 a buffer shorter than 3 × H × W + 1 literals.
+#[tactic(auto, using(board::proofs::BoardForm::formed_area))]
+fn reason_against(board: &Board, player: u8, buffer: &mut [u16]) -> Result<Option<usize>, Refusal>
+    ensures { (outcome_of result ≡ found_as (find_of board.now player buffer.old)) × (buffer.new ≡ buffer_after board.now player buffer.old) }
 {
-    let decided = board.decided;
-    let good = board::good_board(
-        board.problem.height,
-        board.problem.width,
-        board.problem.count,
-        &board.problem.cells,
-        &board.problem.arrows,
-        &board.problem.ends,
-        board.edition,
-        &board.cells,
-        &board.order,
-        decided,
-        &board.lowest,
-        &board.highest,
-    );
-    if !good {
-        return Asked {
-            finding: Finding::Refused(6),
-            board,
-        };
+    if !board.is_formed() {
+        return Err(Refusal::Board);
     }
     if 3 < player {
-        return Asked {
-            finding: Finding::Refused(17),
-            board,
-        };
+        return Err(Refusal::Player);
     }
     let h = board.problem.height;
     let w = board.problem.width;
-    let number = board.problem.count;
     if buffer.len() < 3 * (h * w) + 1 {
-        return Asked {
-            finding: Finding::Refused(11),
-            board,
-        };
+        return Err(Refusal::OutputShort);
     }
     let n = lent_sizes(&board.lowest, h * w);
-    let finding = inconsistency::find_inconsistency(
+    let found = inconsistency::find_inconsistency(
         board.edition,
         first_sizes(&board.lowest, n),
         first_sizes(&board.highest, n),
         &board.cells,
         &board.problem.arrows,
         &board.problem.ends,
-        number,
+        board.problem.count,
         h,
         w,
         buffer,
     );
-    Asked {
-        finding,
-        board: hinted(board, player),
+    Ok(found)
+}
+
+// The reason, as above, with the board as find leaves it. A find that is not refused raises its player's count of hints, and changes nothing else on the
+// board; the reason doesn't depend on the player.
+pub fn find(board: Board, player: u8, buffer: &mut [u16]) -> Asked
+    ensures { (outcome_of result.finding ≡ found_as (find_of board player buffer.old)) × (result.board ≡ after_find board player (length buffer.old))
+        × (buffer.new ≡ buffer_after board player buffer.old) }
+{
+    match reason_against(&board, player, buffer) {
+        Ok(found) => Asked {
+            finding: Ok(found),
+            board: hinted(board, player),
+        },
+        Err(refusal) => Asked {
+            finding: Err(refusal),
+            board,
+        },
     }
 }

@@ -1,13 +1,13 @@
 -- The steps of an arrow, and an arrow with its start.
 -- Assumes nothing.
-use Prim.Native.Nat.{ℕ, zero, suc, ◌+◌, ◌-◌, ◌*◌, ◌≤◌, ◌<◌}
+use Prim.Native.Nat.{ℕ, zero, suc, ◌+◌, ◌-◌, ◌*◌, ◌<◌}
 use native.Mathlib.Nat.{sub-zero, add-zero}
 use native.Mathlib.Omega.{arith}
 use mathlib.Core.Path.{◌≡◌, refl, sym, ap, ◌∙◌, subst}
 use mathlib.Core.Bool.{Bool, ◌&&◌, ◌||◌, not, or_comm}
 use mathlib.Core.List.{List, [], ◌∷◌, ◌++◌, append_assoc, append-nil}
 use lib.Dec.{eqb, ltb}
-use lib.ListN.{length, length-append}
+use lib.ListN.{length}
 use borrow.Author.Tests.{ltb-true}
 use Rattle.grid.specs.Lists.{any, member}
 use Rattle.grid.proofs.ListLaws.{and-true}
@@ -16,15 +16,15 @@ use Rattle.grid.proofs.AppendLaws.{member-append}
 use Rattle.fields.specs.Fields.{Outcome, ok, refused, ◌>>=◌, unless, field, step_from}
 use Rattle.record.specs.Record.{step_cells, arrow_at}
 use Rattle.record.specs.Head.{arrows_in}
-use Rattle.fields.specs.Inside.{Stepped, to, off, step_at, Opening, opening_at, start_of}
-use Rattle.record.specs.Inside.{Answered, done, fault, take_at, Kept, StepTaken, step, ArrowRead, arrow}
+use Rattle.fields.specs.Inside.{Agrees, step_at, opening_at}
+use Rattle.record.specs.Inside.{Answered, done, fault, take_at}
 use Rattle.record.specs.declared.Answer.{Answer}
 use Rattle.record.specs.declared.Answer.TheVariants.{Done, Refused}
-use Rattle.fields.specs.declared.Place.{Place}
-use Rattle.fields.specs.declared.Place.TheVariants.{At, Lost}
 use Rattle.fields.specs.declared.Start.{Start}
-use Rattle.fields.specs.declared.Start.TheVariants.{From, Bad}
-use Rattle.fields.specs.declared.Field.TheVariants.{Value, Fault}
+use Rattle.std.specs.Prelude.{Ok, Err}
+use Rattle.std.specs.declared.result.Result.{Result}
+use Rattle.refusal.specs.declared.Refusal.{Refusal}
+use Rattle.refusal.specs.Refusals.{number_of}
 use Rattle.fields.proofs.OutcomeLaws.{bind_ok, unless-ok, ok-eq, field-ok}
 use Rattle.fields.proofs.ReadLaws.{bind_bind, bind_same, bind_value, bind_refused, behind}
 
@@ -98,7 +98,7 @@ module _ (s : List ℕ) (g : Grid) where
   unfolding arrow_at opening_at ◌>>=◌
   arrow_parts l at = go (field s at 5) (field s (at + 5) 5) (field s (at + 10) 10)
     where
-      R : Opening → Outcome (List ℕ)
+      R : Start → Outcome (List ℕ)
       R o = unless (not (member (o.row * g.width + o.col) l)) 4 >>= λ _. from l (at + 20) o.steps (o.row * g.width + o.col)
 
       go : (f₁ f₂ f₃ : Outcome ℕ)
@@ -121,58 +121,32 @@ pub Answered-fault : {A : Type 0} {o : Outcome A} {P : A → Type 0} {r : Answer
 Answered-fault (done e p) q = let z : ◌≡◌ {A = ℕ} 0 1 = cc in absurd (omega arith)
 Answered-fault {A} (fault e) q = e ∙ ap {B = Outcome A} refused (cc)
 
-pub Stepped-to : {g : Grid} {o : Outcome ℕ} {r : Place} {y x : ℕ} → Stepped g o r → r ≡ At y x → (o ≡ ok (y * g.width + x)) × (y < g.height) × (x < g.width)
-Stepped-to {g} {o} {r} {y} {x} (to {row} {col} e h l) q =
-    let a : row ≡ y = cc in
-    let b : col ≡ x = cc in
-    rw (← a, ← b) (e, h, l)
-Stepped-to (off e) q = let z : ◌≡◌ {A = ℕ} 0 1 = cc in absurd (omega arith)
-
-pub Stepped-off : {g : Grid} {o : Outcome ℕ} {r : Place} {k : ℕ} → Stepped g o r → r ≡ Lost k → o ≡ refused k
-Stepped-off (to e h l) q = let z : ◌≡◌ {A = ℕ} 0 1 = cc in absurd (omega arith)
-Stepped-off (off e) q = e ∙ ap {B = Outcome ℕ} refused (cc)
-
+-- a step that is taken: each way out
 module _ (s : List ℕ) (g : Grid) (l : List ℕ) (i at : ℕ) where
-  -- a step that is taken: each way out
-  pub step_lost : (line marks : List ℕ) {k : ℕ} → step_at s g i at ≡ refused k → StepTaken s g l i at line marks (Lost k)
+  pub step_lost : {k : ℕ} → refused k ≡ step_at s g i at → take_at s g l i at ≡ refused k
   unfolding take_at
-  step_lost line marks e = StepTaken.fault (bind_refused _ e)
+  step_lost e = bind_refused _ (sym e)
 
-  module _ {line marks : List ℕ} (y x : ℕ) (e : step_at s g i at ≡ ok (y * g.width + x)) {r : Answer}
-      (a : Answered (unless (not (member (y * g.width + x) l)) 4) (λ _. Kept (l ++ ((y * g.width + x) ∷ [])) line marks) r) where
-    pub step_used : {k : ℕ} → r ≡ Refused k → StepTaken s g l i at line marks (Lost k)
+  module _ (j : ℕ) (e : ok j ≡ step_at s g i at) where
+    pub step_used : {k : ℕ} → unless (not (member j l)) 4 ≡ refused k → take_at s g l i at ≡ refused k
     unfolding take_at
-    step_used q = StepTaken.fault (bind_value _ e ∙ bind_refused _ (Answered-fault a q))
+    step_used a = bind_value _ (sym e) ∙ bind_refused _ a
 
-    pub step_new : y < g.height → x < g.width → r ≡ Done → StepTaken s g l i at line marks (At y x)
+    pub step_new : {z : ℕ} → unless (not (member j l)) 4 ≡ ok z → take_at s g l i at ≡ ok j
     unfolding take_at
-    step_new h b q = let d = Answered-done a q in step (bind_value _ e ∙ bind_value _ d.1) h b d.2
-
-pub taken_to : {s : List ℕ} {g : Grid} {l : List ℕ} {i at : ℕ} {line marks : List ℕ} {r : Place} {y x : ℕ} → StepTaken s g l i at line marks r → r ≡ At y x
-    → (take_at s g l i at ≡ ok (y * g.width + x)) × (y < g.height) × (x < g.width) × Kept (l ++ ((y * g.width + x) ∷ [])) line marks
-taken_to {y} {x} (step {row} {col} e h b k) q =
-    let p : row ≡ y = cc in
-    let q : col ≡ x = cc in
-    rw (← p, ← q) (e, h, b, k)
-taken_to (StepTaken.fault e) q = let z : ◌≡◌ {A = ℕ} 0 1 = cc in absurd (omega arith)
-
-pub taken_lost : {s : List ℕ} {g : Grid} {l : List ℕ} {i at : ℕ} {line marks : List ℕ} {r : Place} {k : ℕ} → StepTaken s g l i at line marks r → r ≡ Lost k → take_at s g l i at ≡ refused k
-taken_lost (step e h b k) q = let z : ◌≡◌ {A = ℕ} 0 1 = cc in absurd (omega arith)
-taken_lost (StepTaken.fault e) q = e ∙ ap {B = Outcome ℕ} refused (cc)
+    step_new a = bind_value _ (sym e) ∙ bind_value _ a
 
 -- the first t steps are taken, and what is left makes of them what the whole makes
-pub record StepsSoFar (s : List ℕ) (g : Grid) (l : List ℕ) (i at k t j : ℕ) (line marks : List ℕ) : Type 0 where
+pub record StepsSoFar (s : List ℕ) (g : Grid) (l : List ℕ) (i at k t j : ℕ) (line : List ℕ) : Type 0 where
   pub js : List ℕ
-  pub many : length js ≡ t
-  pub kept : Kept (l ++ js) line marks
+  pub line_is : line ≡ l ++ js
   pub rest : step_cells s g l i at k ≡ (step_cells s g (l ++ js) j (at + 2 * t) (k - t) >>= λ ks. ok (js ++ ks))
 
 module _ (s : List ℕ) (g : Grid) (l : List ℕ) (i at k : ℕ) where
-  pub steps_start : (line marks : List ℕ) → Kept l line marks → StepsSoFar s g l i at k 0 i line marks
-  steps_start line marks h = record {
+  pub steps_start : StepsSoFar s g l i at k 0 i l
+  steps_start = record {
     js = [];
-    many = refl;
-    kept = rw (append-nil l) h;
+    line_is = sym (append-nil l);
     rest = rw (append-nil l, sub-zero k, add-zero at) (sym (bind_same (step_cells s g l i at k)));
   }
 
@@ -183,42 +157,31 @@ module _ (s : List ℕ) (g : Grid) (l : List ℕ) (i at k : ℕ) where
       let p : at + 2 * t + 2 ≡ at + 2 * (t + 1) = omega arith in
       rw e (ap (λ (o : Outcome (List ℕ)). o >>= λ ks. ok (js ++ ks)) (steps_next s g (l ++ js) j (at + 2 * t) (k - (t + 1)) ∙ rw p refl))
 
-  pub steps_fault : {t j : ℕ} {line marks : List ℕ} {f : ℕ} → t < k → (w : StepsSoFar s g l i at k t j line marks) → take_at s g (l ++ w.js) j (at + 2 * t) ≡ refused f → step_cells s g l i at k ≡ refused f
-  steps_fault {t} {j} h w e = w.rest ∙ left t j w.js h ∙ bind_refused (λ ks. ok (w.js ++ ks)) (bind_refused _ e)
+  module _ {t j : ℕ} {line : List ℕ} (h : t < k) (w : StepsSoFar s g l i at k t j line) where
+    pub steps_fault : {f : ℕ} → take_at s g line j (at + 2 * t) ≡ refused f → step_cells s g l i at k ≡ refused f
+    steps_fault {f} e =
+        let taken : take_at s g (l ++ w.js) j (at + 2 * t) ≡ refused f = rw (← w.line_is) e in
+        w.rest ∙ left t j w.js h ∙ bind_refused (λ ks. ok (w.js ++ ks)) (bind_refused _ taken)
 
-  pub steps_more : {t j c : ℕ} {line marks line' marks' : List ℕ} → t < k → (w : StepsSoFar s g l i at k t j line marks) → take_at s g (l ++ w.js) j (at + 2 * t) ≡ ok c
-      → Kept ((l ++ w.js) ++ (c ∷ [])) line' marks' → StepsSoFar s g l i at k (t + 1) c line' marks'
-  steps_more {t} {j} {c} h w e q = record {
-    js = w.js ++ (c ∷ []);
-    many = rw length-append (omega (arith, w.many));
-    kept = rw (append_assoc l w.js (c ∷ [])) at q;
-    rest = w.rest ∙ left t j w.js h ∙ ap (λ (o : Outcome (List ℕ)). o >>= λ ks. ok (w.js ++ ks)) (bind_value _ e)
-        ∙ behind (step_cells s g ((l ++ w.js) ++ (c ∷ [])) c (at + 2 * (t + 1)) (k - (t + 1))) w.js c
-        ∙ ap (λ (u : List ℕ). step_cells s g u c (at + 2 * (t + 1)) (k - (t + 1)) >>= λ ks. ok ((w.js ++ (c ∷ [])) ++ ks)) (append_assoc l w.js (c ∷ []));
-  }
+    pub steps_more : {c : ℕ} {line' : List ℕ} → take_at s g line j (at + 2 * t) ≡ ok c → line' ≡ line ++ (c ∷ []) → StepsSoFar s g l i at k (t + 1) c line'
+    steps_more {c} e q =
+        let taken : take_at s g (l ++ w.js) j (at + 2 * t) ≡ ok c = rw (← w.line_is) e in
+        record {
+          js = w.js ++ (c ∷ []);
+          line_is = q ∙ ap (λ (u : List ℕ). u ++ (c ∷ [])) w.line_is ∙ append_assoc l w.js (c ∷ []);
+          rest = w.rest ∙ left t j w.js h ∙ ap (λ (o : Outcome (List ℕ)). o >>= λ ks. ok (w.js ++ ks)) (bind_value _ taken)
+              ∙ behind (step_cells s g ((l ++ w.js) ++ (c ∷ [])) c (at + 2 * (t + 1)) (k - (t + 1))) w.js c
+              ∙ ap (λ (u : List ℕ). step_cells s g u c (at + 2 * (t + 1)) (k - (t + 1)) >>= λ ks. ok ((w.js ++ (c ∷ [])) ++ ks)) (append_assoc l w.js (c ∷ []));
+        }
 
-  pub steps_end : {t j : ℕ} {line marks : List ℕ} → t ≤ k → k ≤ t → StepsSoFar s g l i at k t j line marks → Answered (step_cells s g l i at k) (λ js. Kept (l ++ js) line marks) Done
+  pub steps_end : {t j : ℕ} {line : List ℕ} → t ≡ k → StepsSoFar s g l i at k t j line → Agrees {B = Unit {0}} (step_cells s g l i at k) (λ js _. line ≡ l ++ js) (Ok tt)
   unfolding step_cells ◌>>=◌
-  steps_end {t} {j} h b w =
-      let e : k - t ≡ 0 = omega arith in
+  steps_end {t} {j} h w =
+      let e : k - t ≡ 0 = omega (arith, h) in
       let a : step_cells s g l i at k ≡ ok w.js = w.rest ∙ ap (λ (m : ℕ). step_cells s g (l ++ w.js) j (at + 2 * t) m >>= λ ks. ok (w.js ++ ks)) e ∙ ap {B = Outcome (List ℕ)} ok (append-nil w.js) in
-      done a w.kept
+      (w.js, a, w.line_is)
 
--- how an arrow begins, by the code's answer
-pub start_ok : (o : Outcome Opening) {r : Start} {y x k : ℕ} → r ≡ start_of o → r ≡ From y x k → o ≡ ok (record { row = y; col = x; steps = k })
-unfolding start_of
-start_ok (refused f) e q = let z : ◌≡◌ {A = ℕ} 0 1 = cc in absurd (omega arith)
-start_ok (ok o) {r} {y} {x} {k} e q =
-    let a : y ≡ o.row = cc in
-    let b : x ≡ o.col = cc in
-    let d : k ≡ o.steps = cc in
-    rw (a, b, d) refl
-
-pub start_bad : (o : Outcome Opening) {r : Start} {k : ℕ} → r ≡ start_of o → r ≡ Bad k → o ≡ refused k
-unfolding start_of
-start_bad (refused f) e q = ap {B = Outcome Opening} refused (cc)
-start_bad (ok o) e q = let z : ◌≡◌ {A = ℕ} 0 1 = cc in absurd (omega arith)
-
+-- an arrow begins on the grid
 pub opening_fits : (s : List ℕ) (g : Grid) (at : ℕ) {y x k : ℕ} → opening_at s g at ≡ ok (record { row = y; col = x; steps = k }) → (y < g.height) × (x < g.width) × (k < 1024)
 unfolding opening_at
 opening_fits s g at {y} {x} {k} e =
@@ -228,9 +191,9 @@ opening_fits s g at {y} {x} {k} e =
     let d = bind_ok (unless (ltb a.0 g.height && ltb b.0 g.width) 3) _ c.2 in
     let t = and-true (ltb a.0 g.height) (ltb b.0 g.width) (unless-ok _ 3 d.1) in
     let q = ok-eq d.2 in
-    let qy : a.0 ≡ y = ap (λ (o : Opening). o.row) q in
-    let qx : b.0 ≡ x = ap (λ (o : Opening). o.col) q in
-    let qk : c.0 ≡ k = ap (λ (o : Opening). o.steps) q in
+    let qy : a.0 ≡ y = ap (λ (o : Start). o.row) q in
+    let qx : b.0 ≡ x = ap (λ (o : Start). o.col) q in
+    let qk : c.0 ≡ k = ap (λ (o : Start). o.steps) q in
     let h : a.0 < g.height = ltb-true a.0 g.height t.0 in
     let w : b.0 < g.width = ltb-true b.0 g.width t.1 in
     let f : c.0 < 1024 = field-ok s (at + 10) 10 c.1 in
@@ -248,28 +211,26 @@ steps_length s g u i at (suc k) e =
     rw (← ok-eq d.2) (ap suc (steps_length s g (b.0 ∷ u) b.0 (at + 2) k d.1))
 
 -- an arrow: each way out
-module _ (s : List ℕ) (g : Grid) (l : List ℕ) (at : ℕ) (line marks : List ℕ) where
-  pub arrow_bad : {k : ℕ} → opening_at s g at ≡ refused k → ArrowRead s g l at line marks (Fault k)
-  arrow_bad e = ArrowRead.fault (arrow_parts s g l at ∙ bind_refused _ e)
+module _ (s : List ℕ) (g : Grid) (l : List ℕ) (at : ℕ) where
+  pub arrow_bad : {k : ℕ} → refused k ≡ opening_at s g at → arrow_at s g l at ≡ refused k
+  arrow_bad e = arrow_parts s g l at ∙ bind_refused _ (sym e)
 
-  module _ (y x k : ℕ) (e : opening_at s g at ≡ ok (record { row = y; col = x; steps = k })) where
+  module _ (y x k : ℕ) (e : ok (record { row = y; col = x; steps = k }) ≡ opening_at s g at) where
     abbrev cell : ℕ
     cell = y * g.width + x
 
     -- what is left when the start is read
     begun : arrow_at s g l at ≡ (unless (not (member cell l)) 4 >>= λ _. from s g l (at + 20) k cell)
-    begun = arrow_parts s g l at ∙ bind_value _ e
+    begun = arrow_parts s g l at ∙ bind_value _ (sym e)
 
-    pub arrow_used : {P : ℕ → Type 0} {r : Answer} {f : ℕ} → Answered (unless (not (member cell l)) 4) P r → r ≡ Refused f → ArrowRead s g l at line marks (Fault f)
-    arrow_used a q = ArrowRead.fault (begun ∙ bind_refused _ (Answered-fault a q))
+    pub arrow_used : {f : ℕ} → unless (not (member cell l)) 4 ≡ refused f → arrow_at s g l at ≡ refused f
+    arrow_used a = begun ∙ bind_refused _ a
 
-    module _ {P : ℕ → Type 0} {r : Answer} (a : Answered (unless (not (member cell l)) 4) P r) (q : r ≡ Done) {t : Answer}
-        (b : Answered (step_cells s g (l ++ (cell ∷ [])) cell (at + 20) k) (λ js. Kept ((l ++ (cell ∷ [])) ++ js) line marks) t) where
-      pub arrow_cut : {f : ℕ} → t ≡ Refused f → ArrowRead s g l at line marks (Fault f)
-      arrow_cut z = ArrowRead.fault (begun ∙ bind_value _ (Answered-done a q).1 ∙ bind_refused _ (Answered-fault b z))
-
-      pub arrow_whole : (n : ℕ) → length l ≡ n → t ≡ Done → ArrowRead s g l at line marks (Value (n + 1 + k))
-      arrow_whole n h z =
-          let d = Answered-done b z in
-          let m : length (l ++ (cell ∷ d.0)) ≡ n + 1 + k = length-append l (cell ∷ d.0) ∙ omega (arith, h, steps_length s g (l ++ (cell ∷ [])) cell (at + 20) k d.1) in
-          rw (← m) (arrow (begun ∙ bind_value _ (Answered-done a q).1 ∙ bind_value _ d.1) (rw (append_assoc l (cell ∷ []) d.0) at d.2))
+    pub arrow_steps : {z : ℕ} {line : List ℕ} (line' : List ℕ) (r : Result (Unit {0}) Refusal) → unless (not (member cell l)) 4 ≡ ok z → line ≡ l ++ (cell ∷ [])
+        → Agrees (step_cells s g line cell (at + 20) k) (λ js _. line' ≡ line ++ js) r → Agrees (arrow_at s g l at) (λ a _. line' ≡ l ++ a) r
+    arrow_steps line' (Ok u) a q b =
+        let taken : step_cells s g (l ++ (cell ∷ [])) cell (at + 20) k ≡ ok b.0 = rw (← q) b.1 in
+        (cell ∷ b.0, begun ∙ bind_value _ a ∙ bind_value _ taken, b.2 ∙ ap (λ (u : List ℕ). u ++ b.0) q ∙ append_assoc l (cell ∷ []) b.0)
+    arrow_steps line' (Err f) a q b =
+        let lost : step_cells s g (l ++ (cell ∷ [])) cell (at + 20) k ≡ refused (number_of f) = rw (← q) b in
+        begun ∙ bind_value _ a ∙ bind_refused _ lost

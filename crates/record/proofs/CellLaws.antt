@@ -10,11 +10,10 @@ use lib.ListN.{length, set, length-append}
 use Rattle.grid.specs.Lists.{array_of}
 use Rattle.grid.proofs.ArrayLaws.{array_more}
 use Rattle.fields.specs.Fields.{Outcome, ok, refused, ◌>>=◌, unless, field}
-use Rattle.fields.specs.Inside.{cell_code, code_at}
+use Rattle.fields.specs.Inside.{Agrees, cell_code, code_at}
 use Rattle.fields.proofs.ReadLaws.{bind_bind, bind_same, bind_value, bind_refused, behind}
+use Rattle.std.specs.Prelude.{Ok}
 use Rattle.record.specs.Record.{cell_codes}
-use Rattle.record.specs.Inside.{Answered, done}
-use Rattle.record.specs.declared.Answer.TheVariants.{Done}
 
 -- the codes of one cell more
 cells_next : (s : List ℕ) (at n : ℕ) → cell_codes s at (suc n) ≡ (code_at s at >>= λ c. cell_codes s (at + 2) n >>= λ cs. ok (c ∷ cs))
@@ -45,20 +44,20 @@ module _ (s : List ℕ) (n : ℕ) where
       let p : 21 + 2 * i + 2 ≡ 21 + 2 * (i + 1) = omega arith in
       rw e (ap (λ (o : Outcome (List ℕ)). o >>= λ cs. ok (codes ++ cs)) (cells_next s (21 + 2 * i) (n - (i + 1)) ∙ rw p refl))
 
-  pub cells_fault : (i : ℕ) {cells : List ℕ} {k : ℕ} → i < n → CellsSoFar s n i cells → code_at s (21 + 2 * i) ≡ refused k → cell_codes s 21 n ≡ refused k
-  cells_fault i h f e = f.rest ∙ left i f.codes h ∙ bind_refused (λ cs. ok (f.codes ++ cs)) (bind_refused _ e)
+  pub cells_fault : (i : ℕ) {cells : List ℕ} {k : ℕ} → i < n → CellsSoFar s n i cells → refused k ≡ code_at s (21 + 2 * i) → cell_codes s 21 n ≡ refused k
+  cells_fault i h f e = f.rest ∙ left i f.codes h ∙ bind_refused (λ cs. ok (f.codes ++ cs)) (bind_refused _ (sym e))
 
-  pub cells_more : (i c : ℕ) {cells : List ℕ} → i < n → n ≤ 1024 → CellsSoFar s n i cells → code_at s (21 + 2 * i) ≡ ok c → CellsSoFar s n (i + 1) (set cells i c)
+  pub cells_more : (i c : ℕ) {cells : List ℕ} → i < n → n ≤ 1024 → CellsSoFar s n i cells → ok c ≡ code_at s (21 + 2 * i) → CellsSoFar s n (i + 1) (set cells i c)
   cells_more i c h m f e = record {
     codes = f.codes ++ (c ∷ []);
     many = rw length-append (omega (arith, f.many));
     held = rw (f.held, ← f.many) (array_more 0 f.codes c (omega (arith, f.many)));
-    rest = f.rest ∙ left i f.codes h ∙ ap (λ (o : Outcome (List ℕ)). o >>= λ cs. ok (f.codes ++ cs)) (bind_value _ e) ∙ behind (cell_codes s (21 + 2 * (i + 1)) (n - (i + 1))) f.codes c;
+    rest = f.rest ∙ left i f.codes h ∙ ap (λ (o : Outcome (List ℕ)). o >>= λ cs. ok (f.codes ++ cs)) (bind_value _ (sym e)) ∙ behind (cell_codes s (21 + 2 * (i + 1)) (n - (i + 1))) f.codes c;
   }
 
-  pub cells_end : (i : ℕ) {cells : List ℕ} → i ≤ n → n ≤ i → CellsSoFar s n i cells → Answered (cell_codes s 21 n) (λ cs. cells ≡ array_of 0 cs) Done
+  pub cells_end : (i : ℕ) {cells : List ℕ} → i ≤ n → n ≤ i → CellsSoFar s n i cells → Agrees {B = Unit {0}} (cell_codes s 21 n) (λ cs _. cells ≡ array_of 0 cs) (Ok tt)
   unfolding cell_codes ◌>>=◌
   cells_end i h k f =
       let e : n - i ≡ 0 = omega arith in
       let a : cell_codes s 21 n ≡ ok f.codes = f.rest ∙ ap (λ (m : ℕ). cell_codes s (21 + 2 * i) m >>= λ cs. ok (f.codes ++ cs)) e ∙ ap {B = Outcome (List ℕ)} ok (append-nil f.codes) in
-      done a f.held
+      (f.codes, a, f.held)

@@ -13,6 +13,8 @@ use Rattle.fields.proofs.OutcomeLaws.{bind_ok, ok-eq}
 use Rattle.record.specs.Record.{Puzzle, cell_codes, arrow_at, arrows_at, read_record}
 use Rattle.record.specs.Problem.{arrow_cells}
 use Rattle.record.specs.Head.{arrows_in, read_fields, head_bits, head_of, read_head, puzzle_in}
+use Rattle.record.specs.declared.Extent.{Extent}
+use Rattle.record.specs.declared.Extent.TheVariants.{Whole, Head}
 use Rattle.record.specs.Inside.{ended, read_as}
 
 -- ---- outcomes
@@ -95,21 +97,21 @@ record_fields s =
         ∙ made_ended s g m cs (filler s)
 
 -- what may stand behind the fields
-pub ended_whole : {b r : Bool} (s : List ℕ) (at : ℕ) → b ≡ true → r ≡ filler s at → r ≡ ended b s at
+pub ended_whole : {b : Extent} {r : Bool} (s : List ℕ) (at : ℕ) → b ≡ Whole → r ≡ filler s at → r ≡ ended b s at
 unfolding ended
 ended_whole s at t e = rw t e
 
-pub ended_head : {b r : Bool} (s : List ℕ) (at : ℕ) → b ≡ false → r ≡ rest_zero s at → r ≡ ended b s at
+pub ended_head : {b : Extent} {r : Bool} (s : List ℕ) (at : ℕ) → b ≡ Head → r ≡ rest_zero s at → r ≡ ended b s at
 unfolding ended
 ended_head s at t e = rw t e
 
 -- what is read of a whole record is the record
-pub record_as : (s : List ℕ) → read_as true s ≡ read_record s
+pub record_as : (s : List ℕ) → read_as Whole s ≡ read_record s
 unfolding read_as ended
 record_as s = sym (record_fields s)
 
 -- and what is read of one at the head of a file is the puzzle of that head
-pub head_as : (s : List ℕ) → read_as false s ≡ puzzle_in (read_head s)
+pub head_as : (s : List ℕ) → read_as Head s ≡ puzzle_in (read_head s)
 unfolding read_as ended puzzle_in read_head
 head_as s = under (read_fields s) _ _ _ (λ p _. both p (rest_zero s (head_bits p)))
   where

@@ -9,10 +9,11 @@ use lib.Seq.{take-append_seam, drop_at}
 use Rattle.grid.specs.Lists.{flat_map, array_of}
 use Rattle.grid.specs.Grid.{size}
 use Rattle.grid.proofs.ArrayLaws.{array_take}
-use Rattle.fields.specs.Fields.{Outcome, ok, refused}
+use Rattle.fields.specs.Fields.{Outcome, ok, refused, ◌>>=◌}
 use Rattle.record.specs.Record.{Puzzle, read_record}
 use Rattle.record.specs.Valid.{Valid}
-use Rattle.record.specs.Problem.{ends_from, arrow_cells, problem_of, grid_of, arrows_from, puzzle_of, reading, read_of}
+use Rattle.record.specs.Problem.{ends_from, arrow_cells, problem_of, grid_of, arrows_from, puzzle_of, reading, read_of, as_problem}
+use Rattle.record.specs.declared.Problem.{Problem}
 use Rattle.record.specs.declared.Reading.{Reading}
 use Rattle.record.specs.declared.Answer.TheVariants.{Done, Refused}
 
@@ -51,6 +52,17 @@ cells_kept n cs h = rw (← h) (array_take 0 cs)
 pub problem_puzzle : (p : Puzzle) → Valid p → puzzle_of (problem_of p) ≡ p
 unfolding puzzle_of problem_of grid_of
 problem_puzzle p v = rw (cells_kept (size p.grid) p.given v.total, arrows_kept p.arrows) refl
+
+-- the problem that was read, and a refusal
+pub problem_ok : (o : Outcome Puzzle) {q : Problem} → ok q ≡ as_problem o → (p : Puzzle) × (o ≡ ok p) × (q ≡ problem_of p)
+unfolding as_problem ◌>>=◌
+problem_ok (refused k) e = let z : ◌≡◌ {A = ℕ} 0 1 = cc in absurd (omega arith)
+problem_ok (ok p) {q} e = (p, refl, cc)
+
+pub problem_refused : (o : Outcome Puzzle) {k : ℕ} → refused k ≡ as_problem o → o ≡ refused k
+unfolding as_problem ◌>>=◌
+problem_refused (refused j) {k} e = let z : j ≡ k = cc in rw z refl
+problem_refused (ok p) e = let z : ◌≡◌ {A = ℕ} 0 1 = cc in absurd (omega arith)
 
 -- what was read is refused, or it is a puzzle
 pub Outcome-refused : (o : Outcome Puzzle) (k : ℕ) → (reading o).answer ≡ Refused k → o ≡ refused k

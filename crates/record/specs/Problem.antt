@@ -1,9 +1,9 @@
 -- A puzzle as the code keeps it, and what `read` answers.
 -- Assumes nothing.
 use Rattle.std.specs.Prelude.{ℕ, ◌+◌, ◌-◌, List, [], ◌∷◌, length, take, drop}
-use Rattle.grid.specs.Lists.{flat_map, array_of}
+use Rattle.grid.specs.Lists.{last, flat_map, array_of}
 use Rattle.grid.specs.Grid.{Grid, size}
-use Rattle.fields.specs.Fields.{Outcome, ok, refused}
+use Rattle.fields.specs.Fields.{Outcome, ok, refused, ◌>>=◌}
 use Rattle.record.specs.Record.{Puzzle, read_record}
 use Rattle.record.specs.declared.Problem.{Problem}
 use Rattle.record.specs.declared.Reading.{Reading}
@@ -51,6 +51,14 @@ puzzle_of q = record {
   given = take (size (grid_of q)) q.cells;
   arrows = arrows_from q.arrows 0 (take q.count q.ends);
 }
+
+-- how many cells the arrows of a problem have together: where the last of them ends
+abbrev pub total_of : Problem → ℕ
+total_of q = last 0 (take q.count q.ends)
+
+-- the problem of the puzzle that was read, or the refusal
+unfoldable pub as_problem : Outcome Puzzle → Outcome Problem
+as_problem o = o >>= λ p. ok (problem_of p)
 
 -- the problem of no cells that stands beside a refusal
 unfoldable pub blank : Problem

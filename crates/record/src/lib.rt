@@ -3,19 +3,23 @@
 
 ghost use Rattle.std.specs.Prelude.{◌≡◌, not, List, [], ◌∷◌, ◌++◌, ℕ, ◌+◌, ◌*◌, ◌≤◌, ◌<◌, length, take};
 ghost use Rattle.grid.specs.Lists.{member, last, array_of};
-ghost use Rattle.fields.specs.Fields.{refused, unless, bytes_for};
-ghost use Rattle.record.specs.Record.{cell_codes, step_cells};
-ghost use Rattle.record.specs.Problem.{arrow_cells, ends_from, reading, read_of};
-ghost use Rattle.record.specs.Head.{read_head, puzzle_in};
-ghost use Rattle.record.specs.Inside.{Answered, Kept, StepTaken, ArrowRead, ended, arrows_ended, read_as};
 ghost use Rattle.grid.specs.Side.{sized};
+ghost use Rattle.refusal.specs.Refusals.{Outcome, refused, outcome_of};
+ghost use Rattle.fields.specs.Fields.{unless, bytes_for};
+ghost use Rattle.fields.specs.Inside.{Agrees};
+ghost use Rattle.record.specs.Record.{Puzzle, cell_codes, step_cells, arrow_at, read_record};
+ghost use Rattle.record.specs.Problem.{arrow_cells, ends_from, reading, read_of, as_problem, total_of};
+ghost use Rattle.record.specs.Head.{read_head, puzzle_in};
+ghost use Rattle.record.specs.Inside.{Kept, take_at, AtCell, ended, arrows_ended, read_as};
 
-use fields::{Field, Place, Start};
+use fields::Place;
+use refusal::Refusal;
+use std::marker::Model;
 
 // What an accepted record says. `cells` has a code for each cell (0 plain, 1 black, 2 given square), `arrows` the cells of the
 // arrows, one arrow after another, `ends` for each of the `count` arrows the place in `arrows` where it ends. 0 stands behind each.
 #[repr(C)]
-#[derive(Clone, Copy)]
+#[derive(Clone, Copy, Debug, PartialEq, Eq)]
 pub struct Problem {
     pub height: usize,
     pub width: usize,
@@ -25,7 +29,237 @@ pub struct Problem {
     pub count: usize,
 }
 
-// The answer to a call that can be refused, with the number of document 01's table.
+// How far a record reaches in its bytes: it is all of them, or stands at the head of a file.
+#[derive(Clone, Copy, Debug, PartialEq, Eq)]
+enum Extent {
+    Whole,
+    Head,
+}
+
+impl Extent {
+    // Whether a record's fields may end at `at`: only zero bits to the end of the byte, and behind those of a whole record nothing more.
+    fn may_end(self, s: &[u8], at: usize) -> bool
+        requires { at ≤ 65536 }
+        ensures { result ≡ ended self s.now at }
+    {
+        match self {
+            Extent::Whole => fields::is_filler(s, at),
+            Extent::Head => fields::is_rest_zero(s, at),
+        }
+    }
+}
+
+// The arrow cells that were read, in their order and each once: the first `count` of `cells`, and each is marked in `used`.
+#[derive(Drop)]
+struct Line {
+    cells: [u16; 1024],
+    used: [u8; 1024],
+    count: usize,
+}
+
+impl Model for Line {
+    ghost Value = { List ℕ };
+
+    ghost view = { λ line. take line.count line.cells };
+
+    ghost invariant = { λ line. (line.count ≤ 1024) × Kept (take line.count line.cells) line.cells line.used };
+}
+
+impl Line {
+    fn new() -> Line
+        ensures { result ≡ [] }
+    {
+        Line {
+            cells: [0; 1024],
+            used: [0; 1024],
+            count: 0,
+        }
+    }
+
+    fn len(&self) -> usize
+        ensures { (result ≡ length self.now) × (result ≤ 1024) }
+    {
+        self.count
+    }
+
+    // The cells, and 0 behind them.
+    fn into_cells(self) -> [u16; 1024]
+        ensures { result ≡ array_of 0 self }
+    {
+        self.cells
+    }
+
+    // Puts a cell behind those of the line, if it is none of them.
+    fn enter(&mut self, cell: usize) -> Result<(), Refusal>
+        requires { cell < 1024 }
+        ensures { Agrees (unless (not (member cell self.old)) 4) (λ _ _. self.new ≡ self.old ++ (cell ∷ [])) result }
+    {
+        if self.used[cell] != 0 {
+            return Err(Refusal::UsedTwice);
+        }
+        self.used[cell] = 1;
+        self.cells[self.count] = cell as u16;
+        self.count += 1;
+        Ok(())
+    }
+
+    // Takes the step at `at`, from a cell that stands last in the line.
+    fn take_step(
+        &mut self,
+        s: &[u8],
+        height: usize,
+        width: usize,
+        from: Place,
+        at: usize,
+    ) -> Result<Place, Refusal>
+        requires { (from.row < height) × (from.col < width) × (height ≤ 32) × (width ≤ 32) × (at ≤ 65536) }
+        ensures { Agrees (take_at s.now (sized height width) self.old (from.row * width + from.col) at)
+            (λ j place. AtCell height width j place × (self.new ≡ self.old ++ (j ∷ []))) result }
+    {
+        let place = fields::read_step(s, height, width, from.row, from.col, at)?;
+        self.enter(place.row * width + place.col)?;
+        Ok(place)
+    }
+
+    // Takes the steps of an arrow from `at` on.
+    fn read_steps(
+        &mut self,
+        s: &[u8],
+        height: usize,
+        width: usize,
+        from: Place,
+        at: usize,
+        steps: usize,
+    ) -> Result<(), Refusal>
+        requires { (from.row < height) × (from.col < width) × (height ≤ 32) × (width ≤ 32) × (at ≤ 60000) × (steps ≤ 1024) }
+        ensures { Agrees (step_cells s.now (sized height width) self.old (from.row * width + from.col) at steps) (λ js _. self.new ≡ self.old ++ js) result }
+    {
+        let mut place = from;
+        for i in 0..steps {
+            place = self.take_step(s, height, width, place, at + 2 * i)?;
+        }
+        Ok(())
+    }
+
+    // Reads the arrow at `at`.
+    fn read_arrow(
+        &mut self,
+        s: &[u8],
+        height: usize,
+        width: usize,
+        at: usize,
+    ) -> Result<(), Refusal>
+        requires { (height ≤ 32) × (width ≤ 32) × (at ≤ 50000) }
+        ensures { Agrees (arrow_at s.now (sized height width) self.old at) (λ a _. self.new ≡ self.old ++ a) result }
+    {
+        let start = fields::read_start(s, height, width, at)?;
+        let from = Place {
+            row: start.row,
+            col: start.col,
+        };
+        self.enter(from.row * width + from.col)?;
+        self.read_steps(s, height, width, from, at + 20, start.steps)
+    }
+
+    // Reads the arrows, from `at` on, and the filler behind them; the line and the ends come empty.
+    fn read_arrows(
+        &mut self,
+        s: &[u8],
+        height: usize,
+        width: usize,
+        at: usize,
+        arrows: usize,
+        extent: Extent,
+        ends: &mut [u16; 1024],
+    ) -> Result<(), Refusal>
+        requires { (height ≤ 32) × (width ≤ 32) × (at ≤ 10000) × (arrows ≤ 2048) × (self.old ≡ []) × (ends.old ≡ array_of 0 []) }
+        ensures { Agrees (arrows_ended extent s.now (sized height width) at arrows) (λ l _. (self.new ≡ arrow_cells l) × (ends.new ≡ array_of 0 (ends_from 0 l))) result }
+    {
+        for i in 0..arrows {
+            self.read_arrow(s, height, width, at + 18 * i + 2 * self.len())?;
+            ends[i] = self.len() as u16;
+        }
+        if extent.may_end(s, at + 18 * arrows + 2 * self.len()) {
+            return Ok(());
+        }
+        Err(Refusal::Filler)
+    }
+}
+
+// The codes of all n cells, to the front of an array of zeros.
+fn read_cells(s: &[u8], n: usize, cells: &mut [u8; 1024]) -> Result<(), Refusal>
+    requires { (n ≤ 1024) × (cells.old ≡ array_of 0 []) }
+    ensures { Agrees (cell_codes s.now 21 n) (λ cs _. cells.new ≡ array_of 0 cs) result }
+{
+    for i in 0..n {
+        cells[i] = fields::read_code(s, 21 + 2 * i)?;
+    }
+    Ok(())
+}
+
+impl Problem {
+    // The problem of a record, or the refusal of its first fault.
+    pub fn read(bytes: &[u8]) -> Result<Problem, Refusal>
+        ensures { outcome_of result ≡ as_problem (read_record bytes.now) }
+    {
+        Problem::read_as(bytes, Extent::Whole)
+    }
+
+    // The problem of the record at the head of a file, or the refusal of its first fault; here 5 counts filler of the record only.
+    pub fn read_head(bytes: &[u8]) -> Result<Problem, Refusal>
+        ensures { outcome_of result ≡ as_problem (puzzle_in (read_head bytes.now)) }
+    {
+        Problem::read_as(bytes, Extent::Head)
+    }
+
+    // The problem of a whole record, or of one at the head of a file, or the refusal of its first fault.
+    fn read_as(bytes: &[u8], extent: Extent) -> Result<Problem, Refusal>
+        ensures { outcome_of result ≡ as_problem (read_as extent bytes.now) }
+    {
+        let height = fields::read_field(bytes, 0, 5)? + 1;
+        let width = fields::read_field(bytes, 5, 5)? + 1;
+        let count = fields::read_field(bytes, 10, 11)?;
+        let mut cells = [0; 1024];
+        read_cells(bytes, height * width, &mut cells)?;
+        let mut line = Line::new();
+        let mut ends = [0; 1024];
+        line.read_arrows(
+            bytes,
+            height,
+            width,
+            21 + 2 * (height * width),
+            count,
+            extent,
+            &mut ends,
+        )?;
+        Ok(Problem {
+            height,
+            width,
+            cells,
+            arrows: line.into_cells(),
+            ends,
+            count,
+        })
+    }
+
+    // How many cells the arrows have together: the end of the last one.
+    pub fn arrow_total(&self) -> usize
+        requires { self.now.count ≤ 1024 }
+        ensures { result ≡ total_of self.now }
+    {
+        arrow_total(&self.ends, self.count)
+    }
+
+    // How many bytes the record of the problem has: where it ends in a file that it is the head of.
+    pub fn record_length(&self) -> usize
+        requires { (self.now.height ≤ 32) × (self.now.width ≤ 32) × (self.now.count ≤ 1024) × (total_of self.now ≤ 1024) }
+        ensures { result ≡ bytes_for (21 + 2 * (self.now.height * self.now.width) + 18 * self.now.count + 2 * total_of self.now) }
+    {
+        record_length(self.height, self.width, &self.ends, self.count)
+    }
+}
+
+// The answer to a call that can be refused, with the number of the README's table.
 #[derive(Clone, Copy)]
 pub enum Answer {
     Done,
@@ -37,201 +271,6 @@ pub enum Answer {
 pub struct Reading {
     pub answer: Answer,
     pub problem: Problem,
-}
-
-// The codes of all n cells, to the front of an array of zeros.
-fn read_cells(s: &[u8], n: usize, cells: &mut [u8; 1024]) -> Answer
-    requires { (n ≤ 1024) × (cells.old ≡ array_of 0 []) }
-    ensures { Answered (cell_codes s.now 21 n) (λ cs. cells.new ≡ array_of 0 cs) result }
-{
-    let mut i = 0;
-    while i < n {
-        let f = fields::read_code(s, 21 + 2 * i);
-        match f {
-            Field::Value(code) => {
-                cells[i] = code as u8;
-            }
-            Field::Fault(k) => {
-                return Answer::Refused(k);
-            }
-        }
-        i += 1;
-    }
-    Answer::Done
-}
-
-// Puts a cell behind the `count` arrow cells of the line and marks it; 4 where it is marked already.
-fn enter(cell: usize, count: usize, line: &mut [u16; 1024], used: &mut [u8; 1024]) -> Answer
-    requires { (cell < 1024) × ((l : List ℕ) × (length l ≡ count) × Kept l line.old used.old) }
-    ensures { (l : List ℕ) → length l ≡ count → Kept l line.old used.old
-        → Answered (unless (not (member cell l)) 4) (λ _. Kept (l ++ (cell ∷ [])) line.new used.new) result }
-{
-    if used[cell] != 0 {
-        return Answer::Refused(4);
-    }
-    used[cell] = 1;
-    line[count] = cell as u16;
-    Answer::Done
-}
-
-// Takes the step at `at`, from a cell that stands last of the `count` arrow cells.
-fn take_step(
-    s: &[u8],
-    height: usize,
-    width: usize,
-    row: usize,
-    col: usize,
-    at: usize,
-    count: usize,
-    line: &mut [u16; 1024],
-    used: &mut [u8; 1024],
-) -> Place
-    requires { (row < height) × (col < width) × (height ≤ 32) × (width ≤ 32) × (at ≤ 65536) × ((l : List ℕ) × (length l ≡ count) × Kept l line.old used.old) }
-    ensures { (l : List ℕ) → length l ≡ count → Kept l line.old used.old
-        → StepTaken s.now (sized height width) l (row * width + col) at line.new used.new result }
-{
-    let p = fields::read_step(s, height, width, row, col, at);
-    match p {
-        Place::At { row: y, col: x } => {
-            let a = enter(y * width + x, count, line, used);
-            match a {
-                Answer::Done => Place::At { row: y, col: x },
-                Answer::Refused(k) => Place::Lost(k),
-            }
-        }
-        Place::Lost(k) => Place::Lost(k),
-    }
-}
-
-// Takes the steps of an arrow from `at` on.
-fn read_steps(
-    s: &[u8],
-    height: usize,
-    width: usize,
-    row: usize,
-    col: usize,
-    at: usize,
-    steps: usize,
-    count: usize,
-    line: &mut [u16; 1024],
-    used: &mut [u8; 1024],
-) -> Answer
-    requires { (row < height) × (col < width) × (height ≤ 32) × (width ≤ 32) × (at ≤ 60000) × (steps ≤ 1024)
-        × ((l : List ℕ) × (length l ≡ count) × Kept l line.old used.old) }
-    ensures { (l : List ℕ) → length l ≡ count → Kept l line.old used.old
-        → Answered (step_cells s.now (sized height width) l (row * width + col) at steps) (λ js. Kept (l ++ js) line.new used.new) result }
-{
-    let mut y = row;
-    let mut x = col;
-    let mut i = 0;
-    while i < steps {
-        let p = take_step(s, height, width, y, x, at + 2 * i, count + i, line, used);
-        match p {
-            Place::At {
-                row: next_y,
-                col: next_x,
-            } => {
-                y = next_y;
-                x = next_x;
-            }
-            Place::Lost(k) => {
-                return Answer::Refused(k);
-            }
-        }
-        i += 1;
-    }
-    Answer::Done
-}
-
-// Reads the arrow at `at` behind the `count` arrow cells; the answer is the count with its own.
-fn read_arrow(
-    s: &[u8],
-    height: usize,
-    width: usize,
-    at: usize,
-    count: usize,
-    line: &mut [u16; 1024],
-    used: &mut [u8; 1024],
-) -> Field
-    requires { (height ≤ 32) × (width ≤ 32) × (at ≤ 50000) × ((l : List ℕ) × (length l ≡ count) × Kept l line.old used.old) }
-    ensures { (l : List ℕ) → length l ≡ count → Kept l line.old used.old
-        → ArrowRead s.now (sized height width) l at line.new used.new result }
-{
-    let start = fields::read_start(s, height, width, at);
-    match start {
-        Start::From { row, col, steps } => {
-            let a = enter(row * width + col, count, line, used);
-            match a {
-                Answer::Done => {
-                    let b = read_steps(
-                        s,
-                        height,
-                        width,
-                        row,
-                        col,
-                        at + 20,
-                        steps,
-                        count + 1,
-                        line,
-                        used,
-                    );
-                    match b {
-                        Answer::Done => Field::Value(count + 1 + steps),
-                        Answer::Refused(k) => Field::Fault(k),
-                    }
-                }
-                Answer::Refused(k) => Field::Fault(k),
-            }
-        }
-        Start::Bad(k) => Field::Fault(k),
-    }
-}
-
-// Whether a record's fields may end at `at`: only zero bits to the end of the byte, and behind those of a whole record nothing more.
-fn may_end(s: &[u8], at: usize, whole: bool) -> bool
-    requires { at ≤ 65536 }
-    ensures { result ≡ ended whole s.now at }
-{
-    if whole {
-        return fields::is_filler(s, at);
-    }
-    fields::is_rest_zero(s, at)
-}
-
-// Reads the arrows, from `at` on, and the filler behind them; the arrays come empty.
-fn read_arrows(
-    s: &[u8],
-    height: usize,
-    width: usize,
-    at: usize,
-    arrows: usize,
-    whole: bool,
-    line: &mut [u16; 1024],
-    ends: &mut [u16; 1024],
-    used: &mut [u8; 1024],
-) -> Answer
-    requires { (height ≤ 32) × (width ≤ 32) × (at ≤ 10000) × (arrows ≤ 2048) × (line.old ≡ array_of 0 []) × (ends.old ≡ array_of 0 []) × (used.old ≡ array_of 0 []) }
-    ensures { Answered (arrows_ended whole s.now (sized height width) at arrows) (λ l. (line.new ≡ array_of 0 (arrow_cells l)) × (ends.new ≡ array_of 0 (ends_from 0 l))) result }
-{
-    let mut count = 0;
-    let mut i = 0;
-    while i < arrows {
-        let f = read_arrow(s, height, width, at + 18 * i + 2 * count, count, line, used);
-        match f {
-            Field::Value(end) => {
-                ends[i] = end as u16;
-                count = end;
-            }
-            Field::Fault(k) => {
-                return Answer::Refused(k);
-            }
-        }
-        i += 1;
-    }
-    if may_end(s, at + 18 * i + 2 * count, whole) {
-        return Answer::Done;
-    }
-    Answer::Refused(5)
 }
 
 // 1,024 zeros for codes or marks.
@@ -265,56 +304,16 @@ pub fn refusal(k: u8) -> Reading
     }
 }
 
-// The problem of a whole record, or of one at the head of a file, or the refusal of its first fault.
-fn read_as(s: &[u8], whole: bool) -> Reading
-    ensures { result ≡ reading (read_as whole s.now) }
+// What was read, with the problem.
+fn answer_with(read: Result<Problem, Refusal>) -> Reading
+    ensures { (o : Outcome Puzzle) → outcome_of read ≡ as_problem o → result ≡ reading o }
 {
-    let h = fields::read_field(s, 0, 5);
-    let Field::Value(rows) = h else {
-        return refusal(1);
-    };
-    let w = fields::read_field(s, 5, 5);
-    let Field::Value(columns) = w else {
-        return refusal(1);
-    };
-    let m = fields::read_field(s, 10, 11);
-    let Field::Value(count) = m else {
-        return refusal(1);
-    };
-    let height = rows + 1;
-    let width = columns + 1;
-    let mut cells = no_codes();
-    let a = read_cells(s, height * width, &mut cells);
-    if let Answer::Refused(k) = a {
-        return refusal(k);
-    }
-    let mut arrows = no_cells();
-    let mut ends = no_cells();
-    let mut used = no_codes();
-    let b = read_arrows(
-        s,
-        height,
-        width,
-        21 + 2 * (height * width),
-        count,
-        whole,
-        &mut arrows,
-        &mut ends,
-        &mut used,
-    );
-    if let Answer::Refused(k) = b {
-        return refusal(k);
-    }
-    Reading {
-        answer: Answer::Done,
-        problem: Problem {
-            height,
-            width,
-            cells,
-            arrows,
-            ends,
-            count,
+    match read {
+        Ok(problem) => Reading {
+            answer: Answer::Done,
+            problem,
         },
+        Err(refused) => refusal(refused.number()),
     }
 }
 
@@ -322,14 +321,14 @@ fn read_as(s: &[u8], whole: bool) -> Reading
 pub fn read(s: &[u8]) -> Reading
     ensures { result ≡ read_of s.now }
 {
-    read_as(s, true)
+    answer_with(Problem::read(s))
 }
 
 // The problem of the record at the head of a file, or the refusal of its first fault; here 5 counts filler of the record only.
 pub fn read_head(s: &[u8]) -> Reading
     ensures { result ≡ reading (puzzle_in (read_head s.now)) }
 {
-    read_as(s, false)
+    answer_with(Problem::read_head(s))
 }
 
 // How many cells the arrows have together: the end of the last one.

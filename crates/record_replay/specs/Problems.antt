@@ -1,8 +1,11 @@
 -- What a list says of a record: its refusal, and its problem.
 -- Assumes nothing.
-use Rattle.std.specs.Prelude.{ℕ, zero, suc, ◌+◌, ◌*◌, ◌≤◌, false, ◌≡◌, List, length, take, drop, get_or}
+use Rattle.std.specs.Prelude.{ℕ, zero, suc, ◌+◌, ◌*◌, ◌≤◌, ◌<◌, false, ◌≡◌, List, [], ◌∷◌, length, take, drop, get_or, eqb, Option, MatchOption}
+use Rattle.std.specs.Bool.{MatchBool}
 use Rattle.record.specs.Problem.{number_of, read_of}
 use Rattle.record.specs.declared.Problem.{Problem}
+use Rattle.replay.specs.Comparisons.{Compared}
+use Rattle.replay.specs.declared.Run.{Run}
 use Rattle.replay.specs.Lists.{number_at, byte_in, number_in, differs}
 
 -- nothing but zeros stands in a list from a place on
@@ -43,3 +46,19 @@ pub record ProblemSo (list : List ℕ) (at : ℕ) (p : Problem) : Type 0 where
 -- what is read of a record has the refusal, 0 for none, and the problem that a list has at a place
 abbrev pub RecordSo : List ℕ → ℕ → List ℕ → ℕ → Type 0
 RecordSo s refusal list at = (number_of (read_of s).answer ≡ refusal) × ProblemSo list at (read_of s).problem
+
+-- where the refusal stands of the entry at a place: behind the record, which its own length is before
+abbrev pub refusal_at : List ℕ → ℕ → ℕ
+refusal_at list at = at + 2 + number_at list at
+
+-- what the entry at a place says: that what is read of its record has its refusal and no problem, or, where that is 0, its problem
+abbrev pub SaidSo : List ℕ → ℕ → ℕ → Type 0
+SaidSo list at refusal =
+    MatchBool (eqb refusal 0) (RecordSo (take (number_at list at) (drop (at + 2) list)) 0 list (refusal_at list at + 1))
+    (RecordSo (take (number_at list at) (drop (at + 2) list)) refusal (0 ∷ 0 ∷ 0 ∷ 0 ∷ []) 0)
+
+-- what the entry at a place counts
+abbrev pub EntrySo : List ℕ → ℕ → Option Run → Type 0
+EntrySo list at run =
+    MatchOption run (length list < refusal_at list at + 3)
+    (λ r. (place : ℕ) × Compared (SaidSo list at (get_or list (refusal_at list at) 0)) place r)

@@ -7,10 +7,10 @@
 
 ghost use Rattle.std.specs.Prelude.{◌≡◌, ◌+◌, ◌≤◌, ◌<◌, length, replicate};
 ghost use Rattle.replay.specs.Comparisons.{DiffersUnless};
-ghost use Rattle.record_replay.specs.Problems.{ZerosFrom, ArrowsSo, area_at, ProblemSo, RecordSo};
+ghost use Rattle.record_replay.specs.Problems.{ZerosFrom, ArrowsSo, area_at, ProblemSo, RecordSo, EntrySo};
 
 use record::Problem;
-use replay::{Run, Tally};
+use replay::{Cursor, Entries, Run};
 use std::io;
 
 // A record that is far too long.
@@ -31,13 +31,11 @@ fn area_at(list: &[u8], at: usize) -> usize
 // Where the arrows of an entry end that begin at `at`, or behind the end of the list where they go on there.
 fn arrows_end(list: &[u8], start: usize, arrows: usize) -> usize {
     let mut at = start;
-    let mut i = 0;
-    while i < arrows {
+    for _ in 0..arrows {
         if list.len() < at {
             return at;
         }
         at = at + 2 + 2 * replay::number_at(list, at);
-        i += 1;
     }
     at
 }
@@ -65,12 +63,8 @@ fn arrows_differ(list: &[u8], start: usize, arrows: usize, line: &[u16], ends: &
 {
     let mut at = start;
     let mut end = 0;
-    let mut i = 0;
-    while i < arrows {
-        if list.len() < at {
-            return true;
-        }
-        if list.len() - at < 2 {
+    for i in 0..arrows {
+        if list.len().saturating_sub(at) < 2 {
             return true;
         }
         let n = replay::number_at(list, at);
@@ -82,13 +76,12 @@ fn arrows_differ(list: &[u8], start: usize, arrows: usize, line: &[u16], ends: &
             return true;
         }
         end = next;
-        if grid::wide(ends[i]) != end {
+        if usize::from(ends[i]) != end {
             return true;
         }
         at = at + 2 + 2 * n;
-        i += 1;
     }
-    tail_differs(line, end) || tail_differs(ends, i)
+    tail_differs(line, end) || tail_differs(ends, arrows)
 }
 
 // Whether the problem differs from the one that the list says from `at` on.
@@ -130,44 +123,38 @@ fn record_differs(record: &[u8], refusal: usize, list: &[u8], at: usize) -> bool
     replay::number(answer) != refusal || problem_differs(list, at, problem)
 }
 
-// Reads the record of the entry at `at`. A refused one has the blank problem: no cells and no arrows.
-fn run_entry(list: &[u8], at: usize) -> Run
-    requires { at < length list.now }
-{
-    let answer = at + 2 + replay::number_at(list, at);
-    if list.len() <= answer {
-        return Run::broken();
-    }
-    let refusal = replay::byte_at(list, answer);
-    if refusal != 0 {
-        return Run::of(
-            record_differs(&list[at + 2..answer], refusal, b"\x00\x00\x00\x00", 0),
-            answer + 1,
-        );
-    }
-    if list.len() < answer + 3 {
-        return Run::broken();
-    }
-    Run::of(
-        record_differs(&list[at + 2..answer], 0, list, answer + 1),
-        problem_end(list, answer + 1),
-    )
-}
+// Records, each with what is read of it. A refused one has the blank problem: no cells and no arrows.
+#[derive(Drop)]
+struct Records;
 
-// Goes through the entries.
-fn go_through(list: &[u8]) -> Tally {
-    let mut tally = Tally::of(list, 0);
-    while tally.at < list.len() {
-        tally = tally.with(run_entry(list, tally.at), list.len());
+impl Entries for Records {
+    ghost counts = { λ _. EntrySo };
+
+    ghost BEFORE = { 0 };
+
+    const BEFORE: usize = 0;
+
+    fn of(_data: &[u8]) -> Records {
+        Records
     }
-    tally
+
+    fn run(&self, list: &[u8], at: usize) -> Option<Run> {
+        let mut cursor = Cursor { list, at };
+        let bytes = cursor.counted()?;
+        let refusal = usize::from(cursor.byte()?);
+        let at = cursor.at;
+        if refusal != 0 {
+            let differs = record_differs(bytes, refusal, b"\x00\x00\x00\x00", 0);
+            return Some(Run::of(differs, at));
+        }
+        cursor.take(2)?;
+        let differs = record_differs(bytes, 0, list, at);
+        Some(Run::of(differs, problem_end(list, at)))
+    }
 }
 
 fn main(rt: HostRuntime) -> io::Result<()> {
-    let mut space = replay::room();
-    let list = replay::read_list(rt.reader(), &mut space)?;
-    let (_, written) = go_through(list).print(b" records, ", b"", &mut io::writer(&rt));
-    written?;
+    replay::replay::<Records, _, _>(rt.reader(), &mut io::writer(&rt), " records, ", "")?;
     let long = zeros();
     let r = record::read(&long);
     let answer = r.answer;

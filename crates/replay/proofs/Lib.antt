@@ -1,4 +1,3 @@
 mod ListLaws
-mod PrintedLaws
 mod TallyLaws
 pub mod ComparisonLaws

@@ -1,26 +1,13 @@
--- Laws of the count of a list before its first entry.
+-- Laws of the count of a list with its next entry.
 -- Assumes nothing.
-use Prim.Native.Nat.{ℕ, ◌+◌, ◌-◌, ◌≤◌, ◌<◌}
-use mathlib.Core.Bool.{true, false}
-use mathlib.Core.Path.{◌≡◌, sym, ◌∙◌}
-use mathlib.Core.List.{List}
-use lib.ListN.{length}
-use borrow.Author.Tests.{eq-eqb, ne_eqb, lt-ltb, le-ltb}
-use Rattle.replay.specs.Lists.{data_start}
-use Rattle.replay.specs.Tallies.{empty_tally, tally_of}
+use Prim.Native.Nat.{ℕ, ◌<◌}
+use mathlib.Core.Path.{◌≡◌, subst, ap, ◌∙◌}
+use Rattle.std.specs.Prelude.{Option, unwrap_or}
+use Rattle.replay.specs.declared.Run.{Run}
+use Rattle.replay.specs.declared.Tally.{Tally}
+use Rattle.replay.specs.Tallies.{broken_run, with_of, Through, through_next}
 
-module _ (l : List ℕ) (bytes start : ℕ) (e : start ≡ data_start l) where
-  -- without a head
-  pub headless : start ≡ 0 → tally_of l bytes ≡ empty_tally (length l) false
-  unfolding tally_of
-  headless z = simp (eq-eqb (data_start l) 0 (sym e ∙ z))
-
-  -- the list ends inside the bytes before the entries
-  pub short : (start ≡ 0 → ⊥) → length l - start < bytes → tally_of l bytes ≡ empty_tally (length l) false
-  unfolding tally_of
-  short n h = simp (ne_eqb (data_start l) 0 (λ z. n (e ∙ z)), lt-ltb (length l - data_start l) bytes (rw e at h))
-
-  -- the first entry may come
-  pub ready : (start ≡ 0 → ⊥) → bytes ≤ length l - start → tally_of l bytes ≡ empty_tally (start + bytes) true
-  unfolding tally_of
-  ready n h = simp (ne_eqb (data_start l) 0 (λ z. n (e ∙ z)), le-ltb (length l - data_start l) bytes (rw e at h)) (rw e)
+-- one entry more, in the tally that it leads to
+pub one_more : {counts : ℕ → Option Run → Type 0} {size : ℕ} {t u next : Tally} (r : Option Run) (run : Run) → t.at < size → counts t.at r → run ≡ unwrap_or r broken_run → next ≡ with_of t run size → Through counts size next u → Through counts size t u
+one_more {counts} {size} {t} {u} r run h c e f w =
+    through_next r h c (subst (λ (v : Tally). Through counts size v u) (f ∙ ap (λ (x : Run). with_of t x size) e) w)

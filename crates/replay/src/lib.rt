@@ -4,34 +4,41 @@
 // A list has a head of lines that begin with `#`, an empty line, and then entries to its end. A u16 has its high byte first.
 #![tactic(auto)]
 
-ghost use Rattle.std.specs.Prelude.{◌+◌, ◌≤◌, ◌<◌, ◌≡◌, cond, length, get_or, replicate, take, OnOk, IfOk, IfSome};
+ghost use Rattle.std.specs.Prelude.{◌+◌, ◌≤◌, ◌<◌, ◌≡◌, ℕ, List, Option, Some, cond, length, get_or, replicate, take, drop, OnOk, IfOk, IfSome, IfNone, ⊤};
 ghost use Rattle.std.specs.Io.KnownBytes.{Appends};
 ghost use Rattle.record.specs.Problem.{number_of};
-ghost use Rattle.text.specs.Text.{Written};
-ghost use Rattle.replay.specs.Tallies.{sum_of, broken_run, run_of, then_of, also_of, empty_tally, tally_of, with_of};
+ghost use Rattle.replay.specs.Tallies.{sum_of, broken_run, run_of, then_of, also_of, empty_tally, tally_of, with_of, Through};
 ghost use Rattle.replay.specs.Lists.{area_of, number_at, data_start, byte_in, number_in, differs};
-ghost use Rattle.replay.specs.Printed.{count_text, parts_text, damage_text, tally_text};
+ghost use Rattle.replay.specs.Printed.{tally_text};
 
 use record::Answer;
-use std::io;
 use std::io::{Read, Write};
+use std::{fmt, io};
 
-// What an entry counted, and where it ends in the list, far behind it where the list ends inside the entry.
-#[derive(Clone, Copy)]
+// What an entry counted, and where it ends in the list, if it can be gone through to its end.
+#[derive(Clone, Copy, Debug, PartialEq, Eq)]
 pub struct Run {
     pub parts: usize,
     pub differ: usize,
-    pub end: usize,
+    pub end: Option<usize>,
 }
 
 // What was counted of a list, where its next entry begins, and whether no damage was met.
-#[derive(Clone, Copy)]
+#[derive(Clone, Copy, Debug, PartialEq, Eq)]
 pub struct Tally {
     pub entries: usize,
     pub parts: usize,
     pub differ: usize,
     pub at: usize,
     pub whole: bool,
+}
+
+// A tally, with a word for its entries and, where it is not empty, one for their parts.
+#[derive(Drop)]
+pub struct Report<'a> {
+    pub tally: Tally,
+    pub entries: &'a str,
+    pub parts: &'a str,
 }
 
 // Zeros: room for the longest list.
@@ -62,25 +69,16 @@ pub fn number(answer: Answer) -> usize
 {
     match answer {
         Answer::Done => 0,
-        Answer::Refused(k) => grid::byte(k),
+        Answer::Refused(k) => usize::from(k),
     }
-}
-
-// 1 for a difference.
-fn one_if(yes: bool) -> usize
-    ensures { (result ≡ cond yes 1 0) × (result ≤ 1) }
-{
-    if yes { 1 } else { 0 }
 }
 
 // H × W, and 0 where a size is above 32.
+#[tactic(auto, using(std::proofs::lemmas::Bool::Decides::nat_tests), unfolding(crate::specs::Lists::area_of))]
 pub fn area(height: usize, width: usize) -> usize
     ensures { (result ≡ area_of height width) × (result ≤ 1024) }
 {
-    if 32 < height {
-        return 0;
-    }
-    if 32 < width {
+    if 32 < height || 32 < width {
         return 0;
     }
     height * width
@@ -90,10 +88,7 @@ pub fn area(height: usize, width: usize) -> usize
 pub fn byte_at(list: &[u8], at: usize) -> usize
     ensures { (result ≡ get_or list.now at 0) × (result < 256) }
 {
-    if at < list.len() {
-        return grid::byte(list[at]);
-    }
-    0
+    list.get(at).map_or(0, |&byte| usize::from(byte))
 }
 
 // The u16 at `at`, with 0 for each byte behind the end.
@@ -113,8 +108,7 @@ pub fn data_start(list: &[u8]) -> usize
     if byte_at(list, 0) != 35 {
         return 0;
     }
-    let mut i = 1;
-    while i < list.len() {
+    for i in 1..list.len() {
         if list[i - 1] == 10 {
             if list[i] == 10 {
                 return i + 1;
@@ -123,21 +117,18 @@ pub fn data_start(list: &[u8]) -> usize
                 return 0;
             }
         }
-        i += 1;
     }
     0
 }
 
 // What stands at place i where the n bytes of the list from `at` on stand from place `from` on, and this byte in every other place.
+#[tactic(auto, using(std::proofs::lemmas::Bool::Decides::nat_tests), unfolding(crate::specs::Lists::byte_in))]
 fn byte_in(list: &[u8], at: usize, n: usize, from: usize, other: u8, i: usize) -> usize
     requires { (at ≤ length list.now) × (i < 9223372036854775808) }
     ensures { result ≡ byte_in list.now at n from other i }
 {
-    if i < from {
-        return grid::byte(other);
-    }
-    if n <= i - from {
-        return grid::byte(other);
+    if i < from || n <= i - from {
+        return usize::from(other);
     }
     byte_at(list, at + (i - from))
 }
@@ -147,14 +138,7 @@ pub fn bytes_differ(list: &[u8], at: usize, n: usize, bytes: &[u8], from: usize,
     requires { at ≤ length list.now }
     ensures { result ≡ differs bytes.now (byte_in list.now at n from other) 0 }
 {
-    let mut i = 0;
-    while i < bytes.len() {
-        if grid::byte(bytes[i]) != byte_in(list, at, n, from, other, i) {
-            return true;
-        }
-        i += 1;
-    }
-    false
+    (0..bytes.len()).any(|i| usize::from(bytes[i]) != byte_in(list, at, n, from, other, i))
 }
 
 // Whether an array with a place for each cell differs from the n bytes of the list from `at` on, with this byte behind them.
@@ -166,12 +150,13 @@ pub fn cells_differ(list: &[u8], at: usize, n: usize, cells: &[u8; 1024], behind
 }
 
 // What stands at place i where the n numbers of the list from `at` on stand in the first places, and this number behind them.
+#[tactic(auto, using(std::proofs::lemmas::Bool::Decides::nat_tests), unfolding(crate::specs::Lists::number_in))]
 fn number_in(list: &[u8], at: usize, n: usize, behind: u16, i: usize) -> usize
     requires { (at ≤ length list.now) × (i < 4611686018427387904) }
     ensures { result ≡ number_in list.now at n behind i }
 {
     if n <= i {
-        return grid::wide(behind);
+        return usize::from(behind);
     }
     number_at(list, at + 2 * i)
 }
@@ -181,14 +166,7 @@ pub fn numbers_differ(list: &[u8], at: usize, n: usize, numbers: &[u16], behind:
     requires { at ≤ length list.now }
     ensures { result ≡ differs numbers.now (number_in list.now at n behind) 0 }
 {
-    let mut i = 0;
-    while i < numbers.len() {
-        if grid::wide(numbers[i]) != number_in(list, at, n, behind, i) {
-            return true;
-        }
-        i += 1;
-    }
-    false
+    (0..numbers.len()).any(|i| usize::from(numbers[i]) != number_in(list, at, n, behind, i))
 }
 
 // The same for an array with a place for each cell, and 1024, which stands for none, behind its names.
@@ -207,47 +185,6 @@ pub fn literals_differ(list: &[u8], at: usize, n: usize, buffer: &[u16; 4096]) -
     numbers_differ(list, at, n, buffer, 65535)
 }
 
-// The sum, or the largest number where that is larger.
-fn sum(a: usize, b: usize) -> usize
-    ensures { result ≡ sum_of a b }
-{
-    if usize::MAX - a < b {
-        return usize::MAX;
-    }
-    a + b
-}
-
-// Writes a number and a word, and returns the place behind them.
-fn write_count(out: &mut [u8], at: usize, n: usize, word: &[u8]) -> usize
-    requires { at + 20 + length word.now ≤ length out.old }
-    ensures { Written out.old at (count_text n word.now) out.new result }
-{
-    let end = text::write_digits(out, at, n, 20);
-    text::write_text(out, end, word)
-}
-
-// The same where there is a word, and nothing where there is none.
-fn write_parts(out: &mut [u8], at: usize, n: usize, word: &[u8]) -> usize
-    requires { at + 20 + length word.now ≤ length out.old }
-    ensures { Written out.old at (parts_text n word.now) out.new result }
-{
-    if word.len() == 0 {
-        return at;
-    }
-    write_count(out, at, n, word)
-}
-
-// Writes that a list is damaged, and nothing where it is whole, and returns the place behind it.
-fn write_damage(out: &mut [u8], at: usize, whole: bool) -> usize
-    requires { at + 13 ≤ length out.old }
-    ensures { Written out.old at (damage_text whole) out.new result }
-{
-    if whole {
-        return at;
-    }
-    text::write_text(out, at, b"list damaged\n")
-}
-
 impl Run {
     // An entry that the list ends inside of, or that can't be gone through: it differs, and where it ends isn't known.
     pub fn broken() -> Run
@@ -256,7 +193,7 @@ impl Run {
         Run {
             parts: 0,
             differ: 1,
-            end: usize::MAX,
+            end: None,
         }
     }
 
@@ -266,8 +203,8 @@ impl Run {
     {
         Run {
             parts: 0,
-            differ: one_if(differs),
-            end,
+            differ: usize::from(differs),
+            end: Some(end),
         }
     }
 
@@ -276,8 +213,8 @@ impl Run {
         ensures { result ≡ then_of self part }
     {
         Run {
-            parts: sum(self.parts, 1),
-            differ: sum(self.differ, part.differ),
+            parts: self.parts.saturating_add(1),
+            differ: self.differ.saturating_add(part.differ),
             end: part.end,
         }
     }
@@ -288,7 +225,7 @@ impl Run {
     {
         Run {
             parts: self.parts,
-            differ: sum(self.differ, one_if(differs)),
+            differ: self.differ.saturating_add(usize::from(differs)),
             end: self.end,
         }
     }
@@ -313,93 +250,169 @@ impl Tally {
         ensures { result ≡ tally_of list.now before }
     {
         let start = data_start(list);
-        if start == 0 {
-            return Tally::empty(list.len(), false);
-        }
-        if list.len() - start < before {
+        if start == 0 || list.len() - start < before {
             return Tally::empty(list.len(), false);
         }
         Tally::empty(start + before, true)
     }
 
     // With the entry at its place, in a list of this size. An entry that the list ends inside of is the last.
+    #[tactic(auto, using(std::proofs::lemmas::Bool::Decides::nat_tests))]
     pub fn with(self, run: Run, size: usize) -> Tally
         requires { self.at < size }
         ensures { (result ≡ with_of self run size) × (self.at < result.at) }
     {
-        let entries = sum(self.entries, 1);
-        let parts = sum(self.parts, run.parts);
-        let differ = sum(self.differ, run.differ);
-        if run.end <= self.at {
-            return Tally {
-                entries,
-                parts,
-                differ,
-                at: size,
-                whole: false,
-            };
-        }
-        if size < run.end {
-            return Tally {
-                entries,
-                parts,
-                differ,
-                at: size,
-                whole: false,
-            };
-        }
+        let (at, whole) = match run.end {
+            Some(end) if self.at < end && end <= size => (end, self.whole),
+            _ => (size, false),
+        };
         Tally {
-            entries,
-            parts,
-            differ,
-            at: run.end,
-            whole: self.whole,
+            entries: self.entries.saturating_add(1),
+            parts: self.parts.saturating_add(run.parts),
+            differ: self.differ.saturating_add(run.differ),
+            at,
+            whole,
         }
     }
+}
 
-    // Writes what was counted, with a word for the entries and, where there is one, for their parts, and returns the place behind it.
-    fn write(self, out: &mut [u8], entries: &[u8], parts: &[u8]) -> usize
-        requires { length entries.now + length parts.now + 81 ≤ length out.old }
-        ensures { Written out.old 0 (tally_text self entries.now parts.now) out.new result }
+impl fmt::Display for Report<'_> {
+    ghost output = { λ r. Some (tally_text r.tally r.entries.now r.parts.now) };
+
+    fn fmt<W: fmt::Write>(&self, f: &mut fmt::Formatter<W>) -> fmt::Result {
+        let tally = self.tally;
+        write!(f, "{}{}", tally.entries, self.entries)?;
+        if !self.parts.is_empty() {
+            write!(f, "{}{}", tally.parts, self.parts)?;
+        }
+        writeln!(f, "{} differ", tally.differ)?;
+        if !tally.whole {
+            writeln!(f, "list damaged")?;
+        }
+        Ok(())
+    }
+}
+
+// A place in a list, its end at most. What is read of the list begins there, and leaves the place behind it.
+#[derive(Clone, Copy)]
+pub struct Cursor<'a> {
+    pub list: &'a [u8],
+    pub at: usize,
+    ghost inside: { at ≤ length list.now },
+}
+
+impl<'a> Cursor<'a> {
+    // The next n bytes, none where the list ends before them.
+    pub fn take(&mut self, n: usize) -> Option<&'a [u8]>
+        ensures same { self.new.list.now ≡ self.old.list.now }
+        ensures taken { IfSome result (λ bytes. (bytes.now ≡ take n (drop self.old.at self.old.list.now)) × (self.new.at ≡ self.old.at + n)) }
+        ensures short { IfNone result ((length self.old.list.now < self.old.at + n) × (self.new.at ≡ self.old.at)) }
     {
-        let part = write_count(out, 0, self.entries, entries);
-        let differ = write_parts(out, part, self.parts, parts);
-        let damage = write_count(out, differ, self.differ, b" differ\n");
-        write_damage(out, damage, self.whole)
+        let bytes = self.list[self.at..].get(..n)?;
+        self.at += n;
+        Some(bytes)
     }
 
-    // Has a text written to the output, and returns how many bytes it has, and whether they could be written. It must be the text of what
-    // was counted; the tally and the words are there to say so.
-    fn hand_over<W: Write>(
-        self,
-        entries: &[u8],
-        parts: &[u8],
-        text: &[u8],
-        output: &mut W,
-    ) -> (usize, io::Result<()>)
-        requires { text.now ≡ tally_text self entries.now parts.now }
-        ensures count { result.0 ≡ length text.now }
-        ensures printed { OnOk result.1 (Appends (W.contents output.old) (W.contents output.new) text.now) }
+    // The next byte, none at the end.
+    pub fn byte(&mut self) -> Option<u8>
+        ensures same { self.new.list.now ≡ self.old.list.now }
+        ensures taken { IfSome result (λ byte. (byte ≡ get_or self.old.list.now self.old.at 0) × (self.new.at ≡ self.old.at + 1)) }
+        ensures short { IfNone result ((length self.old.list.now < self.old.at + 1) × (self.new.at ≡ self.old.at)) }
     {
-        let written = output.write_all(text);
-        (text.len(), written)
+        let bytes = self.take(1)?;
+        Some(bytes[0])
     }
 
-    // Prints this text, and returns how many bytes it has, and whether they could be written. Its words have at most 47, so that all of it
-    // has room.
-    pub fn print<W: Write>(
-        self,
-        entries: &[u8],
-        parts: &[u8],
-        output: &mut W,
-    ) -> (usize, io::Result<()>)
-        requires { length entries.now + length parts.now ≤ 47 }
-        ensures count { result.0 ≡ length (tally_text self entries.now parts.now) }
-        ensures printed { OnOk result.1
-            (Appends (W.contents output.old) (W.contents output.new) (tally_text self entries.now parts.now)) }
+    // The next u16, none where the list ends before it or inside it.
+    pub fn number(&mut self) -> Option<usize>
+        ensures same { self.new.list.now ≡ self.old.list.now }
+        ensures taken { IfSome result (λ n. (n ≡ number_at self.old.list.now self.old.at) × (n < 65536) × (self.new.at ≡ self.old.at + 2)) }
+        ensures short { IfNone result ((length self.old.list.now < self.old.at + 2) × (self.new.at ≡ self.old.at)) }
     {
-        let mut out = [0u8; 128];
-        let end = self.write(&mut out, entries, parts);
-        self.hand_over(entries, parts, &out[..end], output)
+        let at = self.at;
+        self.take(2)?;
+        Some(number_at(self.list, at))
     }
+
+    // The next u16 and that many bytes behind it: these, none where the list ends before their end.
+    pub fn counted(&mut self) -> Option<&'a [u8]>
+        ensures same { self.new.list.now ≡ self.old.list.now }
+        ensures taken { IfSome result (λ bytes. (bytes.now ≡ take (number_at self.old.list.now self.old.at) (drop (self.old.at + 2) self.old.list.now))
+            × (self.new.at ≡ self.old.at + 2 + number_at self.old.list.now self.old.at)) }
+        ensures short { IfNone result (length self.old.list.now < self.old.at + 2 + number_at self.old.list.now self.old.at) }
+    {
+        let n = self.number()?;
+        self.take(n)
+    }
+}
+
+// The entries of the lists that a program replays, with what a list says of all of them before the first.
+pub trait Entries: Drop {
+    ghost use Rattle.replay.specs.declared.Run.{Run};
+
+    // What the entry at a place of a list may count, none where it can't be gone through. An impl that leaves it out says nothing.
+    ghost counts: { Self → List ℕ → ℕ → Option Run → Type 0 } = { λ _ _ _ _. ⊤ };
+
+    ghost BEFORE: { ℕ };
+
+    // So many bytes of a list's data come before its entries.
+    const BEFORE: usize;
+
+    // What the data of a list says before its entries.
+    fn of(data: &[u8]) -> Self;
+
+    // Goes through the entry at `at`.
+    fn run(&self, list: &[u8], at: usize) -> Option<Run>
+        requires { at < length list.now }
+        ensures { counts self.now list.now at result };
+}
+
+// Goes through the entries of a list.
+fn go_through<E: Entries>(entries: &E, list: &[u8]) -> Tally
+    ensures { Through (E.counts entries.now list.now) (length list.now) (tally_of list.now E.BEFORE) result }
+{
+    let mut tally = Tally::of(list, E::BEFORE);
+    while tally.at < list.len() {
+        let run = entries.run(list, tally.at).unwrap_or(Run::broken());
+        tally = tally.with(run, list.len());
+    }
+    tally
+}
+
+// Reads the list on the input into the room, goes through its entries, and prints what was counted, with these words.
+fn replay_in<E: Entries, R: Read + Drop, W: Write>(
+    input: R,
+    room: &mut [u8; 524288],
+    output: &mut W,
+    entries: &str,
+    parts: &str,
+) -> io::Result<()>
+    ensures { OnOk result (IfSome (R.remaining input) (λ bytes. (found : E) × (tally : Tally)
+        × Through (E.counts found (take 524288 bytes)) (length (take 524288 bytes)) (tally_of (take 524288 bytes) E.BEFORE) tally
+        × Appends (W.contents output.old) (W.contents output.new) (tally_text tally entries.now parts.now))) }
+{
+    let list = read_list(input, room)?;
+    let found = E::of(&list[data_start(list)..]);
+    let report = Report {
+        tally: go_through(&found, list),
+        entries,
+        parts,
+    };
+    write!(output, "{report}")
+}
+
+// Replays the list on the input: goes through its entries, and prints what was counted, with a word for them and, where it is not empty, one
+// for their parts.
+pub fn replay<E: Entries, R: Read + Drop, W: Write>(
+    input: R,
+    output: &mut W,
+    entries: &str,
+    parts: &str,
+) -> io::Result<()>
+    ensures { OnOk result (IfSome (R.remaining input) (λ bytes. (found : E) × (tally : Tally)
+        × Through (E.counts found (take 524288 bytes)) (length (take 524288 bytes)) (tally_of (take 524288 bytes) E.BEFORE) tally
+        × Appends (W.contents output.old) (W.contents output.new) (tally_text tally entries.now parts.now))) }
+{
+    let mut room = room();
+    replay_in::<E, R, W>(input, &mut room, output, entries, parts)
 }

@@ -7,6 +7,7 @@ ghost use Rattle.shades.specs.Shades.{shades_on, shades_of};
 ghost use Rattle.shades.specs.Inside.{pairs_by};
 
 use board::Board;
+use groups::Members;
 use record::Answer;
 
 // The number that stands for no group.
@@ -32,15 +33,13 @@ fn write_pairs(groups: &[u16; 1024], squares: &[u16; 1024], n: usize, shades: &m
     requires { (n ≤ 1024) × (length shades.old ≡ 2048) }
     ensures { shades.new ≡ pairs_by groups.now squares.now n ++ drop (2 * n) shades.old }
 {
-    let mut i = 0;
-    while i < n {
+    for i in 0..n {
         let f = groups[i];
-        let count = squares[grid::wide(f) % 1024];
+        let count = squares[usize::from(f) % 1024];
         let square = f < NO_GROUP;
         let at = 2 * i;
         shades[at] = grid::pick(square, f, 0);
         shades[at + 1] = grid::pick(square, count, 0);
-        i += 1;
     }
 }
 
@@ -57,7 +56,7 @@ pub fn shade_cells(cells: &[u8; 1024], h: usize, w: usize, shades: &mut [u16; 20
     groups::compute_connected_components(
         cells,
         &onarrow,
-        false,
+        Members::Squares,
         h,
         w,
         &mut groups,

@@ -14,10 +14,7 @@ use lib.Seq.{drop-cons, set_at, take_at, get_or-take}
 use Rattle.grid.specs.Lists.{all, upto, range, member}
 use Rattle.grid.specs.Grid.{Grid, size, row, col, cells_of}
 use Rattle.grid.specs.Side.{sized, moved_of, side_at, shifted_of, landing}
-use Rattle.grid.specs.declared.Step.{Step}
-use Rattle.grid.specs.declared.Step.TheVariants.{To, Outside}
-use Rattle.grid.specs.declared.Side.{Side}
-use Rattle.grid.specs.declared.Side.TheVariants.{At, Off}
+use Rattle.std.specs.Prelude.{Option, Some, None}
 use Rattle.grid.proofs.ListLaws.{So-false, all-mem, mem-all, mem_at, at_mem, upto-mem, mem-upto, filter-length, filter-mem, mem-filter, length-range, mem-member, member-mem, map_at}
 use Rattle.grid.proofs.GridLaws.{width_pos, in_cells}
 use Rattle.grid.proofs.SideLaws.{area, moved_to}
@@ -131,9 +128,9 @@ module _ (g : Grid) (b r : List ℕ) (f : ℕ) (rows columns : List ℕ) (count 
   unfolding lands_in side_in
   lands_in_lem t c = go (landing g f t c) refl
     where
-      go : (s : Side) → landing g f t c ≡ s → lands_in test s ≡ side_in s r
-      go (At d) e = tells d ((landing_at g f t c d).0 e).inside
-      go Off e = refl
+      go : (s : Option ℕ) → landing g f t c ≡ s → lands_in test s ≡ side_in s r
+      go (Some d) e = tells d ((landing_at g f t c d).0 e).inside
+      go None e = refl
 
   -- the shift that takes f to t, by offsets and by sums
   pub fits_test : (t : ℕ) → fits_at g.height g.width rows columns count test (row g f) (col g f) t ≡ fits g b r f t
@@ -154,16 +151,16 @@ module _ (v : View) (e : ℕ) where
       (λ a. (filter-mem (in_reach v e) (cells_of v.grid) (member-mem d _ a)).1)
 
 -- a shift leads to a cell of the grid
-pub shifted_inside : (h w y x : ℕ) (dy dx : ℤ) (d : ℕ) → shifted_of h w y x dy dx ≡ At d → d < h * w
+pub shifted_inside : (h w y x : ℕ) (dy dx : ℤ) (d : ℕ) → shifted_of h w y x dy dx ≡ Some d → d < h * w
 unfolding shifted_of side_at
 shifted_inside h w y x dy dx d e = go (moved_of y dy h) (moved_of x dx w) refl refl e
   where
-    go : (s t : Step) → moved_of y dy h ≡ s → moved_of x dx w ≡ t → side_at w s t ≡ At d → d < h * w
-    go (To r) (To c) p q z =
+    go : (s t : Option ℕ) → moved_of y dy h ≡ s → moved_of x dx w ≡ t → side_at w s t ≡ Some d → d < h * w
+    go (Some r) (Some c) p q z =
         let k : d ≡ r * w + c = cc in
         rw k (digits_lt (moved_to y dy h r p).0 (moved_to x dx w c q).0)
-    go (To r) Outside p q z = let n : ◌≡◌ {A = ℕ} 0 1 = cc in absurd (omega arith)
-    go Outside t p q z = let n : ◌≡◌ {A = ℕ} 0 1 = cc in absurd (omega arith)
+    go (Some r) None p q z = let n : ◌≡◌ {A = ℕ} 0 1 = cc in absurd (omega arith)
+    go None t p q z = let n : ◌≡◌ {A = ℕ} 0 1 = cc in absurd (omega arith)
 
 -- the cells of a block that were gathered lie on the grid
 pub Gathered-inside : (h w : ℕ) (kinds owners : List ℕ) (f : ℕ) {r c r' c' : List ℕ} {k : ℕ} → h ≤ 32 → w ≤ 32

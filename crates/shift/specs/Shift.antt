@@ -1,11 +1,9 @@
 -- The shift test of reason 3 on arrays: a block's cells by their rows and columns, a reach by a test of a cell.
 -- Assumes nothing.
-use Rattle.std.specs.Prelude.{ℕ, ◌/◌, ◌%◌, ◌≤◌, ◌<◌, ◌≡◌, Bool, false, List, ◌++◌, map, ℤ, pos, ◌-ℤ◌, length, get_or, take, drop}
+use Rattle.std.specs.Prelude.{ℕ, ◌/◌, ◌%◌, ◌≤◌, ◌<◌, ◌≡◌, Bool, false, List, ◌++◌, map, ℤ, pos, ◌-ℤ◌, length, get_or, take, drop, Option, Some, None}
 use Rattle.grid.specs.Lists.{upto, all, filter}
 use Rattle.kinds.specs.Inside.{of_block}
 use Rattle.grid.specs.Side.{shifted_of}
-use Rattle.grid.specs.declared.Side.{Side}
-use Rattle.grid.specs.declared.Side.TheVariants.{At, Off}
 use Rattle.reach.specs.Chains.{Chains}
 
 -- the cells of the arrow block named f among the first n, by their kinds and owners
@@ -40,9 +38,9 @@ pub record Places (h w : ℕ) (rows columns : List ℕ) (count : ℕ) : Type 0 w
   pub column : (k : ℕ) → k < count → get_or columns k 0 < w
 
 -- a move leads to a cell that passes the test
-unfoldable pub lands_in : (ℕ → Bool) → Side → Bool
-lands_in test (At d) = test d
-lands_in test Off = false
+unfoldable pub lands_in : (ℕ → Bool) → Option ℕ → Bool
+lands_in test (Some d) = test d
+lands_in test None = false
 
 -- every cell, moved by a signed row and column offset, comes to a cell that passes
 unfoldable pub all_land : ℕ → ℕ → List ℕ → List ℕ → ℕ → (ℕ → Bool) → ℤ → ℤ → Bool

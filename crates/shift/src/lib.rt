@@ -14,7 +14,7 @@ ghost use Rattle.reach.specs.Near.{SquaresOf, NearFloats};
 ghost use Rattle.shift.specs.Fits.{shift_fits};
 ghost use Rattle.shift.specs.Shift.{block_in, Chained, Gathered, Places, BlockPlaces, lands_in, all_land, fits_at, Work};
 
-use grid::Side;
+use kinds::ARROW_BLOCK;
 
 // Writes the row and the column of cell i behind `count` others if `yes` says so; the new count.
 fn keep_place(
@@ -56,10 +56,11 @@ fn gather_block(
         → Gathered w (block_in kinds.now owners n f) rows.old columns.old rows.new columns.new count }
 {
     let mut k = 0;
-    let mut i = head[f as usize] as usize;
+    let mut i = usize::from(head[usize::from(f)]);
+    // A `while`: the next cell stands in the chain, and in no range.
     while k < count {
-        k = keep_place(rows, columns, k, w, i, kinds[i] == 1);
-        i = next[i] as usize;
+        k = keep_place(rows, columns, k, w, i, kinds[i] == ARROW_BLOCK);
+        i = usize::from(next[i]);
     }
 }
 
@@ -79,10 +80,9 @@ fn lands_in(
     requires { InPlace h w y x × (mag dy < 1024) × (mag dx < 1024) }
     ensures { result ≡ lands_in (reaches_at kinds.now owners.now near.now e) (shifted_of h w y x dy dx) }
 {
-    let side = grid::shifted(h, w, y, x, dy, dx);
-    match side {
-        Side::At(d) => near::reached(kinds, owners, near, e, d),
-        Side::Off => false,
+    match grid::shifted(h, w, y, x, dy, dx) {
+        Some(d) => near::reached(kinds, owners, near, e, d),
+        None => false,
     }
 }
 
@@ -103,14 +103,12 @@ fn fits_by(
     requires { Places h w rows.now columns.now count × (mag dy < 1024) × (mag dx < 1024) }
     ensures { result ≡ all_land h w rows.now columns.now count (reaches_at kinds.now owners.now near.now e) dy dx }
 {
-    let mut k = 0;
-    while k < count {
-        let y = grid::wide(rows[k]);
-        let x = grid::wide(columns[k]);
+    for k in 0..count {
+        let y = usize::from(rows[k]);
+        let x = usize::from(columns[k]);
         if !lands_in(kinds, owners, near, h, w, e, y, x, dy, dx) {
             return false;
         }
-        k += 1;
     }
     true
 }
@@ -159,14 +157,15 @@ fn fits_chain(
         × Chains owners.now head.now next.now (h * w) × (m < 1024) }
     ensures { result ≡ any (fits_at h w rows.now columns.now count (reaches_at kinds.now owners.now near.now e) fy fx) (cells_from owners.now (h * w) m 0) }
 {
-    let mut t = head[m as usize] as usize;
+    let mut t = usize::from(head[usize::from(m)]);
+    // A `while`: the next cell stands in the chain, and in no range.
     while t < 1024 {
         if fits_at(
             rows, columns, count, kinds, owners, near, h, w, e, fy, fx, t,
         ) {
             return true;
         }
-        t = next[t] as usize;
+        t = usize::from(next[t]);
     }
     false
 }
@@ -204,14 +203,12 @@ fn fits(
     ) {
         return true;
     }
-    let mut k = 0;
-    while k < total {
+    for k in 0..total {
         if fits_chain(
             rows, columns, count, kinds, owners, head, next, near, h, w, e, fy, fx, groups[k],
         ) {
             return true;
         }
-        k += 1;
     }
     false
 }
@@ -240,9 +237,22 @@ pub fn shift_fits(
     ensures work { Work groups.new rows.new columns.new }
 {
     let total = near::near_floats(kinds, owners, head, next, h, w, e, near, groups);
-    let count = grid::wide(squares[f as usize]);
+    let count = usize::from(squares[usize::from(f)]);
     gather_block(kinds, head, next, w, f, count, rows, columns);
     fits(
-        rows, columns, count, kinds, owners, head, next, near, groups, total, h, w, e, f as usize,
+        rows,
+        columns,
+        count,
+        kinds,
+        owners,
+        head,
+        next,
+        near,
+        groups,
+        total,
+        h,
+        w,
+        e,
+        usize::from(f),
     )
 }

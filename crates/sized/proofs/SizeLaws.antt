@@ -22,7 +22,7 @@ use Rattle.kinds.specs.Kinds.{View, view, view_with, block, reach}
 use Rattle.kinds.specs.Inside.{puzzle_with}
 use Rattle.literals.specs.Literals.{Found, or_else, reason_if, first_found_of, each}
 use Rattle.literals.specs.Inside.{Wrote, FoundAs}
-use Rattle.literals.specs.declared.Finding.TheVariants.{Nothing, Reason}
+use Rattle.std.specs.Prelude.{Some, None}
 use Rattle.literals.proofs.Findings.{found_none, nothing_found, found_first, Wrote-found, first_append}
 use Rattle.growth.specs.Growth.{block_name, cell_fence}
 use Rattle.growth.specs.Pairs.{view_on}
@@ -101,11 +101,11 @@ module _ (v : View) (lows highs : List ℕ) where
     ahead_split = let z : n - i ≡ suc (n - (i + 1)) = omega arith in rw (z, ← add-one i) refl
 
     -- the cell gives none, or the reason
-    pub ahead_more : {b a : List ℕ} → FoundAs (reason5_in v lows highs i) b a Nothing → ahead n i ≡ ahead n (i + 1)
+    pub ahead_more : {b a : List ℕ} → FoundAs (reason5_in v lows highs i) b a None → ahead n i ≡ ahead n (i + 1)
     unfolding or_else
     ahead_more x = ahead_split ∙ rw (nothing_found (reason5_in v lows highs i) x).0 refl
 
-    pub ahead_found : {b a : List ℕ} {k : ℕ} → FoundAs (reason5_in v lows highs i) b a (Reason k) → FoundAs (ahead n i) b a (Reason k)
+    pub ahead_found : {b a : List ℕ} {k : ℕ} → FoundAs (reason5_in v lows highs i) b a (Some k) → FoundAs (ahead n i) b a (Some k)
     ahead_found x = rw ahead_split (found_first (reason5_in v lows highs i) (ahead n (i + 1)) x)
 
 -- ---- a cell
@@ -133,12 +133,12 @@ module _ {h w : ℕ} {lines : List (List ℕ)} {lows highs cells kinds owners : 
   board-square = square_taken cells (h * w) i on
 
   -- no sizes, or not square
-  pub not_sized : get_or lows i 0 ≡ 0 → (c : List ℕ) → FoundAs (reason5_in board lows highs i) c c Nothing
+  pub not_sized : get_or lows i 0 ≡ 0 → (c : List ℕ) → FoundAs (reason5_in board lows highs i) c c None
   unfolding reason5_in
   not_sized z c = rw (eq-eqb (get_or lows i 0) 0 z) (found_none c)
 
   module _ (sizes : get_or lows i 0 ≡ 0 → ⊥) where
-    pub not_square : square cells i ≡ false → (c : List ℕ) → FoundAs (reason5_in board lows highs i) c c Nothing
+    pub not_square : square cells i ≡ false → (c : List ℕ) → FoundAs (reason5_in board lows highs i) c c None
     unfolding reason5_in
     not_square z c = rw (ne_eqb (get_or lows i 0) 0 sizes, board-square ∙ z) (found_none c)
 
@@ -166,19 +166,19 @@ module _ {h w : ℕ} {lines : List (List ℕ)} {lows highs cells kinds owners : 
 
       module _ {f : ℕ} (e : f ≡ get_or owners i 0) {c : List ℕ} where
         -- the reach of its block is smaller than the lowest
-        pub low_found : length (reach board f) < get_or lows i 0 → {a : List ℕ} {k : ℕ} → Wrote (cell_fence board i f) c a k → FoundAs (reason5_in board lows highs i) c a (Reason k)
+        pub low_found : length (reach board f) < get_or lows i 0 → {a : List ℕ} {k : ℕ} → Wrote (cell_fence board i f) c a k → FoundAs (reason5_in board lows highs i) c a (Some k)
         unfolding reason5_at reason_low reason_if or_else
         low_found t x =
             rw (size_is, ← (e ∙ size_owner), lt-ltb (length (reach board f)) (get_or lows i 0) t) (Wrote-found x)
 
         module _ (enough : get_or lows i 0 ≤ length (reach board f)) where
           -- the block is not larger than the highest, or it is
-          pub size_none : length (block board f) ≤ get_or highs i 0 → FoundAs (reason5_in board lows highs i) c c Nothing
+          pub size_none : length (block board f) ≤ get_or highs i 0 → FoundAs (reason5_in board lows highs i) c c None
           unfolding reason5_at reason_low reason_high reason_if or_else
           size_none t =
               rw (size_is, ← (e ∙ size_owner), le-ltb (length (reach board f)) (get_or lows i 0) enough, le-ltb (get_or highs i 0) (length (block board f)) t) (found_none c)
 
-          pub high_found : get_or highs i 0 < length (block board f) → {a : List ℕ} {k : ℕ} → Wrote (each 1 (block board f)) c a k → FoundAs (reason5_in board lows highs i) c a (Reason k)
+          pub high_found : get_or highs i 0 < length (block board f) → {a : List ℕ} {k : ℕ} → Wrote (each 1 (block board f)) c a k → FoundAs (reason5_in board lows highs i) c a (Some k)
           unfolding reason5_at reason_low reason_high reason_if or_else
           high_found t x =
               rw (size_is, ← (e ∙ size_owner), le-ltb (length (reach board f)) (get_or lows i 0) enough, lt-ltb (get_or highs i 0) (length (block board f)) t) (Wrote-found x)

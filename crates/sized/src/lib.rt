@@ -8,10 +8,8 @@ ghost use Rattle.growth.specs.Pairs.{view_on, Grouped};
 ghost use Rattle.sized.specs.Sized.{reason5};
 ghost use Rattle.sized.specs.Inside.{Measured, reason5_in, Board, SizedBoard};
 
-use literals::Finding;
-
 // A block against the sizes of its cell: it may come to lie within them, its reach is too small, or it is too large.
-#[derive(Clone, Copy)]
+#[derive(Clone, Copy, Debug, PartialEq, Eq)]
 enum Measure {
     Within,
     Low,
@@ -48,21 +46,21 @@ fn check_size(
     near: &mut [u8; 1024],
     groups: &mut [u16; 1024],
     buffer: &mut [u16],
-) -> Finding
+) -> Option<usize>
     requires { Fit h w buffer.old × SizedBoard h w lowest.now highest.now cells.now kinds.now owners.now × (i < length lowest.now)
         × Grouped kinds.now owners.now head.now next.now sizes.now squares.now (h * w) × (length groups.old ≡ 1024) }
     ensures answer { (lines : List (List ℕ)) → Board h w lines lowest.now highest.now cells.now kinds.now owners.now
         → FoundAs (reason5_in (view_on h w lines cells.now) lowest.now highest.now i) buffer.old buffer.new result }
     ensures groups_len { length groups.new ≡ 1024 }
 {
-    let low = grid::wide(lowest[i]);
+    let low = usize::from(lowest[i]);
     if low == 0 {
-        return Finding::Nothing;
+        return None;
     }
     if cells[i] != 1 {
-        return Finding::Nothing;
+        return None;
     }
-    let high = grid::wide(highest[i]);
+    let high = usize::from(highest[i]);
     let block = owners[i];
     let reach = growth::count_reach(
         kinds, owners, head, next, sizes, squares, h, w, block, near, groups,
@@ -72,13 +70,13 @@ fn check_size(
     match measure {
         Measure::Low => {
             let literals = growth::reason_for_cell(cells, kinds, owners, h, w, i, block, buffer);
-            Finding::Reason(literals)
+            Some(literals)
         }
         Measure::High => {
             let literals = growth::reason_for_arrow_block(kinds, owners, h * w, block, buffer);
-            Finding::Reason(literals)
+            Some(literals)
         }
-        Measure::Within => Finding::Nothing,
+        Measure::Within => None,
     }
 }
 
@@ -97,7 +95,7 @@ pub fn check_sizes(
     w: usize,
     groups: &mut [u16; 1024],
     buffer: &mut [u16],
-) -> Finding
+) -> Option<usize>
     requires { Fit h w buffer.old × SizedBoard h w lowest.now highest.now cells.now kinds.now owners.now
         × Grouped kinds.now owners.now head.now next.now sizes.now squares.now (h * w) × (length groups.old ≡ 1024) }
     ensures { (lines : List (List ℕ)) → Board h w lines lowest.now highest.now cells.now kinds.now owners.now
@@ -105,26 +103,17 @@ pub fn check_sizes(
 {
     let n = lowest.len();
     if n == 0 {
-        return Finding::Nothing;
+        return None;
     }
     let mut near = [0u8; 1024];
-    let mut i = 0;
-    while i < n {
+    for i in 0..n {
         let finding = check_size(
             lowest, highest, cells, kinds, owners, head, next, sizes, squares, h, w, i, &mut near,
             groups, buffer,
         );
-        match finding {
-            Finding::Nothing => {
-                i += 1;
-            }
-            Finding::Reason(literals) => {
-                return Finding::Reason(literals);
-            }
-            Finding::Refused(number) => {
-                return Finding::Refused(number);
-            }
+        if let Some(literals) = finding {
+            return Some(literals);
         }
     }
-    Finding::Nothing
+    None
 }

@@ -2,3 +2,4 @@ pub mod KeptLaws
 pub mod FormLaws
 pub mod DrawnLaws
 pub mod ReadLaws
+pub mod NumbersLaws

@@ -1,86 +1,91 @@
 -- Reading sizes, range by range: what is left of the list makes of the ranges so far what the whole makes.
 -- Assumes nothing.
-use Prim.Native.Nat.{ℕ, suc, ◌+◌, ◌*◌, ◌≤◌, ◌<◌}
+use Prim.Native.Nat.{ℕ, suc, ◌+◌, ◌≤◌, ◌<◌}
 use native.Mathlib.Numerals.{add-one}
 use native.Mathlib.Decide.{dec_lt}
 use native.Mathlib.Omega.{arith}
 use mathlib.Core.Logic.{◌⊎◌, inl, inr}
 use mathlib.Core.Path.{◌≡◌, refl, sym, ap, ◌∙◌}
-use mathlib.Core.Bool.{Bool, true, false, ◌&&◌, true≢false, false≢true}
+use mathlib.Core.Bool.{Bool, true, false, ◌&&◌}
 use mathlib.Core.List.Memᴰ
 use mathlib.Core.List.{List, [], ◌∷◌, ◌++◌, append_assoc, append-nil, Memᴰ}
-use lib.Dec.{leb}
+use lib.Dec.{eqb, leb}
 use lib.ListN.{length, get_or, drop, set, replicate, length-drop, drop_of_length-le}
 use lib.Seq.{drop-cons}
-use borrow.Author.Tests.{lt-leb, le-leb, leb-true}
+use borrow.Author.Tests.{lt-leb, le-leb, leb-true, eqb-true, ne_eqb, eq-eqb}
+use Rattle.std.proofs.lemmas.List.{get_or_past}
 use Rattle.grid.proofs.ListLaws.{and-true}
-use Rattle.grid.proofs.MarkLaws.{mark_zero, mark_other}
+use Rattle.grid.proofs.MarkLaws.{mark_is}
+use Rattle.groups.specs.Arrays.{marked}
+use Rattle.fields.proofs.OutcomeLaws.{unless-ok}
 use Rattle.record.specs.Record.{Puzzle, Outcome, ok, refused, ◌>>=◌, unless}
+use Rattle.grid.specs.Lists.{all, upto}
+use Rattle.sizes.specs.Form.{sized_cell}
 use Rattle.record.specs.Arrows.{on_arrow}
 use Rattle.record.specs.Leaf.{Range, range_at, range_test, ranges_from, sizes_of}
-use Rattle.record.specs.Inside.{done, fault}
-use Rattle.record.specs.declared.Answer.TheVariants.{Done, Refused}
 use Rattle.sizes.specs.Kept.{lowest_of, highest_of}
 use Rattle.sizes.specs.Bytes.{numbers_in, sizes_in}
-use Rattle.sizes.specs.Inside.{MarkedAll, ranges_in, Taken, taken, left, SizesRead}
+use Rattle.sizes.specs.Inside.{MarkedAll, SizesRead, ranges_said, sizes_said, answer_of}
+use Rattle.std.specs.Prelude.{Ok, Err}
+use Rattle.std.specs.declared.result.Result.{Result}
+use Rattle.refusal.specs.declared.Refusal.{Refusal}
+use Rattle.fields.specs.Inside.{Agrees}
+use Rattle.record.specs.Inside.{done, fault}
 use Rattle.sizes.proofs.KeptLaws.{array_none, array_put}
 
 -- ---- the test of one range, a law for each way out of the code
 
-module _ {marks : List ℕ} (on : ℕ → Bool) (m : MarkedAll marks on) (from cell least most : ℕ) where
+module _ (marks : List ℕ) (from cell least most : ℕ) where
   -- the range
   abbrev here : Range
   here = range_at cell least most
 
-  off_arrow : on cell ≡ false → range_test on from here ≡ false
-  unfolding range_test
-  off_arrow e = rw e (go (leb 1 least && leb least most) (leb from cell))
+  pub test_unmarked : (get_or marks cell 0 ≡ 1 → ⊥) → range_test (marked marks) from here ≡ false
+  unfolding range_test marked
+  test_unmarked n = rw (ne_eqb (get_or marks cell 0) 1 n) (go (leb 1 least && leb least most) (leb from cell))
     where
       go : (a b : Bool) → ((a && false) && b) ≡ false
       go true b = refl
       go false b = refl
 
-  pub test_off : 1024 ≤ cell → range_test on from here ≡ false
-  test_off h = off_arrow (m.none cell h)
+  pub test_off : length marks ≤ cell → range_test (marked marks) from here ≡ false
+  test_off h = test_unmarked (λ e. omega (arith, e, get_or_past marks cell 0 h))
 
-  pub test_unmarked : cell < 1024 → get_or marks cell 0 ≡ 0 → range_test on from here ≡ false
-  test_unmarked h z = off_arrow (mark_zero m.marks_are cell h z)
-
-  pub test_below : cell < from → range_test on from here ≡ false
+  pub test_below : cell < from → range_test (marked marks) from here ≡ false
   unfolding range_test
-  test_below h = rw (lt-leb from cell h) (go (leb 1 least && leb least most && on cell))
+  test_below h = rw (lt-leb from cell h) (go (leb 1 least && leb least most && marked marks cell))
     where
       go : (a : Bool) → (a && false) ≡ false
       go true = refl
       go false = refl
 
-  pub test_zero : least ≡ 0 → range_test on from here ≡ false
+  pub test_zero : least ≡ 0 → range_test (marked marks) from here ≡ false
   unfolding range_test
   test_zero e = rw e refl
 
-  pub test_down : most < least → range_test on from here ≡ false
+  pub test_down : most < least → range_test (marked marks) from here ≡ false
   unfolding range_test
-  test_down h = rw (lt-leb least most h) (go (leb 1 least) (on cell) (leb from cell))
+  test_down h = rw (lt-leb least most h) (go (leb 1 least) (marked marks cell) (leb from cell))
     where
       go : (a b c : Bool) → (((a && false) && b) && c) ≡ false
       go true b c = refl
       go false b c = refl
 
-  pub test_passed : cell < 1024 → (get_or marks cell 0 ≡ 0 → ⊥) → from ≤ cell → (least ≡ 0 → ⊥) → least ≤ most → range_test on from here ≡ true
-  unfolding range_test
-  test_passed h z f n k = rw (le-leb 1 least (omega (arith, n)), le-leb least most k, mark_other m.marks_are cell h z, le-leb from cell f) refl
+  pub test_passed : get_or marks cell 0 ≡ 1 → from ≤ cell → (least ≡ 0 → ⊥) → least ≤ most → range_test (marked marks) from here ≡ true
+  unfolding range_test marked
+  test_passed e f n k = rw (le-leb 1 least (omega (arith, n)), le-leb least most k, eq-eqb (get_or marks cell 0) 1 e, le-leb from cell f) refl
 
   -- a range that passes is on the grid, at `from` or behind it
-  pub test_low : range_test on from here ≡ true → (cell < 1024) × (from ≤ cell)
-  unfolding range_test
+  pub test_low : range_test (marked marks) from here ≡ true → (cell < length marks) × (from ≤ cell)
+  unfolding range_test marked
   test_low t =
-      let a = and-true (leb 1 least && leb least most && on cell) (leb from cell) t in
-      let b = and-true (leb 1 least && leb least most) (on cell) a.0 in
-      (go (dec_lt cell 1024) b.1, leb-true from cell a.1)
+      let a = and-true (leb 1 least && leb least most && eqb (get_or marks cell 0) 1) (leb from cell) t in
+      let b = and-true (leb 1 least && leb least most) (eqb (get_or marks cell 0) 1) a.0 in
+      (go (dec_lt cell (length marks)) (eqb-true (get_or marks cell 0) 1 b.1), leb-true from cell a.1)
     where
-      go : Dec (cell < 1024) → on cell ≡ true → cell < 1024
+      go : Dec (cell < length marks) → get_or marks cell 0 ≡ 1 → cell < length marks
       go (yes h) e = h
-      go (no h) e = absurd (false≢true (sym (m.none cell (omega arith)) ∙ e))
+      go (no h) e = absurd (omega (arith, e, get_or_past marks cell 0 (omega (arith, h))))
 
 -- ---- the ranges so far
 
@@ -124,26 +129,14 @@ module _ {whole rest : Outcome (List Range)} {from : ℕ} {lowest highest : List
       low q (inr m) = let z : q.cell ≡ r.cell = ap (λ (x : Range). x.cell) (Memᴰ.eq_of_singleton m) in omega arith
 
   -- what is left is refused, and so is the whole
-  pub amid_refused : rest ≡ refused 22 → {l h : List ℕ} → SizesRead whole l h (Refused 22)
+  pub amid_refused : {k : ℕ} → rest ≡ refused k → whole ≡ refused k
   unfolding ◌>>=◌
-  amid_refused e = fault (a.same ∙ ap (λ (o : Outcome (List Range)). o >>= λ rs. ok (a.ranges ++ rs)) e)
+  amid_refused e = a.same ∙ ap (λ (o : Outcome (List Range)). o >>= λ rs. ok (a.ranges ++ rs)) e
 
   -- nothing is left
-  pub amid_end : rest ≡ ok [] → SizesRead whole lowest highest Done
+  pub amid_end : rest ≡ ok [] → (rs : List Range) × (whole ≡ ok rs) × (lowest ≡ lowest_of rs) × (highest ≡ highest_of rs)
   unfolding ◌>>=◌
-  amid_end e = done (a.same ∙ ap (λ (o : Outcome (List Range)). o >>= λ rs. ok (a.ranges ++ rs)) e ∙ ap ok (append-nil a.ranges)) (a.lowest_are, a.highest_are)
-
-  -- the next range was taken, or left
-  module _ {marks : List ℕ} (on : ℕ → Bool) (m : MarkedAll marks on) (cell least most : ℕ) where
-    pub Amid-Taken : {r : Bool} {lowest' highest' : List ℕ} → Taken (range_test on from (range_at cell least most)) cell least most lowest highest r lowest' highest' → r ≡ true → (later : Outcome (List Range))
-        → (range_test on from (range_at cell least most) ≡ true → rest ≡ (later >>= λ rs. ok (range_at cell least most ∷ rs))) → Amid whole later (cell + 1) lowest' highest'
-    Amid-Taken (taken t) e later next = let l = test_low on m from cell least most t in Amid-more (range_at cell least most) later (next t) l.0 l.1
-    Amid-Taken (left t) e later next = absurd (false≢true e)
-
-    pub amid_left : {r : Bool} {lowest' highest' : List ℕ} → Taken (range_test on from (range_at cell least most)) cell least most lowest highest r lowest' highest' → r ≡ false
-        → (range_test on from (range_at cell least most) ≡ false → rest ≡ refused 22) → {l h : List ℕ} → SizesRead whole l h (Refused 22)
-    amid_left (taken t) e next = absurd (true≢false e)
-    amid_left (left t) e next = amid_refused (next t)
+  amid_end e = (a.ranges, a.same ∙ ap (λ (o : Outcome (List Range)). o >>= λ rs. ok (a.ranges ++ rs)) e ∙ ap ok (append-nil a.ranges), a.lowest_are, a.highest_are)
 
 -- ---- the next range of a list of numbers
 
@@ -158,13 +151,13 @@ three_left l at cell least most h c d e =
 
 module _ (l : List ℕ) (at cell least most : ℕ) (h : at + 2 < length l) (c : cell ≡ get_or l at 0) (d : least ≡ get_or l (at + 1) 0) (e : most ≡ get_or l (at + 2) 0) (on : ℕ → Bool) (from : ℕ) where
   -- it may stand, or not
-  pub next_passed : range_test on from (range_at cell least most) ≡ true
+  pub next_passed : {z : ℕ} → unless (range_test on from (range_at cell least most)) 22 ≡ ok z
       → ranges_from on from (drop at l) ≡ (ranges_from on (cell + 1) (drop (at + 3) l) >>= λ rs. ok (range_at cell least most ∷ rs))
   unfolding ranges_from unless ◌>>=◌
-  next_passed t = rw (three_left l at cell least most h c d e, add-one cell, t) refl
+  next_passed t = rw (three_left l at cell least most h c d e, add-one cell, unless-ok (range_test on from (range_at cell least most)) 22 t) refl
 
-  pub next_refused : range_test on from (range_at cell least most) ≡ false → ranges_from on from (drop at l) ≡ refused 22
-  unfolding ranges_from unless ◌>>=◌
+  pub next_refused : {k : ℕ} → unless (range_test on from (range_at cell least most)) 22 ≡ refused k → ranges_from on from (drop at l) ≡ refused k
+  unfolding ranges_from ◌>>=◌
   next_refused t = rw (three_left l at cell least most h c d e, t) refl
 
 -- the list ends inside a range
@@ -183,88 +176,75 @@ pub none_left : (on : ℕ → Bool) (from : ℕ) (l : List ℕ) (at : ℕ) → l
 unfolding ranges_from
 none_left on from l at h = rw (drop_of_length-le l {i = at} h) refl
 
--- ---- the next range of a list of bytes
+-- ---- the numbers of a list, however it stands in memory
 
--- the only refusal is 22
-numbers_22 : (l : List ℕ) (k : ℕ) → numbers_in l ≡ refused k → k ≡ 22
-unfolding numbers_in ◌>>=◌
-numbers_22 [] k e = let z : ◌≡◌ {A = ℕ} 0 1 = cc in absurd (omega arith)
-numbers_22 (x ∷ []) k e = cc
-numbers_22 (x ∷ y ∷ l) k e = go (numbers_in l) (λ q. numbers_22 l k q) e
+-- what is said of a list that is not cut
+pub ranges_are : {o : Outcome (List ℕ)} {ns : List ℕ} (on : ℕ → Bool) → o ≡ ok ns → ranges_said on o ≡ ranges_from on 0 ns
+unfolding ranges_said ◌>>=◌
+ranges_are on e = rw e refl
+
+pub ranges_refused : {o : Outcome (List ℕ)} {k : ℕ} (on : ℕ → Bool) → o ≡ refused k → ranges_said on o ≡ refused k
+unfolding ranges_said ◌>>=◌
+ranges_refused on e = rw e refl
+
+pub sizes_refused : {o : Outcome (List ℕ)} {k : ℕ} (p : Puzzle) → o ≡ refused k → sizes_said p o ≡ refused k
+unfolding sizes_said ◌>>=◌
+sizes_refused p e = rw e refl
+
+pub sizes_none : {o : Outcome (List ℕ)} {ns : List ℕ} (p : Puzzle) → o ≡ ok ns → length ns ≡ 0 → sizes_said p o ≡ ok []
+unfolding sizes_said sizes_of ◌>>=◌
+sizes_none {ns} p e h = rw e (none_left (on_arrow p.arrows) 0 ns 0 (omega (arith, h)))
+
+-- marks tell the test
+pub marked_on : {marks : List ℕ} {on : ℕ → Bool} → MarkedAll marks on → (i : ℕ) → marked marks i ≡ on i
+unfolding marked
+marked_on {marks} {on} m i = by (dec_lt i 1024)
   where
-    go : (o : Outcome (List ℕ)) → (o ≡ refused k → k ≡ 22) → (o >>= λ ns. ok ((x * 256 + y) ∷ ns)) ≡ refused k → k ≡ 22
-    go (ok ns) ih q = let z : ◌≡◌ {A = ℕ} 0 1 = cc in absurd (omega arith)
-    go (refused j) ih q = ih q
+    by : Dec (i < 1024) → eqb (get_or marks i 0) 1 ≡ on i
+    by (yes h) = mark_is m.marks_are i h
+    by (no h) =
+        let past : get_or marks i 0 ≡ 0 = get_or_past marks i 0 (omega (arith, m.marks_are.long, h)) in
+        let off : on i ≡ false = m.none i (omega (arith, h)) in
+        rw (past, off) refl
 
--- the numbers in six bytes
-six_in : (a b c d e f : ℕ) (l : List ℕ) → numbers_in (a ∷ b ∷ c ∷ d ∷ e ∷ f ∷ l) ≡ (numbers_in l >>= λ ns. ok ((a * 256 + b) ∷ (c * 256 + d) ∷ (e * 256 + f) ∷ ns))
-unfolding numbers_in ◌>>=◌
-six_in a b c d e f l = go (numbers_in l)
+-- tests that agree on every cell take the same ranges
+ranges_same : (t u : ℕ → Bool) → ((i : ℕ) → t i ≡ u i) → (from : ℕ) (ns : List ℕ) → ranges_from t from ns ≡ ranges_from u from ns
+unfolding ranges_from
+ranges_same t u e from [] = refl
+ranges_same t u e from (c ∷ []) = refl
+ranges_same t u e from (c ∷ l ∷ []) = refl
+ranges_same t u e from (c ∷ l ∷ h ∷ ns) = rw (ranges_same t u e (suc c) ns, test) refl
   where
-    go : (o : Outcome (List ℕ))
-        → (((o >>= λ ns. ok ((e * 256 + f) ∷ ns)) >>= λ ns. ok ((c * 256 + d) ∷ ns)) >>= λ ns. ok ((a * 256 + b) ∷ ns)) ≡ (o >>= λ ns. ok ((a * 256 + b) ∷ (c * 256 + d) ∷ (e * 256 + f) ∷ ns))
-    go (ok ns) = refl
-    go (refused k) = refl
+    test : range_test t from (range_at c l h) ≡ range_test u from (range_at c l h)
+    test = unfold range_test in rw (e c) refl
 
-module _ (l : List ℕ) (at cell least most : ℕ) (h : at + 5 < length l) (c : cell ≡ get_or l at 0 * 256 + get_or l (at + 1) 0)
-    (d : least ≡ get_or l (at + 2) 0 * 256 + get_or l (at + 3) 0) (e : most ≡ get_or l (at + 4) 0 * 256 + get_or l (at + 5) 0) where
-  -- the next six bytes, and the numbers in them
-  six_left : drop at l ≡ get_or l at 0 ∷ get_or l (at + 1) 0 ∷ get_or l (at + 2) 0 ∷ get_or l (at + 3) 0 ∷ get_or l (at + 4) 0 ∷ get_or l (at + 5) 0 ∷ drop (at + 6) l
-  six_left =
-      let i4 : at + 4 ≡ at + 3 + 1 = omega arith in
-      let i5 : at + 5 ≡ at + 3 + 2 = omega arith in
-      let i6 : at + 6 ≡ at + 3 + 3 = omega arith in
-      rw (i4, i5, i6)
-      (three_left l at (get_or l at 0) (get_or l (at + 1) 0) (get_or l (at + 2) 0) (omega arith) refl refl refl
-      ∙ ap (λ (r : List ℕ). get_or l at 0 ∷ get_or l (at + 1) 0 ∷ get_or l (at + 2) 0 ∷ r)
-      (three_left l (at + 3) (get_or l (at + 3) 0) (get_or l (at + 3 + 1) 0) (get_or l (at + 3 + 2) 0) (omega arith) refl refl refl))
+-- the marks of the arrow cells take the sizes
+pub sizes_marked : {marks : List ℕ} (p : Puzzle) → MarkedAll marks (on_arrow p.arrows) → (o : Outcome (List ℕ)) → ranges_said (marked marks) o ≡ sizes_said p o
+unfolding ranges_said sizes_said sizes_of ◌>>=◌
+sizes_marked p m (refused k) = refl
+sizes_marked {marks} p m (ok ns) = ranges_same (marked marks) (on_arrow p.arrows) (marked_on m) 0 ns
 
-  three_in : numbers_in (drop at l) ≡ (numbers_in (drop (at + 6) l) >>= λ ns. ok (cell ∷ least ∷ most ∷ ns))
-  three_in = rw (c, d, e) (ap numbers_in six_left ∙ six_in (get_or l at 0) (get_or l (at + 1) 0) (get_or l (at + 2) 0) (get_or l (at + 3) 0) (get_or l (at + 4) 0) (get_or l (at + 5) 0) (drop (at + 6) l))
+-- what was read, as an answer
+pub sizes_answer : {o : Outcome (List Range)} {lowest highest : List ℕ} (r : Result (Unit {0}) Refusal) → Agrees o (λ rs _. (lowest ≡ lowest_of rs) × (highest ≡ highest_of rs)) r → SizesRead o lowest highest (answer_of r)
+sizes_answer (Ok u) a = done a.1 a.2
+sizes_answer (Err e) a = fault a
 
-  module _ (on : ℕ → Bool) (from : ℕ) where
-    -- it may stand, or not
-    pub bytes_passed : range_test on from (range_at cell least most) ≡ true
-        → ranges_in on from (drop at l) ≡ (ranges_in on (cell + 1) (drop (at + 6) l) >>= λ rs. ok (range_at cell least most ∷ rs))
-    bytes_passed t = ap (λ (o : Outcome (List ℕ)). o >>= ranges_from on from) three_in ∙ go (numbers_in (drop (at + 6) l))
-      where
-        go : (o : Outcome (List ℕ)) → ((o >>= λ ns. ok (cell ∷ least ∷ most ∷ ns)) >>= ranges_from on from) ≡ ((o >>= ranges_from on (cell + 1)) >>= λ rs. ok (range_at cell least most ∷ rs))
-        go (ok ns) = unfold ◌>>=◌ ranges_from unless in rw (t, add-one cell) refl
-        go (refused k) = unfold ◌>>=◌ in refl
+-- the sizes in bytes
+pub sizes_bytes : (p : Puzzle) (bytes : List ℕ) → sizes_said p (numbers_in bytes) ≡ sizes_in p bytes
+unfolding sizes_said sizes_in
+sizes_bytes p bytes = refl
 
-    pub bytes_refused : range_test on from (range_at cell least most) ≡ false → ranges_in on from (drop at l) ≡ refused 22
-    bytes_refused t = ap (λ (o : Outcome (List ℕ)). o >>= ranges_from on from) three_in ∙ go (numbers_in (drop (at + 6) l)) refl
-      where
-        go : (o : Outcome (List ℕ)) → numbers_in (drop (at + 6) l) ≡ o → ((o >>= λ ns. ok (cell ∷ least ∷ most ∷ ns)) >>= ranges_from on from) ≡ refused 22
-        go (ok ns) q = unfold ◌>>=◌ ranges_from unless in rw t refl
-        go (refused k) q = unfold ◌>>=◌ in ap refused (numbers_22 (drop (at + 6) l) k q)
+pub sizes_words : (p : Puzzle) (ns : List ℕ) → sizes_said p (ok ns) ≡ sizes_of p ns
+unfolding sizes_said ◌>>=◌
+sizes_words p ns = refl
 
--- the bytes end inside a range
-pub bytes_cut : (on : ℕ → Bool) (from : ℕ) (l : List ℕ) (at : ℕ) → at < length l → length l ≤ at + 5 → ranges_in on from (drop at l) ≡ refused 22
-unfolding numbers_in ranges_from ◌>>=◌
-bytes_cut on from l at h k = go (drop at l) (omega (arith, length-drop at l)) (omega (arith, length-drop at l))
-  where
-    go : (xs : List ℕ) → 0 < length xs → length xs ≤ 5 → (numbers_in xs >>= ranges_from on from) ≡ refused 22
-    go [] m n = absurd (omega arith)
-    go (a ∷ []) m n = refl
-    go (a ∷ b ∷ []) m n = refl
-    go (a ∷ b ∷ c ∷ []) m n = refl
-    go (a ∷ b ∷ c ∷ d ∷ []) m n = refl
-    go (a ∷ b ∷ c ∷ d ∷ e ∷ []) m n = refl
-    go (a ∷ b ∷ c ∷ d ∷ e ∷ f ∷ xs) m n = absurd (omega arith)
+-- tests that agree on every cell
+all_same : (t u : ℕ → Bool) → ((i : ℕ) → t i ≡ u i) → (l : List ℕ) → all t l ≡ all u l
+unfolding all
+all_same t u e [] = refl
+all_same t u e (i ∷ l) = rw (e i, all_same t u e l) refl
 
--- or behind one
-pub bytes_none : (on : ℕ → Bool) (from : ℕ) (l : List ℕ) (at : ℕ) → length l ≤ at → ranges_in on from (drop at l) ≡ ok []
-unfolding numbers_in ranges_from ◌>>=◌
-bytes_none on from l at h = rw (drop_of_length-le l {i = at} h) refl
-
--- ---- an empty list
-
-module _ (p : Puzzle) (l : List ℕ) (h : length l ≡ 0) {lowest highest : List ℕ} (lo : lowest ≡ replicate 1024 0) (hi : highest ≡ replicate 1024 0) where
-  pub no_numbers : SizesRead (sizes_of p l) lowest highest Done
-  unfolding sizes_of
-  no_numbers = amid_end (Amid-start (sizes_of p l) lo hi) (none_left (on_arrow p.arrows) 0 l 0 (omega (arith, h)))
-
-  pub no_bytes : SizesRead (sizes_in p l) lowest highest Done
-  unfolding sizes_in sizes_of
-  no_bytes = amid_end (Amid-start (sizes_in p l) lo hi) (bytes_none (on_arrow p.arrows) 0 l 0 (omega (arith, h)))
+-- the test of the arrays by the marks of the arrow cells
+pub all_marked : {marks : List ℕ} {on : ℕ → Bool} (lows highs : List ℕ) → MarkedAll marks on → all (sized_cell (marked marks) lows highs) (upto 1024) ≡ all (sized_cell on lows highs) (upto 1024)
+unfolding sized_cell
+all_marked {marks} {on} lows highs m = all_same (sized_cell (marked marks) lows highs) (sized_cell on lows highs) (λ i. rw (marked_on m i) refl) (upto 1024)

@@ -2,3 +2,4 @@ pub mod Kept
 pub mod Form
 pub mod Bytes
 pub mod Inside
+pub mod Edition

@@ -1,29 +1,115 @@
-// Sizes beside arrow cells: a list of 16-bit numbers, cell, lowest and highest for each, read into two arrays by cell; refusal 22. And the
-// test of such arrays.
+// Sizes beside arrow cells: a list of 16-bit numbers, cell, lowest and highest for each, read into two arrays by cell; and the test of such arrays.
+// And the edition that a puzzle is played in.
 #![tactic(auto)]
 
-ghost use Rattle.std.specs.Prelude.{◌≡◌, Bool, cond, ◌&&◌, ℕ, ◌+◌, ◌*◌, ◌<◌, eqb, leb, length, replicate};
+ghost use Rattle.std.specs.Prelude.{◌≡◌, cond, ◌&&◌, ℕ, List, eqb, leb, length, replicate, set};
+ghost use Rattle.refusal.specs.Refusals.{Outcome, ok};
+ghost use Rattle.fields.specs.Fields.{unless};
+ghost use Rattle.fields.specs.Inside.{Agrees};
+ghost use Rattle.groups.specs.Arrays.{marked};
 ghost use Rattle.grid.specs.Lists.{all, upto};
 ghost use Rattle.record.specs.Record.{Puzzle};
 ghost use Rattle.record.specs.Arrows.{on_arrow};
-ghost use Rattle.record.specs.Leaf.{range_at, range_test, ranges_from, sizes_of};
+ghost use Rattle.record.specs.Leaf.{range_at, range_test, sizes_of};
+ghost use Rattle.sizes.specs.Edition.{EditionOf, edition_number};
+ghost use Rattle.sizes.specs.Bytes.{numbers_in, sizes_in};
 ghost use Rattle.sizes.specs.Form.{sized_cell};
-ghost use Rattle.sizes.specs.Bytes.{sizes_in};
-ghost use Rattle.sizes.specs.Inside.{Drawn, MarkedAll, ranges_in, Taken, SizesRead};
+ghost use Rattle.sizes.specs.Kept.{lowest_of, highest_of};
+ghost use Rattle.sizes.specs.Inside.{Drawn, Keeps, MarkedAll, SizesRead, HasNumber, number_at, ranges_said, sizes_said, answer_of};
 
-use record::Answer;
+use record::{Answer, Problem};
+use refusal::Refusal;
 
-// Marks the arrow cells of a puzzle.
-fn mark_arrows<'a>(
-    arrows: &'a [u16; 1024],
-    ends: &'a [u16; 1024],
-    count: usize,
-    marks: &mut [u8; 1024],
-)
-    requires { (p : Puzzle) × Drawn p arrows.now ends.now count }
-    ensures { (p : Puzzle) → Drawn p arrows.now ends.now count → MarkedAll marks.new (on_arrow p.arrows) }
-{
-    groups::mark_arrow_cells(arrows, record::arrow_total(ends, count), marks);
+// The edition that a puzzle is played in: 1, or 2 for free growth.
+#[derive(Clone, Copy, Debug, PartialEq, Eq)]
+pub enum Edition {
+    One,
+    Two,
+}
+
+impl Edition {
+    // Its number.
+    pub fn number(self) -> u8
+        ensures { result ≡ edition_number self }
+    {
+        match self {
+            Edition::One => 1,
+            Edition::Two => 2,
+        }
+    }
+}
+
+impl TryFrom<u32> for Edition {
+    type Error = Refusal;
+
+    ghost try_from_gives = { EditionOf };
+
+    #[tactic(auto, unfolding(record::specs::Leaf::is_edition))]
+    fn try_from(number: u32) -> Result<Edition, Refusal> {
+        match number {
+            1 => Ok(Edition::One),
+            2 => Ok(Edition::Two),
+            _ => Err(Refusal::Edition),
+        }
+    }
+}
+
+impl TryFrom<u8> for Edition {
+    type Error = Refusal;
+
+    ghost try_from_gives = { EditionOf };
+
+    fn try_from(number: u8) -> Result<Edition, Refusal> {
+        Edition::try_from(u32::from(number))
+    }
+}
+
+// A list of 16-bit numbers, however it stands in memory.
+pub trait Numbers {
+    ghost numbers: { Self → Outcome (List ℕ) };
+
+    // How many there are, unless the list ends inside one.
+    fn count(&self) -> Result<usize, Refusal>
+        ensures { Agrees (numbers self.now) (λ ns count. count ≡ length ns) result };
+
+    fn number(&self, k: usize) -> u16
+        requires { HasNumber (numbers self.now) k }
+        ensures { result ≡ number_at (numbers self.now) k };
+}
+
+// Numbers in words of 16 bits.
+#[derive(Clone, Copy)]
+pub struct Words<'a>(pub &'a [u16]);
+
+impl Numbers for Words<'_> {
+    ghost numbers = { λ words. ok words.0.now };
+
+    fn count(&self) -> Result<usize, Refusal> {
+        Ok(self.0.len())
+    }
+
+    fn number(&self, k: usize) -> u16 {
+        self.0[k]
+    }
+}
+
+// Numbers in bytes, two each, the most significant first; an odd byte is a list that ends inside one.
+#[derive(Clone, Copy)]
+pub struct Bytes<'a>(pub &'a [u8]);
+
+impl Numbers for Bytes<'_> {
+    ghost numbers = { λ bytes. numbers_in bytes.0.now };
+
+    fn count(&self) -> Result<usize, Refusal> {
+        if self.0.len() % 2 != 0 {
+            return Err(Refusal::Sizes);
+        }
+        Ok(self.0.len() / 2)
+    }
+
+    fn number(&self, k: usize) -> u16 {
+        u16::from(self.0[2 * k]) * 256 + u16::from(self.0[2 * k + 1])
+    }
 }
 
 // Puts one range into the arrays, if it may stand: it sits on an arrow, its cell is `from` or more, it does not start at 0 and is not upside down.
@@ -31,143 +117,84 @@ fn take_range(
     marks: &[u8; 1024],
     from: usize,
     cell: usize,
-    least: usize,
-    most: usize,
+    least: u16,
+    most: u16,
     lowest: &mut [u16; 1024],
     highest: &mut [u16; 1024],
-) -> bool
-    requires { (least < 65536) × (most < 65536) }
-    ensures { (on : ℕ → Bool) → MarkedAll marks.now on
-        → Taken (range_test on from (range_at cell least most)) cell least most lowest.old highest.old result lowest.new highest.new }
+) -> Result<(), Refusal>
+    ensures { Agrees (unless (range_test (marked marks.now) from (range_at cell least most)) 22)
+        (λ _ _. (lowest.new ≡ set lowest.old cell least) × (highest.new ≡ set highest.old cell most)) result }
 {
     if 1024 <= cell {
-        return false;
+        return Err(Refusal::Sizes);
     }
-    if marks[cell] == 0 {
-        return false;
+    if marks[cell] != 1 {
+        return Err(Refusal::Sizes);
     }
     if cell < from {
-        return false;
+        return Err(Refusal::Sizes);
     }
     if least == 0 {
-        return false;
+        return Err(Refusal::Sizes);
     }
     if most < least {
-        return false;
+        return Err(Refusal::Sizes);
     }
-    lowest[cell] = least as u16;
-    highest[cell] = most as u16;
-    true
+    lowest[cell] = least;
+    highest[cell] = most;
+    Ok(())
 }
 
 // Reads the ranges in the numbers, three numbers each, up to the first that may not stand.
-fn take_numbers<'a>(
-    numbers: &'a [u16],
-    marks: &'a [u8; 1024],
+fn take_ranges<N: Numbers>(
+    numbers: &N,
+    marks: &[u8; 1024],
     lowest: &mut [u16; 1024],
     highest: &mut [u16; 1024],
-) -> Answer
+) -> Result<(), Refusal>
     requires { (lowest.old ≡ replicate 1024 0) × (highest.old ≡ replicate 1024 0) }
-    ensures { (on : ℕ → Bool) → MarkedAll marks.now on
-        → SizesRead (ranges_from on 0 numbers.now) lowest.new highest.new result }
+    ensures { Agrees (ranges_said (marked marks.now) (N.numbers numbers.now)) (λ rs _. (lowest.new ≡ lowest_of rs) × (highest.new ≡ highest_of rs)) result }
 {
+    let count = numbers.count()?;
     let mut from = 0;
-    let mut at = 0;
-    while at + 2 < numbers.len() {
-        let cell = grid::wide(numbers[at]);
-        let least = grid::wide(numbers[at + 1]);
-        let most = grid::wide(numbers[at + 2]);
-        if !take_range(marks, from, cell, least, most, lowest, highest) {
-            return Answer::Refused(22);
-        }
+    for k in 0..count / 3 {
+        let cell = usize::from(numbers.number(3 * k));
+        take_range(
+            marks,
+            from,
+            cell,
+            numbers.number(3 * k + 1),
+            numbers.number(3 * k + 2),
+            lowest,
+            highest,
+        )?;
         from = cell + 1;
-        at += 3;
     }
-    if at < numbers.len() {
-        return Answer::Refused(22);
+    if count % 3 != 0 {
+        return Err(Refusal::Sizes);
     }
-    Answer::Done
+    Ok(())
 }
 
-// The number in two bytes, the most significant first.
-fn word(high: u8, low: u8) -> usize
-    ensures { (result ≡ high * 256 + low) × (result < 65536) }
-{
-    grid::byte(high) * 256 + grid::byte(low)
-}
-
-// Reads the ranges in the bytes, six bytes each, up to the first that may not stand.
-fn take_bytes<'a>(
-    bytes: &'a [u8],
-    marks: &'a [u8; 1024],
-    lowest: &mut [u16; 1024],
-    highest: &mut [u16; 1024],
-) -> Answer
-    requires { (lowest.old ≡ replicate 1024 0) × (highest.old ≡ replicate 1024 0) }
-    ensures { (on : ℕ → Bool) → MarkedAll marks.now on
-        → SizesRead (ranges_in on 0 bytes.now) lowest.new highest.new result }
-{
-    let mut from = 0;
-    let mut at = 0;
-    while at + 5 < bytes.len() {
-        let cell = word(bytes[at], bytes[at + 1]);
-        let least = word(bytes[at + 2], bytes[at + 3]);
-        let most = word(bytes[at + 4], bytes[at + 5]);
-        if !take_range(marks, from, cell, least, most, lowest, highest) {
-            return Answer::Refused(22);
-        }
-        from = cell + 1;
-        at += 6;
-    }
-    if at < bytes.len() {
-        return Answer::Refused(22);
-    }
-    Answer::Done
-}
-
-// Reads the sizes of a puzzle into the arrays, which are empty before: cell, lowest and highest for each, cells rising. Refused: 22 a list that
+// Reads the sizes of a puzzle into the arrays, which are empty before: cell, lowest and highest for each, cells rising. Refused: a list that
 // ends inside a range, or a range that starts at 0, is upside down, sits off an arrow or doesn't rise above the cell before it.
-pub fn read_sizes<'a>(
-    numbers: &'a [u16],
-    arrows: &'a [u16; 1024],
-    ends: &'a [u16; 1024],
-    count: usize,
+pub fn read<N: Numbers>(
+    problem: &Problem,
+    numbers: &N,
     lowest: &mut [u16; 1024],
     highest: &mut [u16; 1024],
-) -> Answer
-    requires { ((p : Puzzle) × Drawn p arrows.now ends.now count) × (lowest.old ≡ replicate 1024 0) × (highest.old ≡ replicate 1024 0) }
-    ensures { (p : Puzzle) → Drawn p arrows.now ends.now count
-        → SizesRead (sizes_of p numbers.now) lowest.new highest.new result }
+) -> Result<(), Refusal>
+    requires { ((p : Puzzle) × Keeps p problem.now) × (lowest.old ≡ replicate 1024 0) × (highest.old ≡ replicate 1024 0) }
+    ensures { (p : Puzzle) → Keeps p problem.now
+        → Agrees (sizes_said p (N.numbers numbers.now)) (λ rs _. (lowest.new ≡ lowest_of rs) × (highest.new ≡ highest_of rs)) result }
 {
-    if numbers.len() == 0 {
-        return Answer::Done;
+    if numbers.count()? == 0 {
+        return Ok(());
     }
-    let mut marks = [0u8; 1024];
-    mark_arrows(arrows, ends, count, &mut marks);
-    take_numbers(numbers, &marks, lowest, highest)
+    let mut marks = [0; 1024];
+    groups::mark_arrow_cells(&problem.arrows, problem.arrow_total(), &mut marks);
+    take_ranges(numbers, &marks, lowest, highest)
 }
-
-// The same where the numbers are bytes, two each, the most significant first; an odd byte is a list that ends inside a range.
-pub fn read_size_bytes<'a>(
-    bytes: &'a [u8],
-    arrows: &'a [u16; 1024],
-    ends: &'a [u16; 1024],
-    count: usize,
-    lowest: &mut [u16; 1024],
-    highest: &mut [u16; 1024],
-) -> Answer
-    requires { ((p : Puzzle) × Drawn p arrows.now ends.now count) × (lowest.old ≡ replicate 1024 0) × (highest.old ≡ replicate 1024 0) }
-    ensures { (p : Puzzle) → Drawn p arrows.now ends.now count
-        → SizesRead (sizes_in p bytes.now) lowest.new highest.new result }
-{
-    if bytes.len() == 0 {
-        return Answer::Done;
-    }
-    let mut marks = [0u8; 1024];
-    mark_arrows(arrows, ends, count, &mut marks);
-    take_bytes(bytes, &marks, lowest, highest)
-}
-
 // ---- the test of the arrays
 
 // Whether a cell with this mark may have these sizes: both are 0, or it is marked and they are not upside down.
@@ -183,37 +210,71 @@ fn sized(mark: u8, low: u16, high: u16) -> bool
     mark == 1
 }
 
-// Whether each cell may have its sizes.
-fn all_sized<'a>(marks: &'a [u8; 1024], lowest: &'a [u16; 1024], highest: &'a [u16; 1024]) -> bool
-    ensures { (on : ℕ → Bool) → MarkedAll marks.now on → result ≡ all (sized_cell on lowest.now highest.now) (upto 1024) }
+// Whether each cell may have its sizes. A pass without a way out is done many places at a time.
+fn all_sized(marks: &[u8; 1024], lowest: &[u16; 1024], highest: &[u16; 1024]) -> bool
+    ensures { result ≡ all (sized_cell (marked marks.now) lowest.now highest.now) (upto 1024) }
 {
     let mut good = true;
-    let mut i = 0;
-    while i < 1024 {
+    for i in 0..1024 {
         if !sized(marks[i], lowest[i], highest[i]) {
             good = false;
         }
-        i += 1;
     }
     good
 }
 
 // Whether the arrays keep sizes that may stand on a puzzle. Where no cell has a lowest size, as on a leaf without sizes, its arrows are not asked for.
-pub fn good_sizes<'a>(
-    arrows: &'a [u16; 1024],
-    ends: &'a [u16; 1024],
-    count: usize,
-    lowest: &'a [u16; 1024],
-    highest: &'a [u16; 1024],
-) -> bool
-    requires { ((p : Puzzle) × Drawn p arrows.now ends.now count) × (length lowest.now ≡ 1024) × (length highest.now ≡ 1024) }
-    ensures { (p : Puzzle) → Drawn p arrows.now ends.now count
-        → result ≡ all (sized_cell (on_arrow p.arrows) lowest.now highest.now) (upto 1024) }
+pub fn may_stand(problem: &Problem, lowest: &[u16; 1024], highest: &[u16; 1024]) -> bool
+    requires { (p : Puzzle) × Keeps p problem.now }
+    ensures { (p : Puzzle) → Keeps p problem.now → result ≡ all (sized_cell (on_arrow p.arrows) lowest.now highest.now) (upto 1024) }
 {
     if form::zeros(lowest, 0) {
         return form::zeros(highest, 0);
     }
+    let mut marks = [0; 1024];
+    groups::mark_arrow_cells(&problem.arrows, problem.arrow_total(), &mut marks);
+    all_sized(&marks, lowest, highest)
+}
+
+// ---- the same with the arrows of a puzzle by their arrays
+
+// Marks the arrow cells of a puzzle.
+fn mark_arrows<'a>(
+    arrows: &'a [u16; 1024],
+    ends: &'a [u16; 1024],
+    count: usize,
+    marks: &mut [u8; 1024],
+)
+    requires { (p : Puzzle) × Drawn p arrows.now ends.now count }
+    ensures { (p : Puzzle) → Drawn p arrows.now ends.now count → MarkedAll marks.new (on_arrow p.arrows) }
+{
+    groups::mark_arrow_cells(arrows, record::arrow_total(ends, count), marks);
+}
+
+// What was read, as an answer.
+fn answer(read: Result<(), Refusal>) -> Answer
+    ensures { result ≡ answer_of read }
+{
+    match read {
+        Ok(()) => Answer::Done,
+        Err(refusal) => Answer::Refused(refusal.number()),
+    }
+}
+
+// Reads the sizes in bytes, as `read` does, where the arrows of the puzzle are lent by their arrays.
+pub fn read_size_bytes<'a>(
+    bytes: &'a [u8],
+    arrows: &'a [u16; 1024],
+    ends: &'a [u16; 1024],
+    count: usize,
+    lowest: &mut [u16; 1024],
+    highest: &mut [u16; 1024],
+) -> Answer
+    requires { ((p : Puzzle) × Drawn p arrows.now ends.now count) × (lowest.old ≡ replicate 1024 0) × (highest.old ≡ replicate 1024 0) }
+    ensures { (p : Puzzle) → Drawn p arrows.now ends.now count
+        → SizesRead (sizes_in p bytes.now) lowest.new highest.new result }
+{
     let mut marks = [0u8; 1024];
     mark_arrows(arrows, ends, count, &mut marks);
-    all_sized(&marks, lowest, highest)
+    answer(take_ranges(&Bytes(bytes), &marks, lowest, highest))
 }

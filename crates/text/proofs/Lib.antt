@@ -1,8 +1,7 @@
 pub mod Writing
-pub mod TextLaws
 pub mod DigitLaws
-pub mod Digits
-pub mod Lines
+pub mod ReadLaws
+pub mod PushLaws
+pub mod LiteralLaws
 pub mod Codes
 pub mod ToldLaws
-pub mod ReadLaws

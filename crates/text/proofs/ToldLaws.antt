@@ -1,17 +1,19 @@
 -- The text for what the host call says, written part by part.
 -- Assumes nothing.
-use Prim.Native.Nat.{ℕ, ◌+◌, ◌*◌, ◌≤◌}
+use Prim.Native.Nat.{ℕ, zero, suc, ◌+◌, ◌*◌, ◌≤◌, ◌<◌}
 use native.Mathlib.Omega.{arith}
-use mathlib.Core.Path.{◌≡◌, refl}
+use mathlib.Core.Path.{◌≡◌, refl, subst}
 use mathlib.Core.List.{List, [], ◌∷◌, ◌++◌}
-use lib.ListN.{length, length-append}
-use Rattle.text.specs.Text.{Written, digits_within, digits, line, two_words, none_text, reason_text, refused_text}
-use Rattle.text.specs.Told.{told_text, count_of}
-use Rattle.text.specs.declared.Told.{Told}
-use Rattle.text.specs.declared.Told.TheVariants.{Refused, Nothing, Literals}
-use Rattle.text.proofs.Writing.{write_then}
-use Rattle.text.proofs.TextLaws.{digits_length}
-use Rattle.text.proofs.Lines.{lines_of, room_behind}
+use lib.ListN.{length, take, length-append}
+use Rattle.std.specs.Prelude.{Ok, Err, IfOk, IfErr}
+use Rattle.std.specs.declared.result.Result.{Result}
+use Rattle.std.specs.Fmt.{decimal}
+use Rattle.grid.specs.Lists.{flat_map}
+use Rattle.text.specs.Text.{line, two_words, none_text, reason_text, refused_text, literal_line, literals_in}
+use Rattle.text.specs.Told.{told_text}
+use Rattle.text.specs.declared.Text.{Text}
+use Rattle.text.specs.Pushed.{Pushed}
+use Rattle.text.proofs.PushLaws.{push_then, digits_decimal, digits_short}
 
 -- the words with their space
 abbrev pub reason_word : List ℕ
@@ -20,33 +22,39 @@ reason_word = 114 ∷ 101 ∷ 97 ∷ 115 ∷ 111 ∷ 110 ∷ 32 ∷ []
 abbrev pub refused_word : List ℕ
 refused_word = 114 ∷ 101 ∷ 102 ∷ 117 ∷ 115 ∷ 101 ∷ 100 ∷ 32 ∷ []
 
-module _ (n : ℕ) {o o₁ : List ℕ} {m : ℕ} (few : n ≤ 3073) (room : 21523 ≤ length o) (w : Written o 0 ((reason_word ++ digits n) ++ (10 ∷ [])) o₁ m) where
-  head_length : length ((reason_word ++ digits n) ++ (10 ∷ [])) ≤ 12
-  unfolding digits
-  head_length = omega (arith, length-append (reason_word ++ digits_within 4 n) (10 ∷ []), length-append reason_word (digits_within 4 n), digits_length 4 n)
+text_is : (n : ℕ) (found : List ℕ) → n ≤ 3073 → (n ≡ 0 → ⊥)
+    → told_text (Ok n) found ≡ (reason_word ++ (decimal n ++ (10 ∷ []))) ++ flat_map literal_line (literals_in (take (2 * n) found))
+unfolding told_text line two_words reason_text
+text_is zero found few some = absurd (some refl)
+text_is (suc n) found few some = rw (digits_decimal (suc n) (omega (arith, few))) refl
+
+module _ {t u : Text} {told : Result ℕ ℕ} (found : List ℕ) where
+  pub refused_told : (k : ℕ) → told ≡ Err k → k < 10000 → Pushed t u (refused_word ++ (decimal k ++ (10 ∷ []))) → Pushed t u (told_text told found)
+  unfolding told_text line two_words refused_text
+  refused_told k e h p = rw (e, digits_decimal k h) p
+
+  pub none_told : (n : ℕ) → told ≡ Ok n → n ≡ 0 → Pushed t u (110 ∷ 111 ∷ 110 ∷ 101 ∷ 10 ∷ []) → Pushed t u (told_text told found)
+  unfolding told_text line none_text
+  none_told n e z p = rw (e, z) p
+
+module _ {t u : Text} (n : ℕ) (few : n ≤ 3073) (p : Pushed t u (reason_word ++ (decimal n ++ (10 ∷ [])))) (room : t.len + 21523 ≤ length t.out.now) where
+  head_short : length (reason_word ++ (decimal n ++ (10 ∷ []))) ≤ 12
+  head_short = simp length-append (omega (arith, digits_short n (omega (arith, few))))
 
   -- there is room for the lines
-  pub lines_room : m + 7 * n ≤ length o₁
-  lines_room = room_behind (7 * n) w (omega (arith, head_length))
+  pub lines_room : u.len + 7 * n ≤ length u.out.now
+  lines_room = omega (arith, room, few, head_short, p.long, p.written.behind)
 
   -- the head and the lines
-  pub reason_Written : {o₂ : List ℕ} {r : ℕ} (found : List ℕ) → Written o₁ m (lines_of found n) o₂ r → Written o 0 (told_text (Literals n) found) o₂ r
-  unfolding told_text line two_words reason_text
-  reason_Written found v = write_then w v (omega (arith, head_length))
+  pub reason_told : {v : Text} {told : Result ℕ ℕ} (found : List ℕ) → told ≡ Ok n → (n ≡ 0 → ⊥)
+      → Pushed u v (flat_map literal_line (literals_in (take (2 * n) found))) → Pushed t v (told_text told found)
+  reason_told {v} found e some q =
+      rw (e, text_is n found few some) (push_then p q (omega (arith, room, head_short)))
 
-module _ {o o' : List ℕ} {r : ℕ} {t : Told} (found : List ℕ) where
-  pub refused_told : (k : ℕ) → t ≡ Refused k → Written o 0 ((refused_word ++ digits k) ++ (10 ∷ [])) o' r → Written o 0 (told_text t found) o' r
-  unfolding told_text line two_words refused_text
-  refused_told k e w = rw e w
+-- what is asked of a count and of a number
+pub count_few : {told : Result ℕ ℕ} (found : List ℕ) (n : ℕ) → told ≡ Ok n
+    → IfOk told (λ m. (m ≤ 3073) × (2 * m ≤ length found)) → (n ≤ 3073) × (2 * n ≤ length found)
+count_few {told} found n e h = subst (λ (r : Result ℕ ℕ). IfOk r (λ m. (m ≤ 3073) × (2 * m ≤ length found))) e h
 
-  pub nothing_told : t ≡ Nothing → Written o 0 (110 ∷ 111 ∷ 110 ∷ 101 ∷ 10 ∷ []) o' r → Written o 0 (told_text t found) o' r
-  unfolding told_text line none_text
-  nothing_told e w = rw e w
-
-  pub reason_told : (n : ℕ) → t ≡ Literals n → Written o 0 (told_text (Literals n) found) o' r → Written o 0 (told_text t found) o' r
-  reason_told n e w = rw e w
-
--- how many are told of
-pub told_count : (t : Told) (n : ℕ) → t ≡ Literals n → count_of t ≡ n
-unfolding count_of
-told_count t n e = rw e refl
+pub number_small : {told : Result ℕ ℕ} (k : ℕ) → told ≡ Err k → IfErr told (λ j. j < 10000) → k < 10000
+number_small k e h = subst (λ (r : Result ℕ ℕ). IfErr r (λ j. j < 10000)) e h

@@ -1,12 +1,11 @@
 -- Texts written to a list one behind the other.
 -- Assumes nothing.
-use Prim.Native.Nat.{ℕ, suc, ◌+◌, ◌≤◌, ◌<◌}
+use Prim.Native.Nat.{ℕ, ◌+◌, ◌≤◌}
 use native.Mathlib.Omega.{arith}
-use native.Mathlib.Numerals.{add-one}
 use mathlib.Core.Path.{◌≡◌, sym, ap, ◌∙◌}
-use mathlib.Core.List.{List, [], ◌∷◌, ◌++◌, append_assoc}
-use lib.ListN.{length, get_or, set, take, drop, length-append, length-drop, take-append-drop}
-use lib.Seq.{length-take-le, set_split, take_at, drop-append-add, drop-drop, take-suc, take-append_seam}
+use mathlib.Core.List.{List, [], ◌++◌, append_assoc}
+use lib.ListN.{length, take, drop, length-append, length-drop, take-append-drop}
+use lib.Seq.{length-take-le, take_at, drop-append-add, drop-drop, take-append_seam}
 use Rattle.text.specs.Text.{written, Written}
 
 -- no text changes nothing
@@ -15,13 +14,6 @@ unfolding written
 written_none out at =
     let z : at + 0 ≡ at = omega arith in
     rw z (take-append-drop at out)
-
--- one byte
-pub written_one : (out : List ℕ) (at b : ℕ) → at < length out → set out at b ≡ written at (b ∷ []) out
-unfolding written
-written_one out at b h =
-    let e : suc at ≡ at + 1 = omega arith in
-    set_split out at b h ∙ ap (λ (n : ℕ). take at out ++ (b ∷ drop n out)) e
 
 -- the list stays as long as it was
 pub written-length : (out : List ℕ) (at : ℕ) (a : List ℕ) → at + length a ≤ length out → length (written at a out) ≡ length out
@@ -41,17 +33,6 @@ written_more out at a b h =
     let z : at + length (a ++ b) ≡ at + length a + length b = omega (arith, length-append a b) in
     rw (← append_assoc (take at out) a (drop (at + length a) out), take_at (take at out ++ a) (drop (at + length a) out) (at + length a) f, d, z)
     (simp append_assoc)
-
--- a text byte by byte
-pub text_more : (out text : List ℕ) (at i : ℕ) → i < length text → at + length text ≤ length out
-    → set (written at (take i text) out) (at + i) (get_or text i 0) ≡ written at (take (i + 1) text) out
-text_more out text at i h r =
-    let e : at + length (take i text) ≡ at + i = omega (arith, length-take-le i text (omega arith)) in
-    let long : length (written at (take i text) out) ≡ length out = written-length out at (take i text) (omega arith) in
-    written_one (written at (take i text) out) (at + i) (get_or text i 0) (omega arith)
-    ∙ ap (λ (n : ℕ). written n (get_or text i 0 ∷ []) (written at (take i text) out)) (sym e)
-    ∙ written_more out at (take i text) (get_or text i 0 ∷ []) (omega arith)
-    ∙ ap (λ (l : List ℕ). written at l out) (sym (take-suc text i 0 h) ∙ ap (λ (n : ℕ). take n text) (sym (add-one i)))
 
 module _ {o o' a : List ℕ} {at m : ℕ} where
   -- what is lent stays as long as it was
@@ -75,10 +56,6 @@ module _ {o o' a : List ℕ} {at m : ℕ} where
 -- nothing is written
 pub write_none : (o : List ℕ) (at : ℕ) → Written o at [] o at
 write_none o at = record { behind = omega arith; whole = sym (written_none o at) }
-
--- the list stays as long while a text is written byte by byte
-pub text_length : (out text : List ℕ) (at i : ℕ) → i ≤ length text → at + length text ≤ length out → length (written at (take i text) out) ≡ length out
-text_length out text at i h r = written-length out at (take i text) (omega (arith, length-take-le i text h))
 
 -- the bytes before the place behind a text that begins the list are the text
 pub text_taken : {o o' text : List ℕ} {r : ℕ} → Written o 0 text o' r → take r o' ≡ text

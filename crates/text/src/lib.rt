@@ -1,14 +1,15 @@
 // The text that the program `reason` prints for what the host call says: numbers, words and lines; and how its input is read. The replaying
-// programs read their lists, and write their numbers and words, by the same functions.
+// programs read their lists by the same functions.
 #![tactic(auto)]
 
-ghost use Rattle.std.specs.Prelude.{◌≡◌, ◌∷◌, ◌++◌, [], ◌+◌, ◌*◌, ◌%◌, ◌≤◌, ◌<◌, length, take, IfOk, IfSome};
+ghost use Rattle.std.specs.Prelude.{◌≡◌, ◌∷◌, ◌++◌, [], ◌+◌, ◌*◌, ◌/◌, ◌≤◌, ◌<◌, length, take, get_or, decimal, IfOk, IfErr, IfSome};
 ghost use Rattle.std.specs.Io.KnownBytes.{Consumes, IsAtEnd};
 ghost use Rattle.grid.specs.Lists.{flat_map};
-ghost use Rattle.std.specs.Int.Signed.{mag};
-ghost use Rattle.text.specs.Told.{told_by, count_of, told_text};
-ghost use Rattle.text.specs.Text.{Written, digits_within, digits, literal_in, literals_in, literal_line};
+ghost use Rattle.text.specs.Told.{told_by, told_text};
+ghost use Rattle.text.specs.Text.{literal_in, literals_in, literal_line};
+ghost use Rattle.text.specs.Pushed.{Pushed};
 
+use itoa::Buffer;
 use std::io;
 use std::io::{ErrorKind, Read};
 
@@ -37,6 +38,7 @@ pub fn read_full<R: Read>(input: &mut R, room: &mut [u8]) -> io::Result<usize>
     ensures read { IfOk result (λ n. IfSome (R.remaining input.old) (λ bytes. take n room.new ≡ take (length room.old) bytes)) }
 {
     let mut n = 0;
+    // A `while`: how far a turn gets is the input's own, so that n is no index to be counted.
     while n < room.len() {
         let count = read_once(input, &mut room[n..])?;
         if count == 0 {
@@ -47,128 +49,103 @@ pub fn read_full<R: Read>(input: &mut R, room: &mut [u8]) -> io::Result<usize>
     Ok(n)
 }
 
-// Writes one byte, and returns the place behind it.
-fn put(out: &mut [u8], at: usize, byte: u8) -> usize
-    requires { at < length out.old }
-    ensures { Written out.old at (byte ∷ []) out.new result }
+// What an input has, as far as there is room for it.
+pub fn read_into<R: Read + Drop, const N: usize>(
+    mut input: R,
+    room: &mut [u8; N],
+) -> io::Result<&[u8]>
+    ensures { IfOk result (λ read. IfSome (R.remaining input) (λ bytes. read.now ≡ take N bytes)) }
 {
-    out[at] = byte;
-    at + 1
+    let n = read_full(&mut input, room)?;
+    Ok(&room[..n])
 }
 
-// Writes the bytes of a text, and returns the place behind them.
-pub fn write_text(out: &mut [u8], at: usize, text: &[u8]) -> usize
-    requires { at + length text.now ≤ length out.old }
-    ensures { Written out.old at text.now out.new result }
-{
-    let mut i = 0;
-    while i < text.len() {
-        out[at + i] = text[i];
-        i += 1;
+// Text in the front of a lent buffer, and its length. It is no `Display`: that says what is written where it is `Ok`, and never that it is, and
+// `answer::respond`, which has to write all of its text, could not be proved by it.
+#[derive(Drop)]
+pub struct Text<'a> {
+    pub out: &'a mut [u8],
+    pub len: usize,
+}
+
+impl Text<'_> {
+    // Writes bytes behind the text.
+    pub fn push(&mut self, bytes: &[u8])
+        requires { self.old.len + length bytes.now ≤ length self.old.out.now }
+        ensures { Pushed self.old self.new bytes.now }
+    {
+        let end = self.len + bytes.len();
+        self.out[self.len..end].copy_from_slice(bytes);
+        self.len = end;
     }
-    at + i
-}
 
-// The character of the last decimal digit of n.
-fn last_digit(n: usize) -> u8
-    ensures { result ≡ 48 + n % 10 }
-{
-    48 + (n % 10) as u8
-}
-
-// Writes the decimal digits of n, of which there are at most `places`, and returns the place behind them.
-pub fn write_digits(out: &mut [u8], at: usize, n: usize, places: usize) -> usize
-    requires { at + places ≤ length out.old }
-    ensures { Written out.old at (digits_within places n) out.new result }
-{
-    if places == 0 {
-        return at;
+    // Writes a number behind it, in decimal digits.
+    pub fn push_number(&mut self, n: usize)
+        requires { self.old.len + length (decimal n) ≤ length self.old.out.now }
+        ensures { Pushed self.old self.new (decimal n) }
+    {
+        let mut digits = Buffer::new();
+        self.push(digits.format(n).as_bytes());
     }
-    if n < 10 {
-        return put(out, at, last_digit(n));
+
+    // Writes a line of a word, with its space, and a number.
+    fn push_line(&mut self, word: &[u8], n: usize)
+        requires { (self.old.len + length word.now + 5 ≤ length self.old.out.now) × (n < 10000) }
+        ensures { Pushed self.old self.new (word.now ++ (decimal n ++ (10 ∷ []))) }
+    {
+        self.push(word);
+        self.push_number(n);
+        self.push(b"\n");
     }
-    let end = write_digits(out, at, n / 10, places - 1);
-    put(out, end, last_digit(n))
-}
 
-// Writes a line of a word, with its space, and a number, and returns the place behind it.
-fn write_head(out: &mut [u8], word: &[u8], n: usize) -> usize
-    requires { length word.now + 5 ≤ length out.old }
-    ensures { Written out.old 0 ((word.now ++ digits n) ++ (10 ∷ [])) out.new result }
-{
-    let number = write_text(out, 0, word);
-    let newline = write_digits(out, number, n, 4);
-    put(out, newline, 10)
-}
-
-// Writes the line of the literal in two bytes, and returns the place behind it.
-fn write_literal(out: &mut [u8], at: usize, high: u8, low: u8) -> usize
-    requires { at + 7 ≤ length out.old }
-    ensures { Written out.old at (literal_line (literal_in high low)) out.new result }
-{
-    let index = (grid::byte(high) * 256 + grid::byte(low)) % 1024;
-    let value = grid::byte(high) / 128;
-    let space = write_digits(out, at, index, 4);
-    let digit = put(out, space, 32);
-    let newline = put(out, digit, last_digit(value));
-    put(out, newline, 10)
-}
-
-// Writes a line for each of the first `count` literals in the bytes, and returns the place behind them.
-fn write_literals(out: &mut [u8], at: usize, found: &[u8], count: usize) -> usize
-    requires { (2 * count ≤ length found.now) × (at + 7 * count ≤ length out.old) }
-    ensures { Written out.old at (flat_map literal_line (literals_in (take (2 * count) found.now))) out.new result }
-{
-    let mut end = at;
-    let mut k = 0;
-    while k < count {
-        let high = 2 * k;
-        end = write_literal(out, end, found[high], found[high + 1]);
-        k += 1;
+    // Writes the line of the literal in two bytes, most significant first: its index, then its value.
+    fn push_literal(&mut self, bytes: &[u8; 2])
+        requires { self.old.len + 7 ≤ length self.old.out.now }
+        ensures written { Pushed self.old self.new (literal_line (literal_in (get_or bytes.now 0 0) (get_or bytes.now 1 0))) }
+        ensures short { self.new.len ≤ self.old.len + 7 }
+    {
+        let literal = usize::from(u16::from_be_bytes(*bytes));
+        self.push_number(literal % 1024);
+        self.push(b" ");
+        self.push_number(literal / 32768);
+        self.push(b"\n");
     }
-    end
+
+    // Writes a line for each of the literals in the bytes.
+    fn push_literals(&mut self, found: &[u8])
+        requires { self.old.len + 7 * (length found.now / 2) ≤ length self.old.out.now }
+        ensures { Pushed self.old self.new (flat_map literal_line (literals_in found.now)) }
+    {
+        let (literals, _) = found.as_chunks::<2>();
+        for literal in literals {
+            self.push_literal(literal);
+        }
+    }
+
+    // Writes what the host call says, with the bytes that it left.
+    pub fn push_told(&mut self, told: Result<usize, usize>, found: &[u8])
+        requires count { IfOk told (λ n. (n ≤ 3073) × (2 * n ≤ length found.now)) }
+        requires number { IfErr told (λ k. k < 10000) }
+        requires room { self.old.len + 21523 ≤ length self.old.out.now }
+        ensures { Pushed self.old self.new (told_text told found.now) }
+    {
+        match told {
+            Err(number) => self.push_line(b"refused ", number),
+            Ok(0) => self.push(b"none\n"),
+            Ok(count) => {
+                self.push_line(b"reason ", count);
+                self.push_literals(&found[..2 * count]);
+            }
+        }
+    }
 }
 
-// What the host call says by the number that it returns.
-#[derive(Clone, Copy)]
-pub enum Told {
-    Refused(usize),
-    Nothing,
-    Literals(usize),
-}
-
-// Reads the number that the host call returned.
-pub fn read_code(code: i32) -> Told
-    requires { mag code < 4096 }
+// What the number says that the host call returned: how many literals it found, or the number of a refusal.
+pub fn read_code(code: i32) -> Result<usize, usize>
     ensures { result ≡ told_by code }
 {
-    if code < 0 {
-        return Told::Refused((-code) as usize);
-    }
-    let count = code as usize;
-    if count == 0 {
-        return Told::Nothing;
-    }
-    Told::Literals(count)
-}
-
-// Writes the count and the lines of a reason whose literals stand in the first of the bytes found; where the text ends.
-fn write_reason(out: &mut [u8], found: &[u8], count: usize) -> usize
-    requires { (count ≤ 3073) × (2 * count ≤ length found.now) × (21523 ≤ length out.old) }
-    ensures { Written out.old 0 (told_text (Told.Literals count) found.now) out.new result }
-{
-    let lines = write_head(out, b"reason ", count);
-    write_literals(out, lines, found, count)
-}
-
-// Writes the text for what the host call says, with the bytes that it left; where it ends.
-pub fn write_told(out: &mut [u8], told: Told, found: &[u8]) -> usize
-    requires { (count_of told ≤ 3073) × (6146 ≤ length found.now) × (21523 ≤ length out.old) }
-    ensures { Written out.old 0 (told_text told found.now) out.new result }
-{
-    match told {
-        Told::Refused(k) => write_head(out, b"refused ", k),
-        Told::Nothing => write_text(out, 0, b"none\n"),
-        Told::Literals(count) => write_reason(out, found, count),
+    match usize::try_from(code) {
+        Ok(count) => Ok(count),
+        Err(_) => Err(code.unsigned_abs() as usize),
     }
 }

@@ -4,10 +4,8 @@ use Prim.Native.Nat.{ℕ, zero, suc, ◌+◌, ◌≤◌, ◌<◌}
 use native.Mathlib.Omega.{arith}
 use native.Mathlib.Numerals.{add-one}
 use mathlib.Core.Path.{◌≡◌, refl, sym, ap, subst, ◌∙◌}
-use mathlib.Core.Bool.{true, false}
 use mathlib.Core.List.{List, [], ◌∷◌, map, map-id}
 use lib.Dec.{leb, ltb}
-use lib.IntN.{pos, neg_ℤ}
 use lib.ListN.{length, get_or}
 use lib.Seq.{ext_get_or}
 use borrow.Author.Tests.{le-leb, leb-true, lt-ltb, ltb-true}
@@ -15,13 +13,11 @@ use Rattle.grid.proofs.ListLaws.{So-false, mem_at}
 use Rattle.fields.specs.Fields.{ok, refused, ◌>>=◌, unless}
 use Rattle.record.specs.Record.{Puzzle, read_record, Bytes}
 use Rattle.record.specs.Valid.{Valid}
-use Rattle.exported.specs.Written.{written, output_with}
-use Rattle.writer.specs.Wrote.{Recorded}
-use Rattle.turn.specs.Turn.{stay, quarter, flip_if, carried, turned_by, turned, turn_record}
+use Rattle.turn.specs.Turn.{stay, quarter, flip_if, carried, turned_by, turn_record}
 use Rattle.turn.specs.Inside.{step_of, spun}
+use Rattle.turn.specs.declared.Move.TheVariants.{Quarter, Flip}
 use Rattle.turn.proofs.TurnLaws.{quarter-Turns, flip_if-Turns}
 use Rattle.turn.proofs.PuzzleLaws.{Valid-by, carried_at, carried-length}
-use Rattle.turn.proofs.BackLaws.{ok_turn}
 
 -- staying changes nothing
 lines_same : (as' : List (List ℕ)) → map (map (λ i. i)) as' ≡ as'
@@ -38,8 +34,8 @@ stay_same p v = build (carried (stay p.grid) p.given) p.given (map (map (λ i. i
     codes = ext_get_or 0 (carried (stay p.grid) p.given) p.given (carried-length (stay p.grid) p.given ∙ sym v.total)
         λ i h. carried_at (stay p.grid) p.given i (omega (arith, carried-length (stay p.grid) p.given))
 
-pub flip_taken : (k : ℕ) (p : Puzzle) → 4 ≤ k → turned_by (step_of false p.grid) p ≡ turned_by (flip_if (leb 4 k) p.grid) p
-unfolding step_of flip_if
+pub flip_taken : (k : ℕ) (p : Puzzle) → 4 ≤ k → turned_by (step_of Flip p.grid) p ≡ turned_by (flip_if (leb 4 k) p.grid) p
+unfolding flip_if
 flip_taken k p h = rw (le-leb 4 k h)
 
 pub flip_left : (k : ℕ) (p : Puzzle) → Valid p → k < 4 → p ≡ turned_by (flip_if (leb 4 k) p.grid) p
@@ -56,8 +52,8 @@ pub spun_none : (p : Puzzle) → p ≡ spun 0 p
 unfolding spun
 spun_none p = refl
 
-pub spun_more : (r : ℕ) (p : Puzzle) → turned_by (step_of true (spun r p).grid) (spun r p) ≡ spun (r + 1) p
-unfolding spun step_of
+pub spun_more : (r : ℕ) (p : Puzzle) → turned_by (step_of Quarter (spun r p).grid) (spun r p) ≡ spun (r + 1) p
+unfolding spun
 spun_more r p = ap (λ (k : ℕ). spun k p) (sym (add-one r))
 
 pub flipped_Valid : (k : ℕ) (p : Puzzle) → Valid p → Valid (turned_by (flip_if (leb 4 k) p.grid) p)
@@ -72,15 +68,6 @@ module _ (k n : ℕ) (s : List ℕ) where
   pub turn_15 : (p : Puzzle) → read_record s ≡ ok p → k ≤ 7 → n < length s → turn_record k n s ≡ refused 15
   unfolding turn_record ◌>>=◌ unless
   turn_15 p e l f = rw (e, lt-ltb k 8 (omega arith), So-false (leb (length s) n) (λ t. let z = leb-true (length s) n t in omega arith))
-
-  pub turn_done : (p : Puzzle) → read_record s ≡ ok p → k ≤ 7 → length s ≤ n → (old new : List ℕ) (r : ℕ)
-      → Recorded (turned k p) old new r → (pos r ≡ written (turn_record k n s)) × (new ≡ output_with (turn_record k n s) old)
-  unfolding written output_with
-  turn_done p e l f old new r w = rw (ok_turn k n s p e (omega arith) f) (ap pos w.count, w.whole)
-
-  pub turn_refusal : (f : ℕ) (old : List ℕ) → turn_record k n s ≡ refused f → (neg_ℤ (pos f) ≡ written (turn_record k n s)) × (old ≡ output_with (turn_record k n s) old)
-  unfolding written output_with
-  turn_refusal f old e = rw e (refl, refl)
 
 -- a slice holds bytes
 pub Bytes-of : (s : List ℕ) → ((k : ℕ) → get_or s k 0 < 256) → Bytes s

@@ -3,7 +3,6 @@
 use Prim.Native.Nat.{ℕ, ◌*◌}
 use native.Mathlib.Omega.{arith}
 use mathlib.Core.Path.{◌≡◌, sym, ap, subst, ◌∙◌}
-use mathlib.Core.Bool.{Bool, true, false}
 use mathlib.Core.List.{List, map}
 use lib.ListN.{length, get_or}
 use Rattle.grid.specs.Lists.{upto, array_of}
@@ -20,11 +19,12 @@ use Rattle.record.proofs.RecordLaws.{Valid-size}
 use Rattle.writer.proofs.ArrayLaws.{total, map_places, total_is, few}
 use Rattle.turn.specs.Turn.{Turn, turned_by}
 use Rattle.turn.specs.Inside.{step_of}
+use Rattle.turn.specs.declared.Move.{Move}
 use Rattle.turn.proofs.TurnLaws.{Sides-size}
 use Rattle.turn.proofs.StepLaws.{problem_turned}
 use Rattle.turn.proofs.CellLaws.{step_Turns}
 
-module _ (p : Puzzle) (v : Valid p) (b : Bool) where
+module _ (p : Puzzle) (v : Valid p) (b : Move) where
   abbrev m : Turn
   m = step_of b p.grid
 
@@ -48,11 +48,11 @@ module _ (p : Puzzle) (v : Valid p) (b : Bool) where
       ∙ ap (array_of 0) (map_places m.to (arrow_cells p.arrows))
 
 -- what a step makes of arrays
-pub record Stepped (b : Bool) (q : Problem) (cells arrows : List ℕ) : Type 0 where
+pub record Stepped (b : Move) (q : Problem) (cells arrows : List ℕ) : Type 0 where
   pub codes : cells ≡ array_of 0 (map (λ j. get_or q.cells ((step_of b (sized q.height q.width)).from j) 0) (upto (q.height * q.width)))
   pub line : arrows ≡ array_of 0 (map (λ t. (step_of b (sized q.height q.width)).to (get_or q.arrows t 0)) (upto (total q.ends q.count)))
 
-abbrev pub after_step : Bool → Problem → List ℕ → List ℕ → Problem
+abbrev pub after_step : Move → Problem → List ℕ → List ℕ → Problem
 after_step b q cells arrows = record {
   height = (step_of b (sized q.height q.width)).grid.height;
   width = (step_of b (sized q.height q.width)).grid.width;
@@ -62,7 +62,7 @@ after_step b q cells arrows = record {
   count = q.count;
 }
 
-module _ (p : Puzzle) (v : Valid p) (b : Bool) where
+module _ (p : Puzzle) (v : Valid p) (b : Move) where
   Stepped-of : (cells arrows : List ℕ) → Stepped b (problem_of p) cells arrows → after_step b (problem_of p) cells arrows ≡ problem_of (turned_by (step_of b p.grid) p)
   unfolding problem_of
   Stepped-of cells arrows s =
@@ -72,12 +72,3 @@ module _ (p : Puzzle) (v : Valid p) (b : Bool) where
 
   pub stepped : (q : Problem) → q ≡ problem_of p → (cells arrows : List ℕ) → Stepped b q cells arrows → after_step b q cells arrows ≡ problem_of (turned_by (step_of b p.grid) p)
   stepped q e = subst (λ x. (cells arrows : List ℕ) → Stepped b x cells arrows → after_step b x cells arrows ≡ problem_of (turned_by (step_of b p.grid) p)) (sym e) Stepped-of
-
-module _ (b : Bool) (q : Problem) (cells arrows : List ℕ) where
-  pub after_quarter : b ≡ true → ◌≡◌ {A = Problem} (record { height = q.width; width = q.height; cells = cells; arrows = arrows; ends = q.ends; count = q.count }) (after_step b q cells arrows)
-  unfolding step_of
-  after_quarter e = rw e
-
-  pub after_flip : b ≡ false → ◌≡◌ {A = Problem} (record { height = q.height; width = q.width; cells = cells; arrows = arrows; ends = q.ends; count = q.count }) (after_step b q cells arrows)
-  unfolding step_of
-  after_flip e = rw e

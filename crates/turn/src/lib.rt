@@ -7,12 +7,19 @@ ghost use Rattle.grid.specs.Side.{sized, InGrid, InPlace};
 ghost use Rattle.record.specs.Record.{Puzzle};
 ghost use Rattle.record.specs.Valid.{Valid};
 ghost use Rattle.record.specs.Problem.{problem_of};
-ghost use Rattle.exported.specs.Written.{written, output_with};
+ghost use Rattle.exported.specs.Written.{written, output_with, Writes};
 ghost use Rattle.turn.specs.Turn.{turned_by, flip_if, turned, turn_record};
 ghost use Rattle.turn.specs.Inside.{step_of, spun};
 
-use exported::{counted, negated};
-use record::{Answer, Problem};
+use record::Problem;
+use refusal::Refusal;
+
+// A step of a turning: a quarter turn clockwise, or left and right flipped.
+#[derive(Clone, Copy, Debug, PartialEq, Eq)]
+enum Move {
+    Quarter,
+    Flip,
+}
 
 // The cell at a row and a column.
 fn cell_at(height: usize, width: usize, y: usize, x: usize) -> usize
@@ -30,100 +37,84 @@ fn mirrored(x: usize, n: usize) -> usize
     n - 1 - x
 }
 
-// The cell that the cell i goes to, by a quarter turn or a flip.
-fn to_cell(quarter: bool, height: usize, width: usize, i: usize) -> usize
-    requires { InGrid height width i }
-    ensures { (result ≡ (step_of quarter (sized height width)).to i) × (result < 1024) }
-{
-    let y = i / width;
-    let x = i % width;
-    if quarter {
-        return cell_at(width, height, x, mirrored(y, height));
+impl Move {
+    // The height and the width of the moved grid.
+    fn sides(self, height: usize, width: usize) -> (usize, usize)
+        ensures { result ≡ ((step_of self (sized height width)).grid.height, (step_of self (sized height width)).grid.width) }
+    {
+        match self {
+            Move::Quarter => (width, height),
+            Move::Flip => (height, width),
+        }
     }
-    cell_at(height, width, y, mirrored(x, width))
-}
 
-// The cell that comes to the cell j.
-fn from_cell(quarter: bool, height: usize, width: usize, j: usize) -> usize
-    requires { InGrid height width j }
-    ensures { (result ≡ (step_of quarter (sized height width)).from j) × (result < 1024) }
-{
-    if quarter {
-        let y = j / height;
-        let x = j % height;
-        return cell_at(height, width, mirrored(x, height), y);
+    // The cell that the cell i goes to.
+    #[tactic(auto, unfolding(crate::specs::Turn::flip_cell, crate::specs::Turn::quarter_cell, grid::specs::Grid::row, grid::specs::Grid::col))]
+    fn to_cell(self, height: usize, width: usize, i: usize) -> usize
+        requires { InGrid height width i }
+        ensures { (result ≡ (step_of self (sized height width)).to i) × (result < 1024) }
+    {
+        let y = i / width;
+        let x = i % width;
+        match self {
+            Move::Quarter => cell_at(width, height, x, mirrored(y, height)),
+            Move::Flip => cell_at(height, width, y, mirrored(x, width)),
+        }
     }
-    let y = j / width;
-    let x = j % width;
-    cell_at(height, width, y, mirrored(x, width))
-}
 
-// The codes of the cells, each at its new place.
-fn move_cells(quarter: bool, height: usize, width: usize, cells: &[u8; 1024]) -> [u8; 1024]
-    requires { (height ≤ 32) × (width ≤ 32) }
-    ensures { result ≡ array_of 0 (map (λ j. get_or cells.now ((step_of quarter (sized height width)).from j) 0) (upto (height * width))) }
-{
-    let mut moved = record::no_codes();
-    let mut j = 0;
-    while j < height * width {
-        moved[j] = cells[from_cell(quarter, height, width, j)];
-        j += 1;
+    // The cell that comes to the cell j.
+    #[tactic(auto, unfolding(crate::specs::Turn::flip_cell, crate::specs::Turn::quarter_from, grid::specs::Grid::row, grid::specs::Grid::col))]
+    fn from_cell(self, height: usize, width: usize, j: usize) -> usize
+        requires { InGrid height width j }
+        ensures { (result ≡ (step_of self (sized height width)).from j) × (result < 1024) }
+    {
+        match self {
+            Move::Quarter => cell_at(height, width, mirrored(j % height, height), j / height),
+            Move::Flip => cell_at(height, width, j / width, mirrored(j % width, width)),
+        }
     }
-    moved
-}
 
-// The cells of the arrows, moved.
-fn move_line(
-    quarter: bool,
-    height: usize,
-    width: usize,
-    line: &[u16; 1024],
-    total: usize,
-) -> [u16; 1024]
-    requires { (height ≤ 32) × (width ≤ 32) × (total ≤ 1024) × ((t : ℕ) → t < total → get_or line.now t 0 < height * width) }
-    ensures { result ≡ array_of 0 (map (λ t. (step_of quarter (sized height width)).to (get_or line.now t 0)) (upto total)) }
-{
-    let mut moved = record::no_cells();
-    let mut t = 0;
-    while t < total {
-        let i = grid::wide(line[t]);
-        moved[t] = to_cell(quarter, height, width, i) as u16;
-        t += 1;
+    // The codes of the cells, each at its new place.
+    fn codes(self, height: usize, width: usize, cells: &[u8; 1024]) -> [u8; 1024]
+        requires { (height ≤ 32) × (width ≤ 32) }
+        ensures { result ≡ array_of 0 (map (λ j. get_or cells.now ((step_of self (sized height width)).from j) 0) (upto (height * width))) }
+    {
+        let mut moved = [0; 1024];
+        for j in 0..height * width {
+            moved[j] = cells[self.from_cell(height, width, j)];
+        }
+        moved
     }
-    moved
-}
 
-// A problem after a quarter turn or a flip.
-fn step(problem: Problem, quarter: bool) -> Problem
-    requires { (p : Puzzle) × Valid p × (problem ≡ problem_of p) }
-    ensures { (p : Puzzle) → Valid p → problem ≡ problem_of p → result ≡ problem_of (turned_by (step_of quarter p.grid) p) }
-{
-    let height = problem.height;
-    let width = problem.width;
-    let old_cells = problem.cells;
-    let line = problem.arrows;
-    let ends = problem.ends;
-    let count = problem.count;
-    let cells = move_cells(quarter, height, width, &old_cells);
-    let total = record::arrow_total(&ends, count);
-    let arrows = move_line(quarter, height, width, &line, total);
-    if quarter {
-        return Problem {
-            height: width,
-            width: height,
+    // The cells of the arrows, moved.
+    fn line(self, height: usize, width: usize, line: &[u16; 1024], total: usize) -> [u16; 1024]
+        requires { (height ≤ 32) × (width ≤ 32) × (total ≤ 1024) × ((t : ℕ) → t < total → get_or line.now t 0 < height * width) }
+        ensures { result ≡ array_of 0 (map (λ t. (step_of self (sized height width)).to (get_or line.now t 0)) (upto total)) }
+    {
+        let mut moved = [0; 1024];
+        for t in 0..total {
+            moved[t] = self.to_cell(height, width, usize::from(line[t])) as u16;
+        }
+        moved
+    }
+
+    // The problem, moved.
+    fn step(self, problem: &Problem) -> Problem
+        requires { (p : Puzzle) × Valid p × (problem.now ≡ problem_of p) }
+        ensures { (p : Puzzle) → Valid p → problem.now ≡ problem_of p → result ≡ problem_of (turned_by (step_of self p.grid) p) }
+    {
+        let total = problem.arrow_total();
+        let (height, width) = self.sides(problem.height, problem.width);
+        let cells = self.codes(problem.height, problem.width, &problem.cells);
+        let arrows = self.line(problem.height, problem.width, &problem.arrows, total);
+        Problem {
+            height,
+            width,
             cells,
             arrows,
-            ends,
-            count,
-        };
-    }
-    Problem {
-        height,
-        width,
-        cells,
-        arrows,
-        ends,
-        count,
+            ends: problem.ends,
+            count: problem.count,
+        }
     }
 }
 
@@ -133,7 +124,7 @@ fn flipped(problem: Problem, k: u32) -> Problem
     ensures { (p : Puzzle) → Valid p → problem ≡ problem_of p → result ≡ problem_of (turned_by (flip_if (leb 4 k) p.grid) p) }
 {
     if 4 <= k {
-        return step(problem, false);
+        return Move::Flip.step(&problem);
     }
     problem
 }
@@ -143,13 +134,11 @@ fn spin(problem: Problem, times: u32) -> Problem
     requires { (p : Puzzle) × Valid p × (problem ≡ problem_of p) }
     ensures { (p : Puzzle) → Valid p → problem ≡ problem_of p → result ≡ problem_of (spun times p) }
 {
-    let mut q = problem;
-    let mut i = 0;
-    while i < times {
-        q = step(q, true);
-        i += 1;
+    let mut spun = problem;
+    for _ in 0..times {
+        spun = Move::Quarter.step(&spun);
     }
-    q
+    spun
 }
 
 // The problem, turned by k.
@@ -161,23 +150,26 @@ fn turn_problem(problem: Problem, k: u32) -> Problem
     spin(first, k % 4)
 }
 
+// Turns a record by k into a lent output: the record's refusals, then 14 for k above 7, then 15 for an output that is shorter than the record.
+fn write_turned(record: &[u8], k: u32, output: &mut [u8]) -> Result<usize, Refusal>
+    ensures { Writes (turn_record k (length output.old) «record».now) result output.old output.new }
+{
+    let problem = Problem::read(record)?;
+    if 7 < k {
+        return Err(Refusal::Turning);
+    }
+    if output.len() < record.len() {
+        return Err(Refusal::RecordOutputShort);
+    }
+    let turned = turn_problem(problem, k);
+    Ok(writer::write(turned, output))
+}
+
 // Turns a record by k, from 0 to 7, into a lent output: flipped left and right first if k is 4 or more, then k modulo 4 quarter turns
 // clockwise. Returns the number of bytes, which is the record's, or the negated number of a refusal, which leaves the output as it was.
 pub fn turn(record: &[u8], k: u32, output: &mut [u8]) -> i32
     ensures { (result ≡ written (turn_record k (length output.old) «record».now))
         × (output.new ≡ output_with (turn_record k (length output.old) «record».now) output.old) }
 {
-    let reading = record::read(record);
-    let answer = reading.answer;
-    if let Answer::Refused(n) = answer {
-        return negated(n);
-    }
-    if 7 < k {
-        return negated(14);
-    }
-    if output.len() < record.len() {
-        return negated(15);
-    }
-    let turned = turn_problem(reading.problem, k);
-    counted(writer::write(turned, output))
+    refusal::returned(write_turned(record, k, output))
 }

@@ -1,9 +1,9 @@
 -- The leaf that is held, and what the arrays say of it: the cells that it decides, whether cells are refuted, and the certificate's refusals in their order.
 -- Assumes nothing.
-use Prim.Native.Nat.{ℕ, zero, suc, ◌*◌, ◌<◌}
+use Prim.Native.Nat.{ℕ, zero, suc, ◌*◌, ◌<◌, ◌≤◌}
 use native.Mathlib.Omega.{arith}
 use mathlib.Core.Path.{◌≡◌, refl, sym, ap, ◌∙◌, subst}
-use mathlib.Core.Bool.{Bool, true, false}
+use mathlib.Core.Bool.{Bool, true, false, cond}
 use mathlib.Core.List.{List, map}
 use mathlib.Core.Option.{none, some}
 use lib.IntN.{pos, neg_ℤ}
@@ -20,19 +20,17 @@ use Rattle.record.specs.Sizes.{kept_ranges}
 use Rattle.groups.specs.Arrays.{lines_of}
 use Rattle.kinds.specs.Inside.{puzzle_with}
 use Rattle.literals.specs.Literals.{Found}
-use Rattle.literals.specs.Buffer.{finding_by}
-use Rattle.literals.specs.Inside.{FoundAs}
-use Rattle.literals.specs.declared.Finding.{Finding}
-use Rattle.literals.specs.declared.Finding.TheVariants.{Nothing, Reason, Refused}
-use Rattle.literals.proofs.Findings.{not_refused}
+use Rattle.literals.specs.Inside.{count_of, FoundAs}
+use Rattle.std.specs.Prelude.{Option, is_some}
 use Rattle.inconsistency.specs.Reasons.{find_reason}
 use Rattle.finished.specs.Finished.{finished_test}
 use Rattle.finished.specs.Inside.{problem_on}
 use Rattle.call.specs.Inside.{Holds}
 use Rattle.call.proofs.Holding.{holds_size, holds_few, holds_lines, holds_reason, holds_leaf}
 use Rattle.certificate.specs.Certificate.{words_of, whole_words, claimed, headed, step_from}
-use Rattle.unique.specs.Unique.{base_cell, base_of, two_open, lonely, has_reason, refuted, steps_of, solution_or, check_on, unique_returned}
+use Rattle.unique.specs.Unique.{base_cell, base_of, two_open, lonely, has_reason, refuted, close_of, step_of, steps_of, solution_or, check_on, unique_returned}
 use Rattle.unique.proofs.HeadLaws.{claimed_long}
+use Rattle.unique.proofs.StepLaws.{close_clash, close_refused, close_told}
 
 -- a refusal
 pub returned_not : {o : Outcome (List ℕ)} {k : ℕ} → o ≡ refused k → neg_ℤ (pos k) ≡ unique_returned o
@@ -40,15 +38,10 @@ unfolding unique_returned
 returned_not e = rw e refl
 
 -- whether there is a reason, by the answer of the search
-reason_none : (f : Found) → finding_by 0 f ≡ Nothing → has_reason f ≡ false
-unfolding has_reason finding_by
-reason_none none e = refl
-reason_none (some r) e = let z : ◌≡◌ {A = ℕ} 0 1 = cc in absurd (omega arith)
-
-reason_some : (f : Found) {k : ℕ} → finding_by 0 f ≡ Reason k → has_reason f ≡ true
-unfolding has_reason finding_by
-reason_some none e = let z : ◌≡◌ {A = ℕ} 0 1 = cc in absurd (omega arith)
-reason_some (some r) e = refl
+reason_is : (f : Found) → is_some (count_of f) ≡ has_reason f
+unfolding has_reason count_of
+reason_is none = refl
+reason_is (some r) = refl
 
 module _ {l : Leaf} {e : ℕ} {lows highs : List ℕ} {h w : ℕ} {arrows ends : List ℕ} {number : ℕ} (x : Holds l e lows highs h w arrows ends number) where
   -- ---- cells
@@ -67,20 +60,13 @@ module _ {l : Leaf} {e : ℕ} {lows highs : List ℕ} {h w : ℕ} {arrows ends :
     reason = find_reason (leaf_with e (kept_ranges lows highs (length lows)) (puzzle_with (sized h w) (lines_of arrows ends number))) (take (h * w) cells)
 
     -- none is: the reason tells
-    module _ (t : all (two_open cells) (lines_of arrows ends number) ≡ true) {b a : List ℕ} {r : Finding} (f : FoundAs reason b a r) where
+    module _ (t : all (two_open cells) (lines_of arrows ends number) ≡ true) {b a : List ℕ} {r : Option ℕ} (f : FoundAs reason b a r) where
       by_reason : has_reason reason ≡ refuted l cells
       unfolding refuted lonely
       by_reason = rw (sym lines_same ∙ t) (ap has_reason (holds_reason x (take (h * w) cells) ∙ ap (λ n. find_reason l (take n cells)) (holds_size x)))
 
-      pub refuted_not : r ≡ Nothing → false ≡ refuted l cells
-      refuted_not z = sym (reason_none reason (sym f.answer ∙ z)) ∙ by_reason
-
-      pub refuted_reason : {k : ℕ} → r ≡ Reason k → true ≡ refuted l cells
-      refuted_reason z = sym (reason_some reason (sym f.answer ∙ z)) ∙ by_reason
-
-      -- and no search is refused
-      pub never_refused : {k : ℕ} → r ≡ Refused k → ⊥
-      never_refused z = not_refused reason (subst (FoundAs reason b a) z f)
+      pub refuted_by : is_some r ≡ refuted l cells
+      refuted_by = rw f.answer (reason_is reason) ∙ by_reason
 
   -- the cells that the leaf decides, by the codes in the array
   module _ {codes : List ℕ} (c : codes ≡ (problem_of l.puzzle).cells) where
@@ -97,6 +83,24 @@ module _ {l : Leaf} {e : ℕ} {lows highs : List ℕ} {h w : ℕ} {arrows ends :
     -- the step at a place on them
     pub base_step : {base : List ℕ} → base ≡ array_of 2 (map (λ i. base_cell (get_or codes i 0)) (upto (h * w))) → (ws : List ℕ) (at : ℕ) → step_from (h * w) base ws at ≡ step_from (size l.puzzle.grid) (base_of l) ws at
     base_step b ws at = rw (base_is b, holds_size x) refl
+
+    -- what the step comes to, by what it comes to on them
+    module _ {base : List ℕ} (b : base ≡ array_of 2 (map (λ i. base_cell (get_or codes i 0)) (upto (h * w)))) (ws : List ℕ) (at : ℕ) {r : ℕ} {cells : List ℕ} (y : (r, cells) ≡ step_from (h * w) base ws at) where
+      came : close_of l (r, cells) ≡ step_of l ws at
+      unfolding step_of
+      came = ap (close_of l) (y ∙ base_step b ws at)
+
+      pub step_clash : r ≡ 1 → 0 ≡ step_of l ws at
+      step_clash z = close_clash l (r, cells) z ∙ came
+
+      pub step_refused : 26 ≤ r → r ≡ step_of l ws at
+      step_refused z = close_refused l (r, cells) (λ q. omega arith) (λ q. omega arith) ∙ came
+
+      pub step_told : r ≡ 0 → true ≡ refuted l cells → 0 ≡ step_of l ws at
+      step_told z q = ap (λ (b : Bool). cond b 0 29) q ∙ close_told l (r, cells) z ∙ came
+
+      pub step_open : r ≡ 0 → false ≡ refuted l cells → 29 ≡ step_of l ws at
+      step_open z q = ap (λ (b : Bool). cond b 0 29) q ∙ close_told l (r, cells) z ∙ came
 
   -- ---- the claimed solution
 

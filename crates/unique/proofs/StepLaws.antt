@@ -7,6 +7,9 @@ use mathlib.Core.Logic.{◌⊎◌, inl, inr}
 use mathlib.Core.Path.{◌≡◌, refl, sym, ◌∙◌}
 use mathlib.Core.Bool.{Bool, true, false, cond, ◌&&◌}
 use mathlib.Core.List.{List, [], ◌∷◌}
+use Rattle.std.specs.Prelude.{Option, Some}
+use Rattle.refusal.specs.Refusals.{number_of}
+use Rattle.refusal.specs.declared.Refusal as refusal
 use lib.Dec.{eqb, ltb, leb}
 use lib.ListN.{length, get_or, set}
 use borrow.Author.Tests.{eq-eqb, ne_eqb, lt-ltb, le-ltb, ltb-true, leb-true}
@@ -170,9 +173,22 @@ module _ (l : Leaf) (ws : List ℕ) (at : ℕ) where
           }
 
   -- where it ends
-  pub Step-ends : Step l ws at → next ws at ≡ end_of ws at
-  unfolding end_of
+  pub Step-ends : Step l ws at → end_of ws at ≡ Some (next ws at)
   Step-ends s = rw s.is refl
+
+  -- so it is with one that closes
+  pub closed_whole : 0 ≡ step_of l ws at → end_of ws at ≡ Some (next ws at)
+  closed_whole e = Step-ends (Step-is (sym e))
+
+  pub closed_ends : 0 ≡ step_of l ws at → (n : ℕ) → end_of ws at ≡ Some n → next ws at ≡ n
+  closed_ends e n q = let s : ◌≡◌ {A = Option ℕ} (Some (next ws at)) (Some n) = sym (closed_whole e) ∙ q in cc
+
+  pub closed_tagged : 0 ≡ step_of l ws at → tag ≤ get_or ws at 0
+  closed_tagged e = (Step-is (sym e)).tagged
+
+-- a refusal is no 0
+pub refused_counts : (r : refusal.Refusal) → 0 < number_of r
+refused_counts r = grind arith
 
 -- ---- the steps
 

@@ -13,36 +13,38 @@ ghost use Rattle.groups.specs.Arrays.{CellArray, lines_of};
 ghost use Rattle.groups.specs.Arrays as arrays;
 ghost use Rattle.sizes.specs.Inside.{Drawn};
 ghost use Rattle.call.specs.Inside.{with_sizes, Holds};
+ghost use Rattle.std.specs.Result.{ForOk};
+ghost use Rattle.refusal.specs.Refusals.{returned_of};
 ghost use Rattle.certificate.specs.Certificate.{words_of};
+ghost use Rattle.certificate.specs.Inside.{refusal_number};
 ghost use Rattle.unique.specs.Unique.{base_cell, two_open, refuted, step_of, steps_of, check_on, host_unique, unique_returned};
 
+use certificate::Closing;
 use exported::negated;
-use literals::Finding;
 use record::Answer;
+use refusal::Refusal;
 
 // The state of a cell of this code before anything is assumed: a black one is empty, a given one square, any other undecided.
+#[tactic(auto, unfolding(crate::specs::Unique::base_cell))]
 fn base_cell(code: u8) -> u8
     ensures { result ≡ base_cell code }
 {
-    if code == 1 {
-        return 0;
+    match code {
+        1 => 0,
+        2 => 1,
+        _ => 2,
     }
-    if code == 2 {
-        return 1;
-    }
-    2
 }
 
 // The cells that the codes decide.
+#[tactic(auto, using(grid::proofs::FilledLaws::filled_none, grid::proofs::FilledLaws::filled_more))]
 fn base_cells(codes: &[u8; 1024], n: usize) -> [u8; 1024]
     requires { n ≤ 1024 }
     ensures { result ≡ array_of 2 (map (λ i. base_cell (get_or codes.now i 0)) (upto n)) }
 {
-    let mut cells = certificate::undecided();
-    let mut i = 0;
-    while i < n {
+    let mut cells = [2u8; 1024];
+    for i in 0..n {
         cells[i] = base_cell(codes[i]);
-        i += 1;
     }
     cells
 }
@@ -53,12 +55,10 @@ fn open_on(cells: &[u8; 1024], arrows: &[u16; 1024], from: usize, to: usize) -> 
     ensures { result ≡ length (filter (potential cells.now) (slice from to arrows.now)) }
 {
     let mut count = 0;
-    let mut k = from;
-    while k < to {
-        if cells[grid::wide(arrows[k])] != 0 {
+    for k in from..to {
+        if cells[usize::from(arrows[k])] != 0 {
             count += 1;
         }
-        k += 1;
     }
     count
 }
@@ -75,14 +75,12 @@ fn two_open_on_each(
 {
     let mut good = true;
     let mut from = 0;
-    let mut a = 0;
-    while a < number {
-        let to = grid::wide(ends[a]);
+    for a in 0..number {
+        let to = usize::from(ends[a]);
         if open_on(cells, arrows, from, to) < 2 {
             good = false;
         }
         from = to;
-        a += 1;
     }
     good
 }
@@ -109,14 +107,10 @@ fn is_refuted<'a>(
     let found = inconsistency::find_inconsistency(
         edition, lowest, highest, cells, arrows, ends, number, h, w, buffer,
     );
-    match found {
-        Finding::Nothing => false,
-        Finding::Reason(_) => true,
-        Finding::Refused(_) => false,
-    }
+    found.is_some()
 }
 
-// Checks the step at a place: 0 where it closes, else its refusal.
+// Checks the step at a place: it closes, or it is refused.
 fn check_step<'a>(
     edition: u8,
     lowest: &'a [u16],
@@ -130,28 +124,27 @@ fn check_step<'a>(
     certificate: &[u8],
     at: usize,
     buffer: &mut [u16],
-) -> u8
+) -> Result<(), Refusal>
     requires { ((l : Leaf) × Holds l edition lowest.now highest.now h w arrows.now ends.now number × (codes.now ≡ (problem_of l.puzzle).cells)) × (3 * (h * w) + 1 ≤ length buffer.old) }
     ensures { (l : Leaf) → Holds l edition lowest.now highest.now h w arrows.now ends.now number
-        → codes.now ≡ (problem_of l.puzzle).cells → result ≡ step_of l (words_of certificate.now) at }
+        → codes.now ≡ (problem_of l.puzzle).cells → refusal_number result ≡ step_of l (words_of certificate.now) at }
 {
     let mut cells = base_cells(codes, h * w);
-    let taken = certificate::take_step(certificate, at, h * w, &mut cells);
-    if taken == 1 {
-        return 0;
+    match certificate::take_step(certificate, at, h * w, &mut cells)? {
+        Closing::Contradiction => Ok(()),
+        Closing::Undecided => {
+            if is_refuted(
+                edition, lowest, highest, &cells, arrows, ends, number, h, w, buffer,
+            ) {
+                return Ok(());
+            }
+            Err(Refusal::NotClosed)
+        }
     }
-    if taken != 0 {
-        return taken as u8;
-    }
-    if is_refuted(
-        edition, lowest, highest, &cells, arrows, ends, number, h, w, buffer,
-    ) {
-        return 0;
-    }
-    29
 }
 
-// Checks the steps from a place on: 0 where they come to the step of no literals, which ends the words, else a refusal. All of them find in one buffer.
+// Checks the steps from behind the claimed solution on: they come to the step of no literals, which ends the words, or one is refused. All of them find in
+// one buffer.
 fn check_steps<'a>(
     edition: u8,
     lowest: &'a [u16],
@@ -163,16 +156,17 @@ fn check_steps<'a>(
     h: usize,
     w: usize,
     certificate: &[u8],
-) -> u8
+) -> Result<(), Refusal>
     requires { (l : Leaf) × Holds l edition lowest.now highest.now h w arrows.now ends.now number × (codes.now ≡ (problem_of l.puzzle).cells) }
     ensures { (l : Leaf) → Holds l edition lowest.now highest.now h w arrows.now ends.now number
-        → codes.now ≡ (problem_of l.puzzle).cells → result ≡ steps_of l (words_of certificate.now) }
+        → codes.now ≡ (problem_of l.puzzle).cells → refusal_number result ≡ steps_of l (words_of certificate.now) }
 {
     let count = certificate.len() / 3;
     let mut buffer = reasons::no_literals();
     let mut at = h * w + 2;
+    // No index: where the next step stands, each step tells.
     while at < count {
-        let refusal = check_step(
+        check_step(
             edition,
             lowest,
             highest,
@@ -185,24 +179,22 @@ fn check_steps<'a>(
             certificate,
             at,
             &mut buffer,
-        );
-        if refusal != 0 {
-            return refusal;
-        }
-        let next = certificate::step_end(certificate, at);
+        )?;
+        // A step that closes is whole.
+        let next = certificate::step_end(certificate, at).unwrap();
         // The step of no literals.
         if certificate::word_at(certificate, at) == certificate::TAG {
             if next == count {
-                return 0;
+                return Ok(());
             }
-            return 30;
+            return Err(Refusal::CertificateEnd);
         }
         at = next;
     }
-    30
+    Err(Refusal::CertificateEnd)
 }
 
-// Checks a certificate for the leaf that is held: 23, 24, 25 for a claimed solution that is not finished, then the steps' refusals.
+// Checks a certificate for the leaf that is held: 1 where it is accepted; a claimed solution that is not finished is refused, and then a step.
 fn unique_behind<'a>(
     edition: u8,
     lowest: &'a [u16],
@@ -214,24 +206,25 @@ fn unique_behind<'a>(
     h: usize,
     w: usize,
     certificate: &[u8],
-) -> i32
+) -> Result<usize, Refusal>
     requires { (l : Leaf) × Holds l edition lowest.now highest.now h w arrows.now ends.now number × (codes.now ≡ (problem_of l.puzzle).cells) }
-    ensures { (l : Leaf) → Holds l edition lowest.now highest.now h w arrows.now ends.now number
-        → codes.now ≡ (problem_of l.puzzle).cells → result ≡ unique_returned (check_on certificate.now l) }
+    ensures number { (l : Leaf) → Holds l edition lowest.now highest.now h w arrows.now ends.now number
+        → codes.now ≡ (problem_of l.puzzle).cells → returned_of result ≡ unique_returned (check_on certificate.now l) }
+    ensures one { ForOk result (λ n. n ≡ 1) }
 {
     if !certificate::is_whole_words(certificate) {
-        return negated(23);
+        return Err(Refusal::CertificateLength);
     }
     if !certificate::is_headed(certificate, h * w) {
-        return negated(24);
+        return Err(Refusal::NoSolutionStep);
     }
     let solution = certificate::claimed_cells(certificate, h * w);
     if !finished::is_finished(
         edition, lowest, highest, codes, &solution, arrows, ends, number, h, w,
     ) {
-        return negated(25);
+        return Err(Refusal::SolutionUnfinished);
     }
-    let refusal = check_steps(
+    check_steps(
         edition,
         lowest,
         highest,
@@ -242,11 +235,8 @@ fn unique_behind<'a>(
         h,
         w,
         certificate,
-    );
-    if refusal != 0 {
-        return negated(refusal);
-    }
-    1
+    )?;
+    Ok(1)
 }
 
 // Reads the sizes, and goes on with them: 22, then as without. It is a function of its own so that a call without sizes has no arrays for them.
@@ -272,7 +262,7 @@ fn unique_sized<'a>(
         return negated(k);
     }
     let n = h * w;
-    unique_behind(
+    refusal::returned(unique_behind(
         edition,
         &lowest[..n],
         &highest[..n],
@@ -283,7 +273,7 @@ fn unique_sized<'a>(
         h,
         w,
         certificate,
-    )
+    ))
 }
 
 // Opens the record in an edition with sizes, as `host_find::find_with` does, and checks a certificate that the leaf has one solution only. Returns 1 where it is accepted, and then the
@@ -302,7 +292,7 @@ pub fn unique(record: &[u8], edition: u32, sizes: &[u8], certificate: &[u8]) -> 
         return negated(16);
     }
     if sizes.len() == 0 {
-        return unique_behind(
+        return refusal::returned(unique_behind(
             e,
             &[],
             &[],
@@ -313,7 +303,7 @@ pub fn unique(record: &[u8], edition: u32, sizes: &[u8], certificate: &[u8]) -> 
             reading.problem.height,
             reading.problem.width,
             certificate,
-        );
+        ));
     }
     unique_sized(
         e,

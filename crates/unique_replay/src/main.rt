@@ -6,11 +6,11 @@
 // 256 less the number of the refusal. A number has its high byte first.
 #![tactic(auto)]
 
-ghost use Rattle.std.specs.Prelude.{◌<◌, ◌≡◌, length};
+ghost use Rattle.std.specs.Prelude.{◌<◌, ◌≡◌};
 ghost use Rattle.replay.specs.Comparisons.{DiffersUnless};
-ghost use Rattle.unique_replay.specs.Certificates.{expected, CallSo};
+ghost use Rattle.unique_replay.specs.Certificates.{expected, CallSo, EntrySo};
 
-use replay::{Run, Tally};
+use replay::{Cursor, Entries, Run};
 use std::io;
 
 // The number that this byte of a list stands for.
@@ -38,47 +38,33 @@ fn call_differs(
     unique::unique(record, edition, sizes, certificate) != expected_number(answer)
 }
 
-// Checks the certificate of the entry at `at`.
-fn run_entry(list: &[u8], at: usize) -> Run
-    requires { at < length list.now }
-{
-    let edition = at + 2 + replay::number_at(list, at);
-    let sizes = edition + 1;
-    if list.len() < sizes {
-        return Run::broken();
-    }
-    let certificate = sizes + 2 + replay::number_at(list, sizes);
-    if list.len() < certificate {
-        return Run::broken();
-    }
-    let answer = certificate + 2 + replay::number_at(list, certificate);
-    if list.len() <= answer {
-        return Run::broken();
-    }
-    Run::of(
-        call_differs(
-            &list[at + 2..edition],
-            replay::byte_at(list, edition) as u32,
-            &list[sizes + 2..certificate],
-            &list[certificate + 2..answer],
-            replay::byte_at(list, answer),
-        ),
-        answer + 1,
-    )
-}
+// Checks of certificates, each with the number that it returns.
+#[derive(Drop)]
+struct Certificates;
 
-// Goes through the entries.
-fn go_through(list: &[u8]) -> Tally {
-    let mut tally = Tally::of(list, 0);
-    while tally.at < list.len() {
-        tally = tally.with(run_entry(list, tally.at), list.len());
+impl Entries for Certificates {
+    ghost counts = { λ _. EntrySo };
+
+    ghost BEFORE = { 0 };
+
+    const BEFORE: usize = 0;
+
+    fn of(_data: &[u8]) -> Certificates {
+        Certificates
     }
-    tally
+
+    fn run(&self, list: &[u8], at: usize) -> Option<Run> {
+        let mut cursor = Cursor { list, at };
+        let bytes = cursor.counted()?;
+        let edition = u32::from(cursor.byte()?);
+        let sizes = cursor.counted()?;
+        let certificate = cursor.counted()?;
+        let answer = usize::from(cursor.byte()?);
+        let differs = call_differs(bytes, edition, sizes, certificate, answer);
+        Some(Run::of(differs, cursor.at))
+    }
 }
 
 fn main(rt: HostRuntime) -> io::Result<()> {
-    let mut space = replay::room();
-    let list = replay::read_list(rt.reader(), &mut space)?;
-    let (_, written) = go_through(list).print(b" certificates, ", b"", &mut io::writer(&rt));
-    written
+    replay::replay::<Certificates, _, _>(rt.reader(), &mut io::writer(&rt), " certificates, ", "")
 }

@@ -13,7 +13,7 @@ use Rattle.grid.specs.Lists.{range, upto, any, filter, last, member}
 use Rattle.grid.specs.Grid.{Grid, size, cells_of, up, down, left, right, neighbours, touches}
 use Rattle.grid.proofs.ListLaws.{filter-mem, upto-mem}
 use Rattle.grid.specs.Side.{sized, towards, beside_of}
-use Rattle.grid.specs.declared.Side.TheVariants.{At, Off}
+use Rattle.std.specs.Prelude.{Some, None}
 use Rattle.grid.proofs.SideLaws.{beside_at, beside_off}
 use Rattle.grid.proofs.GridLaws.{beside, on_grid}
 use Rattle.grid.proofs.AppendLaws.{any-append, last_more, any_agree, filter-upto, upto_more, filter_more, filter-filter, member-filter}
@@ -30,11 +30,11 @@ use Rattle.literals.proofs.BufferLaws.{Wrote-more}
 
 module _ (t : ℕ → Bool) (g : Grid) (i : ℕ) where
   -- the neighbour in direction k, or none
-  pub any_at : (k j : ℕ) → At j ≡ beside_of g i k → t j ≡ any t (towards g i k)
+  pub any_at : (k j : ℕ) → Some j ≡ beside_of g i k → t j ≡ any t (towards g i k)
   unfolding any
   any_at k j e = rw (beside_at g i k j e) (sym (or-false (t j)))
 
-  pub any_off : (k : ℕ) → Off ≡ beside_of g i k → false ≡ any t (towards g i k)
+  pub any_off : (k : ℕ) → None ≡ beside_of g i k → false ≡ any t (towards g i k)
   unfolding any
   any_off k e = rw (beside_off g i k e) refl
 

@@ -1,14 +1,13 @@
 -- The search for reason 1: the first of the listed names that passes a test, and what the counts of a group tell.
 -- Assumes nothing.
-use Prim.Native.Nat.{ℕ, ◌+◌, ◌<◌}
+use Prim.Native.Nat.{ℕ, ◌<◌}
 use native.Mathlib.Omega.{arith}
-use native.Mathlib.Numerals.{add-one}
 use mathlib.Core.Path.{◌≡◌, refl, sym, ap, ◌∙◌}
-use mathlib.Core.Bool.{Bool, true, false, cond, ◌&&◌, not}
+use mathlib.Core.Bool.{Bool, true, false, cond, ◌&&◌, not, not-not}
 use mathlib.Core.List.{List, [], ◌∷◌, Memᴰ}
 use lib.Dec.{eqb}
-use lib.ListN.{length, get_or, take, drop}
-use lib.Seq.{drop-cons, drop-length, get_or-take, length-take-le}
+use lib.ListN.{length, get_or, take}
+use lib.Seq.{get_or-take, length-take-le}
 use Rattle.grid.specs.Lists.{any}
 use Rattle.grid.specs.Grid.{Grid, size}
 use Rattle.grid.proofs.ListLaws.{mem_at}
@@ -20,76 +19,63 @@ use Rattle.groups.specs.Arrays.{Names}
 use Rattle.groups.proofs.TableLaws.{tally_any, name_low}
 use Rattle.literals.specs.Literals.{Found, or_else, reason_if, first_found_of}
 use Rattle.units.specs.Units.{reason1, reason1_at}
-use Rattle.units.specs.Arrays.{PotentialTable, stranded, first_name, found_at, boundary_of}
-use Rattle.units.specs.declared.Name.TheVariants.{At, Nobody}
+use Rattle.units.specs.Arrays.{PotentialTable, stranded, found_at, boundary_of}
+use Rattle.std.specs.Prelude.{Some, find, All}
+use Rattle.std.proofs.lemmas.List.Elements.{All-from_get_or}
 
 -- ---- the first name that passes
 
-module _ (t : ℕ → Bool) {list : List ℕ} {c : ℕ} (N : Names list c) where
+module _ {list : List ℕ} {c : ℕ} (N : Names list c) where
   long : length (take c list) ≡ c
   long = length-take-le c list (omega (arith, N.long, N.few))
 
-  pub first_hit : (k : ℕ) → k < c → t (get_or list k 0) ≡ true → first_name t (drop k (take c list)) ≡ At (get_or list k 0)
-  unfolding first_name
-  first_hit k h e = rw (drop-cons (take c list) k 0 (omega (arith, long)), first_name, get_or-take c list k 0 h, e) refl
-
-  pub first_miss : (k : ℕ) → k < c → t (get_or list k 0) ≡ false → first_name t (drop k (take c list)) ≡ first_name t (drop (k + 1) (take c list))
-  unfolding first_name
-  first_miss k h e = rw (drop-cons (take c list) k 0 (omega (arith, long)), first_name, get_or-take c list k 0 h, e, add-one k) refl
-
-  pub first_end : (k : ℕ) → k ≡ c → first_name t (drop k (take c list)) ≡ Nobody
-  unfolding first_name
-  first_end k e = let z : drop k (take c list) ≡ [] = rw (e ∙ sym long) (drop-length (take c list)) in rw z refl
+  -- each listed name is a cell
+  pub names_small : All (λ f. f < 1024) (take c list)
+  names_small = All-from_get_or (λ f. f < 1024) (take c list) 0 (λ k h. let l : k < c = omega (arith, h, long) in rw (get_or-take c list k 0 l) (N.small k l))
 
 -- the first name that passes is in the list
-pub first_mem : (t : ℕ → Bool) (l : List ℕ) (f : ℕ) → first_name t l ≡ At f → Memᴰ f l
-unfolding first_name
+pub first_mem : (t : ℕ → Bool) (l : List ℕ) (f : ℕ) → find t l ≡ Some f → Memᴰ f l
 first_mem t [] f e = let z : ◌≡◌ {A = ℕ} 0 1 = cc in absurd (omega arith)
 first_mem t (x ∷ xs) f e = go (t x) e (λ k. first_mem t xs f k)
   where
-    go : (b : Bool) → cond b (At x) (first_name t xs) ≡ At f → (first_name t xs ≡ At f → Memᴰ f xs) → Memᴰ f (x ∷ xs)
+    go : (b : Bool) → cond b (Some x) (find t xs) ≡ Some f → (find t xs ≡ Some f → Memᴰ f xs) → Memᴰ f (x ∷ xs)
     go true e ih = let q : f ≡ x = cc in Memᴰ.head q
     go false e ih = Memᴰ.tail (ih e)
 
-pub first_low : (t : ℕ → Bool) {list : List ℕ} {c f : ℕ} → Names list c → first_name t (take c list) ≡ At f → f < 1024
+pub first_low : (t : ℕ → Bool) {list : List ℕ} {c f : ℕ} → Names list c → find t (take c list) ≡ Some f → f < 1024
 first_low t {list} {c} {f} N e =
     let r = mem_at (take c list) (first_mem t (take c list) f e) in
-    let h : r.0 < c = omega (arith, r.1, long t N) in
+    let h : r.0 < c = omega (arith, r.1, long N) in
     omega (arith, N.small r.0 h, get_or-take c list r.0 0 h, r.2)
 
-pub first_agree : (s t : ℕ → Bool) (l : List ℕ) → ((x : ℕ) → Memᴰ x l → s x ≡ t x) → first_name s l ≡ first_name t l
-unfolding first_name
+pub first_agree : (s t : ℕ → Bool) (l : List ℕ) → ((x : ℕ) → Memᴰ x l → s x ≡ t x) → find s l ≡ find t l
 first_agree s t [] h = refl
 first_agree s t (x ∷ xs) h = rw (h x (Memᴰ.head refl), first_agree s t xs (λ y m. h y (Memᴰ.tail m))) refl
 
 -- the reason of the first name that passes is the first reason
-first_found : (t : ℕ → Bool) (r : ℕ → List Literal) (l : List ℕ) → first_found_of (λ f. reason_if (t f) (r f)) l ≡ found_at r (first_name t l)
-unfolding first_found_of first_name found_at reason_if or_else
+first_found : (t : ℕ → Bool) (r : ℕ → List Literal) (l : List ℕ) → first_found_of (λ f. reason_if (t f) (r f)) l ≡ found_at r (find t l)
+unfolding first_found_of found_at reason_if or_else
 first_found t r [] = refl
 first_found t r (x ∷ xs) = go (t x) refl (first_found t r xs)
   where
     F : ℕ → Found
     F f = reason_if (t f) (r f)
 
-    go : (b : Bool) → t x ≡ b → first_found_of F xs ≡ found_at r (first_name t xs) → first_found_of F (x ∷ xs) ≡ found_at r (cond b (At x) (first_name t xs))
+    go : (b : Bool) → t x ≡ b → first_found_of F xs ≡ found_at r (find t xs) → first_found_of F (x ∷ xs) ≡ found_at r (cond b (Some x) (find t xs))
     go true e h = rw e refl
     go false e h = rw e h
 
 -- ---- which groups are stranded
 
-not-not : (b : Bool) → b ≡ not (not b)
-not-not true = refl
-not-not false = refl
-
 -- reason 1 by the first name whose counts say so
 pub stranded_is : (puzzle : Puzzle) (cells : List ℕ) {groups firsts squares arrowed : List ℕ} {number : ℕ}
     → PotentialTable puzzle cells groups firsts squares arrowed number
-    → reason1 puzzle cells ≡ found_at (boundary_of puzzle.grid cells) (first_name (stranded squares arrowed) (take number firsts))
+    → reason1 puzzle cells ≡ found_at (boundary_of puzzle.grid cells) (find (stranded squares arrowed) (take number firsts))
 unfolding reason1 reason1_at stranded
 stranded_is puzzle cells {groups} {firsts} {squares} {arrowed} {number} T =
     first_found t (boundary_of g cells) (names g p (labels g p))
     ∙ ap (found_at (boundary_of g cells)) (first_agree t (stranded squares arrowed) (names g p (labels g p)) (λ f m. test f (name_low g p f m))
-    ∙ ap (first_name (stranded squares arrowed)) (sym T.firsts_are))
+    ∙ ap (find (stranded squares arrowed)) (sym T.firsts_are))
   where
     g : Grid
     g = puzzle.grid
@@ -107,4 +93,4 @@ stranded_is puzzle cells {groups} {firsts} {squares} {arrowed} {number} T =
     test f h =
         let a : any (square cells) (c f) ≡ not (eqb (get_or squares f 0) 0) = sym (tally_any g p T.squares_are f h) in
         let b : any (on_arrow puzzle.arrows) (c f) ≡ not (eqb (get_or arrowed f 0) 0) = sym (tally_any g p T.arrowed_are f h) in
-        rw (a, b, ← not-not (eqb (get_or arrowed f 0) 0)) refl
+        rw (a, b, not-not (eqb (get_or arrowed f 0) 0)) refl

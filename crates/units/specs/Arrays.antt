@@ -1,6 +1,6 @@
 -- What the parts of reason 1 ask of the arrays that they are lent.
 -- Assumes nothing.
-use Rattle.std.specs.Prelude.{ℕ, Bool, cond, ◌&&◌, not, List, [], ◌∷◌, eqb, get_or}
+use Rattle.std.specs.Prelude.{ℕ, Bool, ◌&&◌, not, List, eqb, get_or, Option, Some, None}
 use Rattle.std.proofs.Math.Option.{none, some}
 use Rattle.grid.specs.Grid.{Grid}
 use Rattle.record.specs.Record.{Puzzle}
@@ -9,8 +9,6 @@ use Rattle.groups.specs.Groups.{labels, group}
 use Rattle.groups.specs.Arrays.{TableOf}
 use Rattle.literals.specs.Literals.{Found}
 use Rattle.units.specs.Units.{boundary}
-use Rattle.units.specs.declared.Name.{Name}
-use Rattle.units.specs.declared.Name.TheVariants.{At, Nobody}
 
 -- the table of the potential groups of the cells
 abbrev pub PotentialTable : Puzzle → List ℕ → List ℕ → List ℕ → List ℕ → List ℕ → ℕ → Type 0
@@ -20,15 +18,10 @@ PotentialTable p cells = TableOf p cells (potential cells)
 unfoldable pub stranded : List ℕ → List ℕ → ℕ → Bool
 stranded squares arrowed f = not (eqb (get_or squares f 0) 0) && eqb (get_or arrowed f 0) 0
 
--- the first cell of a list that passes the test
-unfoldable pub first_name : (ℕ → Bool) → List ℕ → Name
-first_name t [] = Nobody
-first_name t (x ∷ xs) = cond (t x) (At x) (first_name t xs)
-
--- the reason r f of the group named f
-unfoldable pub found_at : (ℕ → List Literal) → Name → Found
-found_at r Nobody = none
-found_at r (At f) = some (r f)
+-- the reason r f of the group named f, or none
+unfoldable pub found_at : (ℕ → List Literal) → Option ℕ → Found
+found_at r None = none
+found_at r (Some f) = some (r f)
 
 -- the literals of reason 1 for the potential group named f
 abbrev pub boundary_of : Grid → List ℕ → ℕ → List Literal

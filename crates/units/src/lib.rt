@@ -1,7 +1,7 @@
 // Reason 1: a potential group with a square and no arrow cell.
 #![tactic(auto)]
 
-ghost use Rattle.std.specs.Prelude.{◌≡◌, ℕ, ◌+◌, ◌*◌, ◌<◌, ◌≤◌, length, get_or, take, List, ◌&&◌, eqb};
+ghost use Rattle.std.specs.Prelude.{◌≡◌, ℕ, ◌+◌, ◌*◌, ◌<◌, ◌≤◌, length, get_or, take, List, ◌&&◌, eqb, find, All};
 ghost use Rattle.grid.specs.Lists.{any, filter, last, upto};
 ghost use Rattle.grid.specs.Grid.{neighbours};
 ghost use Rattle.grid.specs.Side.{InGrid, InPlace, sized, towards};
@@ -9,40 +9,16 @@ ghost use Rattle.grid.specs.Cells.{potential};
 ghost use Rattle.groups.specs.Arrays.{label_array, Names};
 ghost use Rattle.units.specs.Units.{reason1};
 ghost use Rattle.literals.specs.Inside.{Wrote, Fit, FoundAs};
-ghost use Rattle.units.specs.Arrays.{PotentialTable, stranded, first_name, boundary_of};
+ghost use Rattle.units.specs.Arrays.{PotentialTable, stranded, boundary_of};
 ghost use Rattle.kinds.specs.Inside.{puzzle_with};
 
-use grid::Side;
-use literals::Finding;
-
-// The name of a group, which is its first cell.
-#[derive(Clone, Copy)]
-pub enum Name {
-    At(usize),
-    Nobody,
-}
-
-// The lowest numbered group with a square and no arrow cell, of those that are listed.
-fn find_stranded(
-    names: &[u16; 1024],
-    number: usize,
-    squares: &[u16; 1024],
-    arrowed: &[u16; 1024],
-) -> Name
-    requires { Names names.now number }
-    ensures { result ≡ first_name (stranded squares.now arrowed.now) (take number names.now) }
+// The name of the lowest numbered group with a square and no arrow cell, of those that are listed. A group's name is its first cell.
+#[tactic(auto, unfolding(crate::specs::Arrays::stranded))]
+fn find_stranded(names: &[u16], squares: &[u16; 1024], arrowed: &[u16; 1024]) -> Option<u16>
+    requires { All (λ f. f < 1024) names.now }
+    ensures { result ≡ find (stranded squares.now arrowed.now) names.now }
 {
-    let mut k = 0;
-    while k < number {
-        let f = grid::wide(names[k]);
-        if squares[f] != 0 {
-            if arrowed[f] == 0 {
-                return Name::At(f);
-            }
-        }
-        k += 1;
-    }
-    Name::Nobody
+    names.iter().copied().find(|&f| squares[usize::from(f)] != 0 && arrowed[usize::from(f)] == 0)
 }
 
 // Whether the neighbour in direction k of the cell at row y, column x is in the group named f.
@@ -60,8 +36,8 @@ fn touches_toward(
 {
     let side = grid::toward(h, w, y, x, k);
     match side {
-        Side::At(j) => groups[j] == f,
-        Side::Off => false,
+        Some(j) => groups[j] == f,
+        None => false,
     }
 }
 
@@ -139,16 +115,14 @@ fn reason_for_potential_unit_boundary(
 {
     let n = h * w;
     let mut count = 0;
-    let mut i = 0;
-    while i < n {
+    for i in 0..n {
         count = literals::push(buffer, count, i, 0, on_boundary(cells, groups, h, w, f, i));
-        i += 1;
     }
     buffer[count] = literals::literal(last_square(cells, groups, n, f), 1);
     count + 1
 }
 
-// Reason 1, if it applies.
+// How many literals reason 1 has, which stand in the buffer then, or none where it does not apply.
 pub fn check_potential_groups(
     cells: &[u8; 1024],
     groups: &[u16; 1024],
@@ -159,18 +133,13 @@ pub fn check_potential_groups(
     h: usize,
     w: usize,
     buffer: &mut [u16],
-) -> Finding
+) -> Option<usize>
     requires { Fit h w buffer.old × Names names.now number }
     ensures { (lines : List (List ℕ))
         → PotentialTable (puzzle_with (sized h w) lines) (take (h * w) cells.now) groups.now names.now squares.now arrowed.now number
         → FoundAs (reason1 (puzzle_with (sized h w) lines) (take (h * w) cells.now)) buffer.old buffer.new result }
 {
-    let name = find_stranded(names, number, squares, arrowed);
-    match name {
-        Name::At(f) => {
-            let count = reason_for_potential_unit_boundary(cells, groups, h, w, f as u16, buffer);
-            Finding::Reason(count)
-        }
-        Name::Nobody => Finding::Nothing,
-    }
+    let f = find_stranded(&names[..number], squares, arrowed)?;
+    let count = reason_for_potential_unit_boundary(cells, groups, h, w, f, buffer);
+    Some(count)
 }

@@ -60,10 +60,8 @@ fn write_cells(out: &mut [u8], at: usize, cells: &[u8; 1024], n: usize) -> usize
     ensures { Appends at (flat_map (λ i. bits_of (get_or cells.now i 0) 2) (upto n)) out.old out.new result }
 {
     let mut end = at;
-    let mut i = 0;
-    while i < n {
-        end = put(out, end, grid::byte(cells[i]), 2);
-        i += 1;
+    for i in 0..n {
+        end = put(out, end, usize::from(cells[i]), 2);
     }
     end
 }
@@ -102,13 +100,11 @@ fn write_steps(
     ensures { Appends at (flat_map (step_piece (sized height width) line.now from) (upto steps)) out.old out.new result }
 {
     let mut end = at;
-    let mut t = 0;
-    while t < steps {
-        let i = grid::wide(line[from + t]);
-        let j = grid::wide(line[from + t + 1]);
+    for t in 0..steps {
+        let i = usize::from(line[from + t]);
+        let j = usize::from(line[from + t + 1]);
         let d = direction(height, width, i, j);
         end = put(out, end, d, 2);
-        t += 1;
     }
     end
 }
@@ -126,56 +122,49 @@ fn write_arrow(
     requires { Room at (20 + 2 * steps) out.old × OnLine height width line.now from steps }
     ensures { Appends at (arrow_piece (sized height width) line.now from steps) out.old out.new result }
 {
-    let i = grid::wide(line[from]);
+    let i = usize::from(line[from]);
     let y = put(out, at, i / width, 5);
     let x = put(out, y, i % width, 5);
     let n = put(out, x, steps, 10);
     write_steps(out, n, height, width, line, from, steps)
 }
 
-// Writes the arrows that stand in the line and end at the first `count` places of `ends`.
-fn write_arrows(
-    out: &mut [u8],
-    at: usize,
-    height: usize,
-    width: usize,
-    line: &[u16; 1024],
-    ends: &[u16; 1024],
-    count: usize,
-) -> usize
-    requires { Room at (18 * count + 2 * start_at ends.now count) out.old × Lines height width line.now ends.now count }
-    ensures { Appends at (flat_map (line_piece (sized height width) line.now ends.now) (upto count)) out.old out.new result }
+// Writes the arrows of a problem.
+fn write_arrows(out: &mut [u8], at: usize, problem: &Problem) -> usize
+    requires { Room at (18 * problem.now.count + 2 * start_at problem.now.ends problem.now.count) out.old
+        × Lines problem.now.height problem.now.width problem.now.arrows problem.now.ends problem.now.count }
+    ensures { Appends at (flat_map (line_piece (sized problem.now.height problem.now.width) problem.now.arrows problem.now.ends) (upto problem.now.count)) out.old out.new result }
 {
     let mut end = at;
     let mut from = 0;
-    let mut k = 0;
-    while k < count {
-        let to = grid::wide(ends[k]);
-        end = write_arrow(out, end, height, width, line, from, to - from - 1);
+    for k in 0..problem.count {
+        let to = usize::from(problem.ends[k]);
+        end = write_arrow(
+            out,
+            end,
+            problem.height,
+            problem.width,
+            &problem.arrows,
+            from,
+            to - from - 1,
+        );
         from = to;
-        k += 1;
     }
     end
 }
 
 // Writes all fields of a record, and returns the number of bits.
-fn write_fields(
-    out: &mut [u8],
-    height: usize,
-    width: usize,
-    cells: &[u8; 1024],
-    line: &[u16; 1024],
-    ends: &[u16; 1024],
-    count: usize,
-) -> usize
-    requires { (0 < height) × Room 0 (21 + 2 * (height * width) + (18 * count + 2 * start_at ends.now count)) out.old × Lines height width line.now ends.now count }
-    ensures { Appends 0 (field_bits height width cells.now line.now ends.now count) out.old out.new result }
+fn write_fields(out: &mut [u8], problem: &Problem) -> usize
+    requires { (0 < problem.now.height)
+        × Room 0 (21 + 2 * (problem.now.height * problem.now.width) + (18 * problem.now.count + 2 * start_at problem.now.ends problem.now.count)) out.old
+        × Lines problem.now.height problem.now.width problem.now.arrows problem.now.ends problem.now.count }
+    ensures { Appends 0 (field_bits problem.now.height problem.now.width problem.now.cells problem.now.arrows problem.now.ends problem.now.count) out.old out.new result }
 {
-    let h = put(out, 0, height - 1, 5);
-    let w = put(out, h, width - 1, 5);
-    let m = put(out, w, count, 11);
-    let c = write_cells(out, m, cells, height * width);
-    write_arrows(out, c, height, width, line, ends, count)
+    let h = put(out, 0, problem.height - 1, 5);
+    let w = put(out, h, problem.width - 1, 5);
+    let m = put(out, w, problem.count, 11);
+    let c = write_cells(out, m, &problem.cells, problem.height * problem.width);
+    write_arrows(out, c, problem)
 }
 
 // Writes the record of a puzzle to the front of a slice that has room for it, and returns its length.
@@ -183,17 +172,6 @@ pub fn write(problem: Problem, out: &mut [u8]) -> usize
     requires { (p : Puzzle) × Valid p × (problem ≡ problem_of p) × (length (write_record p) ≤ length out.old) }
     ensures { (p : Puzzle) → Valid p → problem ≡ problem_of p → Recorded p out.old out.new result }
 {
-    let cells = problem.cells;
-    let line = problem.arrows;
-    let ends = problem.ends;
-    let bits = write_fields(
-        out,
-        problem.height,
-        problem.width,
-        &cells,
-        &line,
-        &ends,
-        problem.count,
-    );
+    let bits = write_fields(out, &problem);
     (bits + 7) / 8
 }

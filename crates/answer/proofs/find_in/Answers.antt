@@ -1,28 +1,29 @@
--- `answer::find_in` meets its contract: the tests of the input in their order, then the host call.
+-- `answer::find_in` meets its contract: the refusal of the parts, or what the host call says.
 -- Assumes nothing.
-use native.Mathlib.Omega.{arith}
 use mathlib.Core.Path.{ap, ◌∙◌}
-use lib.ListN.{length}
 use mir.Syntax.{w32}
 use mir.ValLaws.{to_z-of_z}
-use Rattle.record.specs.Record.{Outcome}
+use Rattle.std.specs.Prelude.{ℕ, Err}
+use Rattle.refusal.specs.Refusals.{number_of, Outcome}
 use Rattle.literals.specs.Literals.{Found}
 use Rattle.host_find.specs.Host.{returned, output_after}
-use Rattle.host_find.proofs.FoundLaws.{refused_told}
-use Rattle.answer.proofs.Inputs.{too_long, too_short, cut_short, whole_parts}
+use Rattle.text.specs.Told.{told_by}
+use Rattle.answer.proofs.Inputs.{host_program}
+use Rattle.answer.proofs.Answers.{refusal_told, refusal_leaves}
 use Rattle.answer.proofs.find_in.Goals as goal
 
-pub returns-then-input-gt-INPUT : goal.returns-then-input-gt-INPUT
-returns-then-input-gt-INPUT c = refused_told c.args.found.now (too_long c.args.input.now c.if-input-gt-INPUT.true)
+pub returns-in-Ok-clause-told : goal.returns-in-Ok-clause-told
+returns-in-Ok-clause-told c =
+    let e = host_program c.args.input.now c.in-Ok.record.now c.in-Ok.decisions.now c.args.found.now c.in-Ok.ensures c.told-found in
+    c.read_code.ensures ∙ ap told_by (to_z-of_z w32 c.evolmino_find.result (record { sfits = c.evolmino_find.type_inv }) ∙ c.evolmino_find.ensures.0 ∙ ap returned e)
 
-pub returns-then-input-lt2 : goal.returns-then-input-lt2
-returns-then-input-lt2 c = refused_told c.args.found.now (too_short c.args.input.now c.if-input-gt-INPUT.false c.if-input-lt2.true)
+pub returns-in-Ok-clause-found : goal.returns-in-Ok-clause-found
+returns-in-Ok-clause-found c =
+    let e = host_program c.args.input.now c.in-Ok.record.now c.in-Ok.decisions.now c.args.found.now c.in-Ok.ensures c.told-found in
+    c.evolmino_find.ensures.1 ∙ ap (λ (o : Outcome Found). output_after o c.args.found.now) e
 
-pub returns-then-input-decisions : goal.returns-then-input-decisions
-returns-then-input-decisions c = refused_told c.args.found.now
-    (cut_short c.args.input.now c.if-input-gt-INPUT.false c.if-input-lt2.false (omega (arith, c.if-input-decisions.true, c.record_length-decisions.ensures.0)))
+pub returns-in-Err-clause-told : goal.returns-in-Err-clause-told
+returns-in-Err-clause-told c = ap (λ (k : ℕ). Err k) (c.from.ensures ∙ c.number.ensures) ∙ refusal_told c.args.input.now (number_of c.in-Err.refusal) c.in-Err.ensures
 
-pub returns : goal.returns
-returns c =
-    let e = whole_parts c.args.input.now c.if-input-gt-INPUT.false c.record_length-decisions.result (length c.args.found.now) c.record_length-decisions.ensures.0 c.requires c.if-input-decisions.false in
-    (to_z-of_z w32 c.evolmino_find.result (record { sfits = c.evolmino_find.type_inv }) ∙ c.evolmino_find.ensures.0 ∙ ap returned e, c.evolmino_find.ensures.1 ∙ ap (λ (o : Outcome Found). output_after o c.args.found.now) e)
+pub returns-in-Err-clause-found : goal.returns-in-Err-clause-found
+returns-in-Err-clause-found c = refusal_leaves c.args.input.now (number_of c.in-Err.refusal) c.in-Err.ensures c.args.found.now

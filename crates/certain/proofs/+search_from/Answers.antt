@@ -10,7 +10,7 @@ use Rattle.grid.specs.Lists.{how_many}
 use Rattle.grid.proofs.ArrayLaws.{fewer_set}
 use Rattle.form.proofs.ProblemForm.{Formed, Formed-is}
 use Rattle.finished.proofs.VerdictLaws.{few}
-use Rattle.certain.specs.Inside.{cells_by, problem_by, leaf_by, Meets}
+use Rattle.certain.specs.Inside.{left_number, cells_by, problem_by, leaf_by, Meets}
 use Rattle.certain.specs.declared.Met.{Met}
 use Rattle.certain.specs.declared.Met.TheVariants as met
 use Rattle.certain.proofs.StepLaws.{States-set, cells_long}
@@ -56,8 +56,8 @@ search_from-first-requires t c =
       ),
     )
 
-pub bounds-cells-i-then-first-eq0 : goal.bounds-cells-i-then-first-eq0
-bounds-cells-i-then-first-eq0 t c =
+pub bounds-cells-i-in-None : goal.bounds-cells-i-in-None
+bounds-cells-i-in-None t c =
     let some_left : 0 < c.args.left = omega (arith, c.if-left-eq0.false) in
     let formed : Formed (problem_by c.args.shape.now c.args.codes.now c.args.arrows.now c.args.ends.now) = Formed-is (problem_by c.args.shape.now c.args.codes.now c.args.arrows.now c.args.ends.now) c.requires.0.formed in
     let long : length (take (cells_by c.args.shape.now) c.args.cells.now) ≡ cells_by c.args.shape.now = cells_long (problem_by c.args.shape.now c.args.codes.now c.args.arrows.now c.args.ends.now) formed (leaf_by c.args.shape.now c.args.lowest.now c.args.highest.now c.args.codes.now c.args.arrows.now c.args.ends.now).edition (leaf_by c.args.shape.now c.args.lowest.now c.args.highest.now c.args.codes.now c.args.arrows.now c.args.ends.now).sizes c.requires.1 in
@@ -68,18 +68,18 @@ bounds-cells-i-then-first-eq0 t c =
     let placed : c.in-Undecided.i < 1024 = omega (arith, spot.0, few (problem_by c.args.shape.now c.args.codes.now c.args.arrows.now c.args.ends.now) formed) in
     placed
 
-pub returns-then-first-eq0 : goal.returns-then-first-eq0
-returns-then-first-eq0 t c =
+pub returns-in-None : goal.returns-in-None
+returns-in-None t c =
     let some_left : 0 < c.args.left = omega (arith, c.if-left-eq0.false) in
     let formed : Formed (problem_by c.args.shape.now c.args.codes.now c.args.arrows.now c.args.ends.now) = Formed-is (problem_by c.args.shape.now c.args.codes.now c.args.arrows.now c.args.ends.now) c.requires.0.formed in
     let long : length (take (cells_by c.args.shape.now) c.args.cells.now) ≡ cells_by c.args.shape.now = cells_long (problem_by c.args.shape.now c.args.codes.now c.args.arrows.now c.args.ends.now) formed (leaf_by c.args.shape.now c.args.lowest.now c.args.highest.now c.args.codes.now c.args.arrows.now c.args.ends.now).edition (leaf_by c.args.shape.now c.args.lowest.now c.args.highest.now c.args.codes.now c.args.arrows.now c.args.ends.now).sizes c.requires.1 in
     let meets : Meets (leaf_by c.args.shape.now c.args.lowest.now c.args.highest.now c.args.codes.now c.args.arrows.now c.args.ends.now) (cells_by c.args.shape.now) c.args.cells.now c.args.facts.now c.step-met.new.facts (met.Undecided (c.in-Undecided.i)) = subst
     (λ (m : Met). Meets (leaf_by c.args.shape.now c.args.lowest.now c.args.highest.now c.args.codes.now c.args.arrows.now c.args.ends.now) (cells_by c.args.shape.now) c.args.cells.now c.args.facts.now c.step-met.new.facts m)
     c.in-Undecided.is c.step-met.ensures.0 in
-    (way_exhausted (cells_by c.args.shape.now) c.args.left (leaf_by c.args.shape.now c.args.lowest.now c.args.highest.now c.args.codes.now c.args.arrows.now c.args.ends.now) c.args.cells.now c.args.facts.now c.requires.2 some_left long meets c.if-first-eq0.true c.search_from-first.ensures.0, c.search_from-first.ensures.1)
+    (way_exhausted (cells_by c.args.shape.now) c.args.left (leaf_by c.args.shape.now c.args.lowest.now c.args.highest.now c.args.codes.now c.args.arrows.now c.args.ends.now) c.args.cells.now c.args.facts.now c.requires.2 some_left long meets (ap left_number c.in-None.is) c.search_from-first.ensures.0, c.search_from-first.ensures.1)
 
-pub bounds-cells-i-in-Undecided : goal.bounds-cells-i-in-Undecided
-bounds-cells-i-in-Undecided t c =
+pub bounds-cells-i-in-Some : goal.bounds-cells-i-in-Some
+bounds-cells-i-in-Some t c =
     let some_left : 0 < c.args.left = omega (arith, c.if-left-eq0.false) in
     let formed : Formed (problem_by c.args.shape.now c.args.codes.now c.args.arrows.now c.args.ends.now) = Formed-is (problem_by c.args.shape.now c.args.codes.now c.args.arrows.now c.args.ends.now) c.requires.0.formed in
     let long : length (take (cells_by c.args.shape.now) c.args.cells.now) ≡ cells_by c.args.shape.now = cells_long (problem_by c.args.shape.now c.args.codes.now c.args.arrows.now c.args.ends.now) formed (leaf_by c.args.shape.now c.args.lowest.now c.args.highest.now c.args.codes.now c.args.arrows.now c.args.ends.now).edition (leaf_by c.args.shape.now c.args.lowest.now c.args.highest.now c.args.codes.now c.args.arrows.now c.args.ends.now).sizes c.requires.1 in
@@ -107,8 +107,8 @@ search_from-second-requires t c =
       (c.requires.0, rw e (States-set i 0 c.requires.1 (omega arith)), c.search_from-first.ensures.0.long, c.search_from-first.ensures.1),
     )
 
-pub bounds-cells-i-in-Undecided-2 : goal.bounds-cells-i-in-Undecided-2
-bounds-cells-i-in-Undecided-2 t c =
+pub bounds-cells-i-in-Some-2 : goal.bounds-cells-i-in-Some-2
+bounds-cells-i-in-Some-2 t c =
     let some_left : 0 < c.args.left = omega (arith, c.if-left-eq0.false) in
     let formed : Formed (problem_by c.args.shape.now c.args.codes.now c.args.arrows.now c.args.ends.now) = Formed-is (problem_by c.args.shape.now c.args.codes.now c.args.arrows.now c.args.ends.now) c.requires.0.formed in
     let long : length (take (cells_by c.args.shape.now) c.args.cells.now) ≡ cells_by c.args.shape.now = cells_long (problem_by c.args.shape.now c.args.codes.now c.args.arrows.now c.args.ends.now) formed (leaf_by c.args.shape.now c.args.lowest.now c.args.highest.now c.args.codes.now c.args.arrows.now c.args.ends.now).edition (leaf_by c.args.shape.now c.args.lowest.now c.args.highest.now c.args.codes.now c.args.arrows.now c.args.ends.now).sizes c.requires.1 in
@@ -135,12 +135,12 @@ returns-in-Full t c =
     let a = c.args in
     (way_full (cells_by a.shape.now) a.left (leaf_by c.args.shape.now c.args.lowest.now c.args.highest.now c.args.codes.now c.args.arrows.now c.args.ends.now) a.cells.now a.facts.now c.requires.2 some_left long (rw c.in-Full.is at c.step-met.ensures.0), c.step-met.ensures.1)
 
-pub returns-else-first-eq0 : goal.returns-else-first-eq0
-returns-else-first-eq0 t c =
+pub returns-in-Some : goal.returns-in-Some
+returns-in-Some t c =
     let some_left : 0 < c.args.left = omega (arith, c.if-left-eq0.false) in
     let formed : Formed (problem_by c.args.shape.now c.args.codes.now c.args.arrows.now c.args.ends.now) = Formed-is (problem_by c.args.shape.now c.args.codes.now c.args.arrows.now c.args.ends.now) c.requires.0.formed in
     let long : length (take (cells_by c.args.shape.now) c.args.cells.now) ≡ cells_by c.args.shape.now = cells_long (problem_by c.args.shape.now c.args.codes.now c.args.arrows.now c.args.ends.now) formed (leaf_by c.args.shape.now c.args.lowest.now c.args.highest.now c.args.codes.now c.args.arrows.now c.args.ends.now).edition (leaf_by c.args.shape.now c.args.lowest.now c.args.highest.now c.args.codes.now c.args.arrows.now c.args.ends.now).sizes c.requires.1 in
     let meets : Meets (leaf_by c.args.shape.now c.args.lowest.now c.args.highest.now c.args.codes.now c.args.arrows.now c.args.ends.now) (cells_by c.args.shape.now) c.args.cells.now c.args.facts.now c.step-met.new.facts (met.Undecided (c.in-Undecided.i)) = subst
     (λ (m : Met). Meets (leaf_by c.args.shape.now c.args.lowest.now c.args.highest.now c.args.codes.now c.args.arrows.now c.args.ends.now) (cells_by c.args.shape.now) c.args.cells.now c.args.facts.now c.step-met.new.facts m)
     c.in-Undecided.is c.step-met.ensures.0 in
-    (way_both (cells_by c.args.shape.now) c.args.left (leaf_by c.args.shape.now c.args.lowest.now c.args.highest.now c.args.codes.now c.args.arrows.now c.args.ends.now) c.args.cells.now c.args.facts.now c.requires.2 some_left long meets c.if-first-eq0.false c.search_from-first.ensures.0 c.search_from-second.ensures.0, c.search_from-second.ensures.1)
+    (way_both (cells_by c.args.shape.now) c.args.left (leaf_by c.args.shape.now c.args.lowest.now c.args.highest.now c.args.codes.now c.args.arrows.now c.args.ends.now) c.args.cells.now c.args.facts.now c.requires.2 some_left long meets (rw c.in-Some.is at c.search_from-first.ensures.0) c.search_from-second.ensures.0, c.search_from-second.ensures.1)

@@ -1,21 +1,14 @@
 -- `certificate::all_literals` meets its contract.
 -- Assumes nothing.
-use mathlib.Core.Path.{◌∙◌}
-use Rattle.certificate.specs.Certificate.{words_of}
-use Rattle.certificate.proofs.Heads.{heads_no, heads_turn, heads_end}
+use Rattle.std.proofs.Common.{rules, tests, arith, ◌∙◌, refl}
+use Rattle.std.proofs.lemmas.Iterator.{YieldsList-from_range}
+use Rattle.std.proofs.lemmas.Iterator.Search.{all_from_yields_List}
+use Rattle.certificate.specs.Certificate.{words_of, head_at}
+use Rattle.certificate.proofs.Heads.{all_upto}
 use Rattle.certificate.proofs.all_literals.Goals as goal
 
-pub returns-then-not-is_literal_of : goal.returns-then-not-is_literal_of
-returns-then-not-is_literal_of c =
-    let s = c.args in
-    heads_no (words_of s.certificate.now) s.n c.loop-i.i c.loop-i-test.true c.word_at.ensures.0 c.is_literal_of.ensures (c.if-not-is_literal_of.true) ∙ c.loop-i.invariant
-
-pub loop-i-preserved : goal.loop-i-preserved
-loop-i-preserved c =
-    let s = c.args in
-    heads_turn (words_of s.certificate.now) s.n c.loop-i.i c.loop-i-test.true c.word_at.ensures.0 c.is_literal_of.ensures (c.if-not-is_literal_of.false) ∙ c.loop-i.invariant
-
 pub returns : goal.returns
+unfolding head_at
 returns c =
-    let s = c.args in
-    heads_end (words_of s.certificate.now) s.n c.loop-i.i c.loop-i-test.false ∙ c.loop-i.invariant
+    let test = head_at (words_of c.args.certificate.now) in
+    all_from_yields_List test _ _ _ c.all.ensures.ran (YieldsList-from_range 0 c.args.n c.args.n refl (omega arith)) (λ x b q k. search (rules, tests)) ∙ all_upto test c.args.n

@@ -1,13 +1,10 @@
--- What holds at each turn of the loop of `certificate::look`, and what falls from turn to turn.
+-- What holds at each turn of the loop of `certificate::look`.
 -- Assumes nothing.
-use Prim.Native.Nat.{◌-◌}
-use mathlib.Core.Path.{◌≡◌}
-use lib.Seq.{slice}
+use Rattle.std.proofs.Common.{◌≡◌}
+use Rattle.std.proofs.Math.Seq.{slice}
 use Rattle.certificate.specs.Certificate.{words_of, look_from}
+use Rattle.certificate.specs.Inside.{clause_number}
 use Rattle.certificate.proofs.look.Given as goal
 
 abbrev pub invariant-loop-k : goal.invariant-loop-k
-invariant-loop-k l = look_from l.cells l.left (slice l.k l.to (words_of l.certificate)) ≡ look_from l.cells 0 (slice l.from l.to (words_of l.certificate))
-
-abbrev pub decreases-loop-k : goal.decreases-loop-k
-decreases-loop-k l = l.to - l.k
+invariant-loop-k l = look_from l.cells (clause_number l.left) (slice l.k l.to (words_of l.certificate)) ≡ look_from l.cells 0 (slice l.from l.to (words_of l.certificate))

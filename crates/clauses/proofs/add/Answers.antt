@@ -3,5 +3,5 @@
 use Rattle.clauses.proofs.NearLaws.{add_one_side}
 use Rattle.clauses.proofs.add.Goals as goal
 
-pub returns-in-At : goal.returns-in-At
-returns-in-At c = λ l m H n S. add_one_side c.in-At.j c.in-At.is H n S
+pub returns-in-Some : goal.returns-in-Some
+returns-in-Some c = λ l m H n S. add_one_side c.in-Some.j c.in-Some.is H n S

@@ -9,16 +9,17 @@ use Rattle.clauses.proofs.NearLaws.{near_from, toward_list, near_none, near_more
 use Rattle.clauses.proofs.gather.Goals as goal
 
 pub loop-k-init : goal.loop-k-init
-loop-k-init c =
-    let r = near_none c.args.marks.now (sized c.args.h c.args.w) (c.args.y * c.args.w + c.args.x) in (omega arith, r.0, r.1)
+loop-k-init c = near_none c.args.marks.now (sized c.args.h c.args.w) (c.args.y * c.args.w + c.args.x)
 
 pub loop-k-preserved : goal.loop-k-preserved
 loop-k-preserved c =
-    let H = c.add-near.ensures (near_from c.args.marks.now (sized c.args.h c.args.w) (c.args.y * c.args.w + c.args.x) c.loop-k.k) (toward_list c.args.marks.now (sized c.args.h c.args.w) (c.args.y * c.args.w + c.args.x) c.loop-k.k) c.loop-k.invariant.1 (omega (arith, c.loop-k.invariant.2, c.loop-k-test.true)) c.arrow_toward.ensures in
-    let r = near_more c.args.marks.now (sized c.args.h c.args.w) (c.args.y * c.args.w + c.args.x) c.loop-k.k c.arrow_toward.ensures c.loop-k.invariant.2 H in
-    (omega (arith, c.loop-k-test.true), r.0, r.1)
+    let g = sized c.args.h c.args.w in
+    let i = c.args.y * c.args.w + c.args.x in
+    let k = c.loop-k.k in
+    let H = c.add-near.ensures (near_from c.args.marks.now g i k) (toward_list c.args.marks.now g i k) c.loop-k.invariant.0 (omega arith) c.arrow_toward.ensures in
+    near_more c.args.marks.now g i k c.arrow_toward.ensures c.loop-k.invariant.1 H
 
 pub returns : goal.returns
 returns c =
-    let e : c.loop-k.k ≡ 4 = omega (arith, c.loop-k.invariant.0, c.loop-k-test.false) in
-    subst (λ m. Holds m c.loop-k.near) (ap (near_from c.args.marks.now (sized c.args.h c.args.w) (c.args.y * c.args.w + c.args.x)) e ∙ near_all c.args.marks.now (sized c.args.h c.args.w) (c.args.y * c.args.w + c.args.x)) c.loop-k.invariant.1
+    let e : c.loop-k.k ≡ 4 = omega arith in
+    subst (λ m. Holds m c.loop-k.near) (ap (near_from c.args.marks.now (sized c.args.h c.args.w) (c.args.y * c.args.w + c.args.x)) e ∙ near_all c.args.marks.now (sized c.args.h c.args.w) (c.args.y * c.args.w + c.args.x)) c.loop-k.invariant.0

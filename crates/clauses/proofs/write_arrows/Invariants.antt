@@ -1,6 +1,6 @@
--- What holds at each turn of the loop of `clauses::write_arrows`, and what falls from turn to turn.
+-- What holds at each turn of the loop of `clauses::write_arrows`.
 -- Assumes nothing.
-use Prim.Native.Nat.{◌-◌, ◌*◌, ◌≤◌}
+use Prim.Native.Nat.{◌*◌}
 use mathlib.Core.Path.{◌≡◌}
 use Rattle.grid.specs.Lists.{flat_map, upto}
 use Rattle.clauses.specs.Inside.{Appends, line_piece}
@@ -8,7 +8,4 @@ use Rattle.record.specs.Lines.{start_at}
 use Rattle.clauses.proofs.write_arrows.Given as goal
 
 abbrev pub invariant-loop-k : goal.invariant-loop-k
-invariant-loop-k l = (l.k ≤ l.count) × (l.from ≡ start_at l.ends l.k) × Appends l.at (l.from * 2050) (flat_map (line_piece l.line l.ends) (upto l.k)) l.initial.out l.out l.end
-
-abbrev pub decreases-loop-k : goal.decreases-loop-k
-decreases-loop-k l = l.count - l.k
+invariant-loop-k l = (l.from ≡ start_at l.problem.ends l.k) × Appends l.at (l.from * 2050) (flat_map (line_piece l.problem.arrows l.problem.ends) (upto l.k)) l.initial.out l.out l.end

@@ -1,13 +1,12 @@
 -- `clauses::write_between` meets its contract.
 -- Assumes nothing.
-use native.Mathlib.Omega.{arith}
 use Rattle.grid.specs.Side.{sized}
 use Rattle.clauses.proofs.AppendLaws.{Appends-start, Appends-more}
 use Rattle.clauses.specs.Inside.{between_piece}
 use Rattle.clauses.proofs.write_between.Goals as goal
 
 pub loop-i-init : goal.loop-i-init
-loop-i-init c = (omega arith, Appends-start (between_piece c.args.marks.now (sized c.args.h c.args.w)) c.args.at 128 c.args.out.now)
+loop-i-init c = Appends-start (between_piece c.args.marks.now (sized c.args.h c.args.w)) c.args.at 128 c.args.out.now
 
 pub loop-i-preserved : goal.loop-i-preserved
-loop-i-preserved c = (omega (arith, c.loop-i-test.true), Appends-more (between_piece c.args.marks.now (sized c.args.h c.args.w)) c.loop-i.i c.loop-i.invariant.1 c.between_at-end.ensures)
+loop-i-preserved c = Appends-more (between_piece c.args.marks.now (sized c.args.h c.args.w)) c.loop-i.i c.loop-i.invariant c.between_at-end.ensures

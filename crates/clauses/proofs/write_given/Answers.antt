@@ -1,12 +1,11 @@
 -- `clauses::write_given` meets its contract.
 -- Assumes nothing.
-use native.Mathlib.Omega.{arith}
 use Rattle.clauses.specs.Inside.{given_piece}
 use Rattle.clauses.proofs.AppendLaws.{Appends-start, Appends-more}
 use Rattle.clauses.proofs.write_given.Goals as goal
 
 pub loop-i-init : goal.loop-i-init
-loop-i-init c = (omega arith, Appends-start (given_piece c.args.codes.now) c.args.at 4 c.args.out.now)
+loop-i-init c = Appends-start (given_piece c.args.codes.now) c.args.at 4 c.args.out.now
 
 pub loop-i-preserved : goal.loop-i-preserved
-loop-i-preserved c = (omega (arith, c.loop-i-test.true), Appends-more (given_piece c.args.codes.now) c.loop-i.i c.loop-i.invariant.1 c.put_given-end.ensures)
+loop-i-preserved c = Appends-more (given_piece c.args.codes.now) c.loop-i.i c.loop-i.invariant c.put_given-end.ensures

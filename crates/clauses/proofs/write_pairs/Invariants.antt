@@ -1,12 +1,9 @@
--- What holds at each turn of the loop of `clauses::write_pairs`, and what falls from turn to turn.
+-- What holds at each turn of the loop of `clauses::write_pairs`.
 -- Assumes nothing.
-use Prim.Native.Nat.{◌-◌, ◌*◌, ◌≤◌}
+use Prim.Native.Nat.{◌*◌}
 use Rattle.grid.specs.Lists.{flat_map, upto}
 use Rattle.clauses.specs.Inside.{Appends, with_piece}
 use Rattle.clauses.proofs.write_pairs.Given as goal
 
 abbrev pub invariant-loop-a : goal.invariant-loop-a
-invariant-loop-a l = (l.a ≤ l.count) × Appends l.at (l.a * 32) (flat_map (with_piece l.i l.cells) (upto l.a)) l.initial.out l.out l.end
-
-abbrev pub decreases-loop-a : goal.decreases-loop-a
-decreases-loop-a l = l.count - l.a
+invariant-loop-a l = Appends l.at (l.a * 32) (flat_map (with_piece l.i l.cells) (upto l.a)) l.initial.out l.out l.end

@@ -1,13 +1,12 @@
 -- `clauses::write_touching` meets its contract.
 -- Assumes nothing.
-use native.Mathlib.Omega.{arith}
 use Rattle.grid.specs.Side.{sized}
 use Rattle.clauses.proofs.AppendLaws.{Appends-start, Appends-more}
 use Rattle.clauses.specs.Inside.{touching_piece}
 use Rattle.clauses.proofs.write_touching.Goals as goal
 
 pub loop-i-init : goal.loop-i-init
-loop-i-init c = (omega arith, Appends-start (touching_piece c.args.marks.now (sized c.args.h c.args.w)) c.args.at 12 c.args.out.now)
+loop-i-init c = Appends-start (touching_piece c.args.marks.now (sized c.args.h c.args.w)) c.args.at 12 c.args.out.now
 
 pub loop-i-preserved : goal.loop-i-preserved
-loop-i-preserved c = (omega (arith, c.loop-i-test.true), Appends-more (touching_piece c.args.marks.now (sized c.args.h c.args.w)) c.loop-i.i c.loop-i.invariant.1 c.touching_at-end.ensures)
+loop-i-preserved c = Appends-more (touching_piece c.args.marks.now (sized c.args.h c.args.w)) c.loop-i.i c.loop-i.invariant c.touching_at-end.ensures

@@ -1,13 +1,10 @@
--- What holds at each turn of the loop of `clauses::write_touching`, and what falls from turn to turn.
+-- What holds at each turn of the loop of `clauses::write_touching`.
 -- Assumes nothing.
-use Prim.Native.Nat.{◌-◌, ◌*◌, ◌≤◌}
+use Prim.Native.Nat.{◌*◌}
 use Rattle.grid.specs.Lists.{flat_map, upto}
 use Rattle.grid.specs.Side.{sized}
 use Rattle.clauses.specs.Inside.{Appends, touching_piece}
 use Rattle.clauses.proofs.write_touching.Given as goal
 
 abbrev pub invariant-loop-i : goal.invariant-loop-i
-invariant-loop-i l = (l.i ≤ l.h * l.w) × Appends l.at (l.i * 12) (flat_map (touching_piece l.marks (sized l.h l.w)) (upto l.i)) l.initial.out l.out l.end
-
-abbrev pub decreases-loop-i : goal.decreases-loop-i
-decreases-loop-i l = l.h * l.w - l.i
+invariant-loop-i l = Appends l.at (l.i * 12) (flat_map (touching_piece l.marks (sized l.h l.w)) (upto l.i)) l.initial.out l.out l.end

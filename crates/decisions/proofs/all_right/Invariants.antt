@@ -1,6 +1,6 @@
--- What holds at each turn of the loop of `decisions::all_right`, and what falls from turn to turn.
+-- What holds at each turn of the loop of `decisions::all_right`.
 -- Assumes nothing.
-use Prim.Native.Nat.{ℕ, ◌-◌}
+use Prim.Native.Nat.{ℕ}
 use mathlib.Core.Path.{◌≡◌}
 use mathlib.Core.Bool.{◌&&◌}
 use mathlib.Core.List.{List}
@@ -12,6 +12,3 @@ use Rattle.decisions.proofs.all_right.Given as goal
 
 abbrev pub invariant-loop-i : goal.invariant-loop-i
 invariant-loop-i l = (listed : List ℕ) → Marks l.marks (λ j. member j listed) → all (shown listed l.cells) (upto l.n) ≡ (l.good && all (shown listed l.cells) (drop l.i (upto l.n)))
-
-abbrev pub decreases-loop-i : goal.decreases-loop-i
-decreases-loop-i l = l.n - l.i

@@ -1,6 +1,6 @@
--- What holds at each turn of the loop of `exported::write_numbers`, and what falls from turn to turn.
+-- What holds at each turn of the loop of `exported::write_numbers`.
 -- Assumes nothing.
-use Prim.Native.Nat.{◌-◌, ◌*◌, ◌≤◌}
+use Prim.Native.Nat.{◌*◌}
 use mathlib.Core.Path.{◌≡◌}
 use mathlib.Core.List.{◌++◌}
 use lib.ListN.{take, drop}
@@ -8,7 +8,4 @@ use Rattle.exported.specs.Written.{bytes_of}
 use Rattle.exported.proofs.write_numbers.Given as goal
 
 abbrev pub invariant-loop-k : goal.invariant-loop-k
-invariant-loop-k l = (l.k ≤ l.count) × (l.output ≡ bytes_of (take l.k l.numbers) ++ drop (2 * l.k) l.initial.output)
-
-abbrev pub decreases-loop-k : goal.decreases-loop-k
-decreases-loop-k l = l.count - l.k
+invariant-loop-k l = l.output ≡ bytes_of (take l.k l.numbers) ++ drop (2 * l.k) l.initial.output

@@ -1,6 +1,6 @@
--- What holds at each turn of the loop of `fence::insert_disturbing_blocks`, and what falls from turn to turn.
+-- What holds at each turn of the loop of `fence::insert_disturbing_blocks`.
 -- Assumes nothing.
-use Prim.Native.Nat.{ℕ, ◌≤◌, ◌-◌, ◌*◌}
+use Prim.Native.Nat.{ℕ, ◌*◌}
 use mathlib.Core.Bool.{Bool, ◌||◌}
 use mathlib.Core.List.{List}
 use Rattle.grid.specs.Side.{sized}
@@ -15,7 +15,4 @@ Added kinds owners n base part₀ total₀ f t part total js = Ordered kinds n b
 
 abbrev pub invariant-loop-k : goal.invariant-loop-k
 invariant-loop-k l =
-    (l.k ≤ 4) × ((base : List ℕ) (t : ℕ → Bool) → Whole l.kinds l.owners t → Added l.kinds l.owners (l.h * l.w) base l.initial.part l.initial.total l.f t l.part l.total (gathered (sized l.h l.w) l.i l.k))
-
-abbrev pub decreases-loop-k : goal.decreases-loop-k
-decreases-loop-k l = 4 - l.k
+    (base : List ℕ) (t : ℕ → Bool) → Whole l.kinds l.owners t → Added l.kinds l.owners (l.h * l.w) base l.initial.part l.initial.total l.f t l.part l.total (gathered (sized l.h l.w) l.i l.k)

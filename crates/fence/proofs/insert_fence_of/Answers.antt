@@ -11,17 +11,17 @@ insert-requires c = ordered_room c.requires.1.ordered
 pub returns-then-touches_marked : goal.returns-then-touches_marked
 returns-then-touches_marked c = λ base t whole o.
     adds_itself c.args.cells.now c.args.kinds.now c.args.owners.now c.args.marks.now _ c.args.f c.args.i t
-    c.if-kinds-i-eq0.true (sym c.touches_marked.ensures ∙ c.if-touches_marked.true) c.requires.0.within o c.insert.ensures
+    c.if-kinds-i-eq-EMPTY.true (sym c.touches_marked.ensures ∙ c.if-touches_marked.true) c.requires.0.within o c.insert.ensures
 
-pub returns-then-kinds-i-eq0 : goal.returns-then-kinds-i-eq0
-returns-then-kinds-i-eq0 c = λ base t whole o. none_added t _ (adds_untouched c.args.cells.now c.args.kinds.now c.args.owners.now c.args.marks.now _ c.args.f c.args.i (sym c.touches_marked.ensures ∙ c.if-touches_marked.false)) o
+pub returns-then-kinds-i-eq-EMPTY : goal.returns-then-kinds-i-eq-EMPTY
+returns-then-kinds-i-eq-EMPTY c = λ base t whole o. none_added t _ (adds_untouched c.args.cells.now c.args.kinds.now c.args.owners.now c.args.marks.now _ c.args.f c.args.i (sym c.touches_marked.ensures ∙ c.if-touches_marked.false)) o
 
-pub returns-then-cells-i-ne2 : goal.returns-then-cells-i-ne2
-returns-then-cells-i-ne2 c = λ base t whole o. none_added t _ (adds_decided c.args.cells.now c.args.kinds.now c.args.owners.now c.args.marks.now _ c.args.f c.args.i c.if-kinds-i-eq0.false c.if-cells-i-ne2.true) o
+pub returns-then-cells-i-ne-UNDECIDED : goal.returns-then-cells-i-ne-UNDECIDED
+returns-then-cells-i-ne-UNDECIDED c = λ base t whole o. none_added t _ (adds_decided c.args.cells.now c.args.kinds.now c.args.owners.now c.args.marks.now _ c.args.f c.args.i c.if-kinds-i-eq-EMPTY.false c.if-cells-i-ne-UNDECIDED.true) o
 
 pub returns-then-touches_marked-2 : goal.returns-then-touches_marked-2
 returns-then-touches_marked-2 c = λ base t whole o.
-    adds_disturbing c.args.cells.now c.args.kinds.now c.args.owners.now c.args.marks.now _ c.args.f c.args.i t c.if-kinds-i-eq0.false c.if-cells-i-ne2.false (sym c.touches_marked-2.ensures ∙ c.if-touches_marked-2.true)
+    adds_disturbing c.args.cells.now c.args.kinds.now c.args.owners.now c.args.marks.now _ c.args.f c.args.i t c.if-kinds-i-eq-EMPTY.false c.if-cells-i-ne-UNDECIDED.false (sym c.touches_marked-2.ensures ∙ c.if-touches_marked-2.true)
     (c.insert_disturbing_blocks.ensures base t whole o)
 
 pub returns : goal.returns

@@ -1,6 +1,6 @@
--- What holds at each turn of the loop of `fence::touches_marked`, and what falls from turn to turn.
+-- What holds at each turn of the loop of `fence::touches_marked`.
 -- Assumes nothing.
-use Prim.Native.Nat.{ℕ, ◌≤◌, ◌-◌}
+use Prim.Native.Nat.{ℕ}
 use mathlib.Core.Path.{◌≡◌}
 use mathlib.Core.Bool.{false}
 use mathlib.Core.List.{List}
@@ -16,7 +16,4 @@ abbrev pub Untouched : List ℕ → List ℕ → Type 0
 Untouched marks l = any (λ j. eqb (get_or marks j 0) 1) l ≡ false
 
 abbrev pub invariant-loop-k : goal.invariant-loop-k
-invariant-loop-k l = (l.k ≤ 4) × Untouched l.marks (gathered (sized l.h l.w) l.i l.k)
-
-abbrev pub decreases-loop-k : goal.decreases-loop-k
-decreases-loop-k l = 4 - l.k
+invariant-loop-k l = Untouched l.marks (gathered (sized l.h l.w) l.i l.k)

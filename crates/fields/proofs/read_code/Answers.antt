@@ -1,15 +1,13 @@
 -- `fields::read_code` meets its contract.
 -- Assumes nothing.
-use Rattle.fields.specs.Fields.{field}
-use Rattle.fields.proofs.ReadLaws.{value_ok, fault_refused, code_value, code_fault}
+use Rattle.fields.specs.Inside.{cell_code, code_at}
+use Rattle.fields.proofs.OutcomeLaws.{next_ok, next_refused, outcome_fault}
 use Rattle.fields.proofs.read_code.Goals as goal
 
-pub returns-in-Value : goal.returns-in-Value
-returns-in-Value c =
-    let e = value_ok (field c.args.s.now c.args.at 2) c.read_field-f.ensures c.in-Value.is in
-    code_value c.args.s.now c.args.at e c.cell_code.ensures
+pub returns-in_err-read_field : goal.returns-in_err-read_field
+unfolding code_at
+returns-in_err-read_field c = outcome_fault _ _ c.from_residual.ensures.1 (next_refused cell_code c.in_err-read_field.ensures)
 
-pub returns-in-Fault : goal.returns-in-Fault
-returns-in-Fault c =
-    let e = fault_refused (field c.args.s.now c.args.at 2) c.read_field-f.ensures c.in-Fault.is in
-    code_fault c.args.s.now c.args.at e
+pub returns : goal.returns
+unfolding code_at
+returns c = next_ok cell_code c.in_ok-read_field.ensures c.cell_code.ensures

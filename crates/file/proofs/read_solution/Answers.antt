@@ -13,7 +13,7 @@ use Rattle.file.proofs.read_solution.Goals as goal
 
 pub loop-i-init : goal.loop-i-init
 unfolding range solution_in upto
-loop-i-init c = (omega arith, c.requires.2)
+loop-i-init c = c.requires.2
 
 pub overflow_cast-cells : goal.overflow_cast-cells
 overflow_cast-cells c =
@@ -21,4 +21,4 @@ overflow_cast-cells c =
     omega (arith, c.number_at.ensures, number-lt a.file.now (8 * a.from + 3 + c.loop-i.i) 1)
 
 pub loop-i-preserved : goal.loop-i-preserved
-loop-i-preserved c = (omega arith, ap (λ (x : List ℕ). set x c.loop-i.i c.number_at.result) c.loop-i.invariant.1 ∙ solution_more c.args.file.now c.args.from c.loop-i.i (omega arith) c.number_at.ensures)
+loop-i-preserved c = ap (λ (x : List ℕ). set x c.loop-i.i c.number_at.result) c.loop-i.invariant ∙ solution_more c.args.file.now c.args.from c.loop-i.i (omega arith) c.number_at.ensures

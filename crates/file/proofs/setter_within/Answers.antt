@@ -2,25 +2,22 @@
 -- Assumes nothing.
 use mathlib.Core.Path.{◌≡◌, sym, ap, ◌∙◌}
 use Rattle.fields.specs.Fields.{ok}
+use Rattle.fields.proofs.OutcomeLaws.{outcome_fault}
 use Rattle.record.specs.Problem.{problem_of}
 use Rattle.record.specs.Head.{Head, read_head}
-use Rattle.record.proofs.HeadLaws.{head_refused, head_done}
 use Rattle.file.specs.Answers.{setter_of}
-use Rattle.file.proofs.AnswerLaws.{setter_unread}
+use Rattle.file.proofs.AnswerLaws.{setter_no, head_fault, head_ok, setter_unread}
 use Rattle.file.proofs.setter_within.Goals as goal
 
-pub setter_behind-requires : goal.setter_behind-requires
-setter_behind-requires c =
-    let read : (h : Head) × (read_head c.args.file.now ≡ ok h) × (c.read_head-heading.result.problem ≡ problem_of h.puzzle) = head_done c.args.file.now c.read_head-heading.result c.read_head-heading.ensures c.in-Done.is in
-    read
-
-pub returns-in-Done : goal.returns-in-Done
-returns-in-Done c =
-    let read : (h : Head) × (read_head c.args.file.now ≡ ok h) × (c.read_head-heading.result.problem ≡ problem_of h.puzzle) = head_done c.args.file.now c.read_head-heading.result c.read_head-heading.ensures c.in-Done.is in
-    let r = read in c.setter_behind.ensures r.0 r.1 r.2
-
-pub returns-in-Refused : goal.returns-in-Refused
-returns-in-Refused c =
+pub returns-in_err-heading : goal.returns-in_err-heading
+returns-in_err-heading c =
     let a = c.args in
-    c.no_setter.ensures
-    ∙ ap setter_of (sym (setter_unread a.room a.edition a.file.now (head_refused a.file.now c.read_head-heading.result c.read_head-heading.ensures c.in-Refused.k c.in-Refused.is)))
+    outcome_fault _ _ c.from_residual.ensures.1 (sym (ap setter_of (setter_unread a.room a.edition a.file.now (head_fault a.file.now c.in_err-heading.ensures)) ∙ setter_no))
+
+pub setter_behind-requires : goal.setter_behind-requires
+setter_behind-requires c = head_ok c.args.file.now c.in_ok-heading.ensures
+
+pub returns : goal.returns
+returns c =
+    let h : (h : Head) × (read_head c.args.file.now ≡ ok h) × (c.in_ok-heading.heading ≡ problem_of h.puzzle) = head_ok c.args.file.now c.in_ok-heading.ensures in
+    c.setter_behind.ensures h.0 h.1 h.2

@@ -18,7 +18,7 @@ returns-then-finding_differs c =
     let a = c.args in (
       board-left,
       fails (other_answer a.board a.player a.size a.refusal a.count (number_in a.list.now a.at a.count 65535)
-          c.fresh_buffer-buffer.result c.fresh_buffer-buffer.ensures c.find-asked.result.finding c.find-asked.ensures.0 c.finding_differs.result c.finding_differs.ensures c.if-finding_differs.true),
+          c.fresh_buffer-buffer.result c.fresh_buffer-buffer.ensures c.finding_differs.result (c.finding_differs.ensures _ c.find-asked.ensures.0) c.if-finding_differs.true),
     )
 
 pub returns : goal.returns
@@ -28,6 +28,6 @@ returns c =
     let a = c.args in
     let said = number_in a.list.now a.at a.count 65535 in (
       board-left,
-      this_answer a.board a.player a.size a.refusal a.count said c.fresh_buffer-buffer.result c.fresh_buffer-buffer.ensures c.find-asked.result.finding c.find-asked.ensures.0 c.finding_differs.result c.finding_differs.ensures c.if-finding_differs.false c.literals_differ.result
+      this_answer a.board a.player a.size a.refusal a.count said c.fresh_buffer-buffer.result c.fresh_buffer-buffer.ensures c.finding_differs.result (c.finding_differs.ensures _ c.find-asked.ensures.0) c.if-finding_differs.false c.literals_differ.result
           (c.literals_differ.ensures ∙ ap (λ (l : List ℕ). differs (l ++ drop a.size c.fresh_buffer-buffer.result) said 0) c.find-asked.ensures.2),
     )

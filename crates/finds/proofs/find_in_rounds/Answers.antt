@@ -3,7 +3,9 @@
 use borrow.Author.Rules.{rules}
 use lib.ListN.{length}
 use mathlib.Core.Path.{◌≡◌, sym, ap, ◌∙◌}
-use Rattle.reasons.specs.Find.{find_of, buffer_after}
+use Prim.Native.Nat.{ℕ}
+use mathlib.Core.List.{List}
+use Rattle.reasons.specs.Find.{find_of, found_as, buffer_after}
 use Rattle.finds.proofs.FindLaws.{find_again, buffer_again}
 use Rattle.finds.proofs.find_in_rounds.Goals as goal
 
@@ -14,5 +16,5 @@ loop-i-preserved c =
     let left = c.find-first.new.buffer in
     let same = c.loop-i.invariant.0 in (
       c.find-found.ensures.2 ∙ (ap (buffer_after a.board a.player) same ∙ buffer_again a.board a.player a.buffer.now left c.find-first.ensures.2 long),
-      c.find-found.ensures.0 ∙ (ap (find_of a.board a.player) same ∙ (find_again a.board a.player a.buffer.now left c.find-first.ensures.2 long ∙ sym c.find-first.ensures.0)),
+      c.find-found.ensures.0 ∙ (ap (λ (l : List ℕ). found_as (find_of a.board a.player l)) same ∙ (ap found_as (find_again a.board a.player a.buffer.now left c.find-first.ensures.2 long) ∙ sym c.find-first.ensures.0)),
     )

@@ -1,6 +1,6 @@
--- What holds at each turn of the loop of `finished::all_keep_given`, and what falls from turn to turn.
+-- What holds at each turn of the loop of `finished::all_keep_given`.
 -- Assumes nothing.
-use Prim.Native.Nat.{ℕ, ◌-◌}
+use Prim.Native.Nat.{ℕ}
 use mathlib.Core.Path.{◌≡◌}
 use mathlib.Core.Bool.{Bool, ◌&&◌}
 use mathlib.Core.List.{List}
@@ -15,6 +15,3 @@ at codes cells i = keeps (get_or codes i 0) (get_or cells i 0)
 
 abbrev pub invariant-loop-i : goal.invariant-loop-i
 invariant-loop-i l = all (at l.codes l.cells) (upto l.n) ≡ (l.good && all (at l.codes l.cells) (drop l.i (upto l.n)))
-
-abbrev pub decreases-loop-i : goal.decreases-loop-i
-decreases-loop-i l = l.n - l.i

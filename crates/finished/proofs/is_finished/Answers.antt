@@ -2,21 +2,17 @@
 -- Assumes nothing.
 use Prim.Native.Nat.{◌*◌}
 use native.Mathlib.Omega.{arith}
-use mathlib.Core.Path.{◌≡◌, sym, ◌∙◌}
-use mathlib.Core.Bool.{true, ◌&&◌}
+use mathlib.Core.Path.{sym, ap, ◌∙◌}
+use mathlib.Core.Bool.{not, not-not}
 use lib.ListN.{length}
-use Rattle.grid.specs.Lists.{all}
 use Rattle.record.specs.Sizes.{GoodSizes, kept_ranges}
 use Rattle.record.specs.Problem.{puzzle_of, grid_of}
 use Rattle.form.proofs.ProblemForm.{Formed, Formed-is}
-use Rattle.groups.specs.Arrays.{lines_of}
-use Rattle.literals.proofs.Findings.{not_refused}
 use Rattle.reasons.proofs.BoardArrays.{problem_arrays}
 use Rattle.reasons.proofs.Room.{room_length}
 use Rattle.sized.proofs.KeptLaws.{kept_good}
-use Rattle.finished.specs.Finished.{keeps_all, two_squares}
 use Rattle.finished.specs.Inside.{problem_on}
-use Rattle.finished.proofs.VerdictLaws.{few, fails_before, no_reason, some_reason}
+use Rattle.finished.proofs.VerdictLaws.{few, fails_before, reason_tells}
 use Rattle.finished.proofs.is_finished.Goals as goal
 
 pub overflow_mul-h : goal.overflow_mul-h
@@ -41,21 +37,10 @@ find_inconsistency-found-requires c =
     let f = formed in
     (record { tall = f.sizes.high.0; wide = f.sizes.high.1; room = omega (arith, few (problem_on c.args.h c.args.w c.args.codes.now c.args.arrows.now c.args.ends.now c.args.number) f, room_length c.no_literals-buffer.ensures) }, problem_arrays (problem_on c.args.h c.args.w c.args.codes.now c.args.arrows.now c.args.ends.now c.args.number) f, c.requires.0, c.requires.3)
 
-pub returns-in-Nothing : goal.returns-in-Nothing
+pub returns : goal.returns
 unfolding puzzle_of
-returns-in-Nothing c =
-    let formed : Formed (problem_on c.args.h c.args.w c.args.codes.now c.args.arrows.now c.args.ends.now c.args.number) = Formed-is (problem_on c.args.h c.args.w c.args.codes.now c.args.arrows.now c.args.ends.now c.args.number) c.requires.2 in
-    let good : GoodSizes (puzzle_of (problem_on c.args.h c.args.w c.args.codes.now c.args.arrows.now c.args.ends.now c.args.number)) (kept_ranges c.args.lowest.now c.args.highest.now (length c.args.lowest.now)) = kept_good (puzzle_of (problem_on c.args.h c.args.w c.args.codes.now c.args.arrows.now c.args.ends.now c.args.number)) (c.args.h * c.args.w) c.args.lowest.now c.args.highest.now c.requires.3 in
-    let holds : let a = c.args in (keeps_all (a.h * a.w) a.codes.now a.cells.now && all (two_squares a.cells.now) (lines_of a.arrows.now a.ends.now a.number)) ≡ true = sym c.all_but_rules.ensures ∙ c.if-not-all_but_rules.false in
-    no_reason (problem_on c.args.h c.args.w c.args.codes.now c.args.arrows.now c.args.ends.now c.args.number) formed c.args.edition (kept_ranges c.args.lowest.now c.args.highest.now (length c.args.lowest.now)) c.args.cells.now c.requires.1 good holds (rw c.in-Nothing.is at c.find_inconsistency-found.ensures)
-
-pub returns-in-Reason : goal.returns-in-Reason
-unfolding puzzle_of
-returns-in-Reason c =
-    let formed : Formed (problem_on c.args.h c.args.w c.args.codes.now c.args.arrows.now c.args.ends.now c.args.number) = Formed-is (problem_on c.args.h c.args.w c.args.codes.now c.args.arrows.now c.args.ends.now c.args.number) c.requires.2 in
-    let good : GoodSizes (puzzle_of (problem_on c.args.h c.args.w c.args.codes.now c.args.arrows.now c.args.ends.now c.args.number)) (kept_ranges c.args.lowest.now c.args.highest.now (length c.args.lowest.now)) = kept_good (puzzle_of (problem_on c.args.h c.args.w c.args.codes.now c.args.arrows.now c.args.ends.now c.args.number)) (c.args.h * c.args.w) c.args.lowest.now c.args.highest.now c.requires.3 in
-    let holds : let a = c.args in (keeps_all (a.h * a.w) a.codes.now a.cells.now && all (two_squares a.cells.now) (lines_of a.arrows.now a.ends.now a.number)) ≡ true = sym c.all_but_rules.ensures ∙ c.if-not-all_but_rules.false in
-    some_reason (problem_on c.args.h c.args.w c.args.codes.now c.args.arrows.now c.args.ends.now c.args.number) formed c.args.edition (kept_ranges c.args.lowest.now c.args.highest.now (length c.args.lowest.now)) c.args.cells.now c.requires.1 good holds (rw c.in-Reason.is at c.find_inconsistency-found.ensures)
-
-pub returns-in-Refused : goal.returns-in-Refused
-returns-in-Refused c = absurd (not_refused _ (rw c.in-Refused.is at c.find_inconsistency-found.ensures))
+returns c =
+    let q = problem_on c.args.h c.args.w c.args.codes.now c.args.arrows.now c.args.ends.now c.args.number in
+    let good : GoodSizes (puzzle_of q) (kept_ranges c.args.lowest.now c.args.highest.now (length c.args.lowest.now)) = kept_good (puzzle_of q) (c.args.h * c.args.w) c.args.lowest.now c.args.highest.now c.requires.3 in
+    sym (ap not c.is_none.ensures ∙ not-not c.is_none.result) ∙ reason_tells q (Formed-is q c.requires.2) c.args.edition (kept_ranges c.args.lowest.now c.args.highest.now (length c.args.lowest.now)) c.args.cells.now c.requires.1 good
+    (sym c.all_but_rules.ensures ∙ c.if-not-all_but_rules.false) c.find_inconsistency-found.ensures

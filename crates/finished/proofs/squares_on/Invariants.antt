@@ -1,6 +1,6 @@
--- What holds at each turn of the loop of `finished::squares_on`, and what falls from turn to turn.
+-- What holds at each turn of the loop of `finished::squares_on`.
 -- Assumes nothing.
-use Prim.Native.Nat.{◌+◌, ◌-◌, ◌≤◌}
+use Prim.Native.Nat.{◌+◌, ◌≤◌}
 use mathlib.Core.Path.{◌≡◌}
 use Rattle.grid.specs.Cells.{square}
 use Rattle.grid.proofs.ArrowSquares.{ahead}
@@ -8,6 +8,3 @@ use Rattle.finished.proofs.squares_on.Given as goal
 
 abbrev pub invariant-loop-k : goal.invariant-loop-k
 invariant-loop-k l = (l.count + ahead (square l.cells) l.arrows l.to l.k ≡ ahead (square l.cells) l.arrows l.to l.from) × (l.count ≤ l.k)
-
-abbrev pub decreases-loop-k : goal.decreases-loop-k
-decreases-loop-k l = l.to - l.k

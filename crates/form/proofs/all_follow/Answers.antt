@@ -42,14 +42,14 @@ next arrows starts ends w count few good at k m h =
 pub follows-requires : goal.follows-requires
 follows-requires c =
     let n = next c.args.arrows.now c.args.starts.now c.args.ends.now c.args.w c.args.count (omega arith) c.loop-k.good c.loop-k.at c.loop-k.k c.loop-k.invariant (omega arith) in
-    let e : get_or (take c.args.count c.args.ends.now) c.loop-k.k 0 ≡ c.wide-end.result = n.at-end ∙ sym c.wide-end.ensures.0 in
+    let e : get_or (take c.args.count c.args.ends.now) c.loop-k.k 0 ≡ c.from-end.result = n.at-end ∙ sym c.from-end.ensures in
     (c.requires.0, omega (arith, e, n.above), omega (arith, e, n.below, c.requires.4.few), c.requires.3, λ i h. c.requires.4.low i (omega (arith, e, n.below, h)))
 
 pub loop-k-preserved : goal.loop-k-preserved
 loop-k-preserved c =
     let line = c.args.arrows.now in
     let n = next c.args.arrows.now c.args.starts.now c.args.ends.now c.args.w c.args.count (omega arith) c.loop-k.good c.loop-k.at c.loop-k.k c.loop-k.invariant (omega arith) in
-    let e : get_or (take c.args.count c.args.ends.now) c.loop-k.k 0 ≡ c.wide-end.result = n.at-end ∙ sym c.wide-end.ensures.0 in
+    let e : get_or (take c.args.count c.args.ends.now) c.loop-k.k 0 ≡ c.from-end.result = n.at-end ∙ sym c.from-end.ensures in
     record {
       rise = rw e at n.rest;
       top = rw e at n.top;

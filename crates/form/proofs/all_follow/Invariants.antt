@@ -1,6 +1,6 @@
--- What holds at each turn of the loop of `form::all_follow`, and what falls from turn to turn.
+-- What holds at each turn of the loop of `form::all_follow`.
 -- Assumes nothing.
-use Prim.Native.Nat.{ℕ, ◌-◌}
+use Prim.Native.Nat.{ℕ}
 use mathlib.Core.Path.{◌≡◌}
 use mathlib.Core.Bool.{Bool, true, ◌&&◌}
 use mathlib.Core.List.{List}
@@ -20,6 +20,3 @@ pub record Amid (line l starts : List ℕ) (w : ℕ) (good : Bool) (at k : ℕ) 
 
 abbrev pub invariant-loop-k : goal.invariant-loop-k
 invariant-loop-k l = Amid l.arrows (take l.count l.ends) l.starts l.w l.good l.at l.k
-
-abbrev pub decreases-loop-k : goal.decreases-loop-k
-decreases-loop-k l = l.count - l.k

@@ -14,15 +14,15 @@ pub loop-k-init : goal.loop-k-init
 loop-k-init c = record {
   prev = c.args.at;
   within = c.requires.1;
-  is = c.wide-i.ensures.0;
-  same = λ g s b. walk_start g c.args.line.now c.args.at c.args.end c.requires.1 (omega arith) ∙ rw c.wide-i.ensures.0 refl;
+  is = c.from-i.ensures;
+  same = λ g s b. walk_start g c.args.line.now c.args.at c.args.end c.requires.1 (omega arith) ∙ rw c.from-i.ensures refl;
 }
 
 pub loop-k-preserved : goal.loop-k-preserved
 loop-k-preserved c =
     let line = c.args.line.now in
-    let j = c.wide-j.result in
-    let e : j ≡ get_or line c.loop-k.k 0 = c.wide-j.ensures.0 in
+    let j = c.from-j.result in
+    let e : j ≡ get_or line c.loop-k.k 0 = c.from-j.ensures in
     let lt : c.loop-k.k < c.args.end = c.loop-k-test.true in
     let long : c.args.end ≤ length line = omega arith in
     record {

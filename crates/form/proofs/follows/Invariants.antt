@@ -1,4 +1,4 @@
--- What holds at each turn of the loop of `form::follows`, and what falls from turn to turn.
+-- What holds at each turn of the loop of `form::follows`.
 -- Assumes nothing.
 use Prim.Native.Nat.{ℕ, ◌<◌, ◌-◌}
 use mathlib.Core.Path.{◌≡◌}
@@ -19,6 +19,3 @@ pub record Amid (line starts : List ℕ) (w at end : ℕ) (good : Bool) (i k : �
 
 abbrev pub invariant-loop-k : goal.invariant-loop-k
 invariant-loop-k l = Amid l.line l.starts l.w l.at l.end l.good l.i l.k
-
-abbrev pub decreases-loop-k : goal.decreases-loop-k
-decreases-loop-k l = l.end - l.k

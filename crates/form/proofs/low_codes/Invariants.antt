@@ -1,6 +1,6 @@
--- What holds at each turn of the loop of `form::low_codes`, and what falls from turn to turn.
+-- What holds at each turn of the loop of `form::low_codes`.
 -- Assumes nothing.
-use Prim.Native.Nat.{ℕ, ◌-◌}
+use Prim.Native.Nat.{ℕ}
 use mathlib.Core.Path.{◌≡◌}
 use mathlib.Core.Bool.{◌&&◌, Bool}
 use lib.Dec.{ltb}
@@ -14,6 +14,3 @@ low x = ltb x 3
 
 abbrev pub invariant-loop-k : goal.invariant-loop-k
 invariant-loop-k l = all low (take l.n l.a) ≡ (l.good && all low (drop l.k (take l.n l.a)))
-
-abbrev pub decreases-loop-k : goal.decreases-loop-k
-decreases-loop-k l = l.n - l.k

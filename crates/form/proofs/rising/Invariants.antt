@@ -1,6 +1,5 @@
--- What holds at each turn of the loop of `form::rising`, and what falls from turn to turn.
+-- What holds at each turn of the loop of `form::rising`.
 -- Assumes nothing.
-use Prim.Native.Nat.{◌-◌}
 use mathlib.Core.Path.{◌≡◌}
 use mathlib.Core.Bool.{◌&&◌}
 use lib.ListN.{take, drop}
@@ -12,6 +11,3 @@ abbrev pub invariant-loop-k : goal.invariant-loop-k
 invariant-loop-k l =
     (rises 0 (take l.count l.ends) ≡ (l.rise && rises l.last (drop l.k (take l.count l.ends))))
     × (Lists.last 0 (take l.count l.ends) ≡ Lists.last l.last (drop l.k (take l.count l.ends)))
-
-abbrev pub decreases-loop-k : goal.decreases-loop-k
-decreases-loop-k l = l.count - l.k

@@ -1,121 +1,89 @@
--- `groups::flood` meets its contract. The loop's invariant: what held of a flood before the first turn holds of it now, s keeps
--- its label, and what left the stack is counted. The measure falls with every cell labelled and every cell taken from the stack.
+-- `groups::flood` meets its contract. The loop's invariant: the flood goes on, s has its label, and what left the stack is counted.
+-- The measure falls with every cell labelled and every cell taken from the stack.
 -- Assumes nothing.
-use Prim.Native.Nat.{ℕ, ◌+◌, ◌-◌, ◌*◌, ◌≤◌, ◌<◌}
+use Prim.Native.Nat.{ℕ, ◌+◌, ◌-◌, ◌≤◌, ◌<◌}
 use native.Mathlib.Omega.{arith}
 use mathlib.Core.Path.{◌≡◌, refl, ap}
-use mathlib.Core.Bool.{Bool, true}
+use mathlib.Core.Bool.{true}
+use mathlib.Core.List.{List}
 use lib.ListN.{get_or, set}
 use Rattle.grid.specs.Grid.{size}
-use Rattle.grid.specs.Side.{sized}
-use Rattle.grid.proofs.SideLaws.{area}
+use Rattle.grid.specs.Side.{sized, InGrid}
+use Rattle.grid.proofs.SideLaws.{area, cell_small}
 use Rattle.grid.proofs.ArrayLaws.{how_many-le}
 use Rattle.groups.specs.Arrays.{marked}
-use Rattle.groups.specs.Flood.{unlabelled, free, Only, Flooding}
+use Rattle.groups.specs.Flood.{unlabelled, free, Ready}
 use Rattle.groups.proofs.GroupLaws.{linked_size}
-use Rattle.groups.proofs.CountLaws.{Offered-counts, counted, labelled_none, Counting-none, Counting-all, Counting-few}
+use Rattle.groups.proofs.CountLaws.{bit_few, Offered-counts, counted, labelled_none, Counting-none, Counting-all, Counting-few}
 use Rattle.groups.proofs.FloodLaws.{Offered-labelled, flood_starts, flood_ends}
 use Rattle.groups.proofs.flood.Goals as goal
-use Rattle.groups.proofs.flood.Goals.{After-way_told-2-1, After-wide-i, Else-labels-s-ne-UNLABELLED}
+use Rattle.groups.proofs.flood.Invariants.{Amid}
 
--- the cells are few
-fits : (c : Else-labels-s-ne-UNLABELLED) → c.args.h * c.args.w ≤ 1024
-fits c = area c.args.h c.args.w c.requires.in_grid.0.tall c.requires.in_grid.0.wide
-
--- what holds of the flood at the loop's head
-floods : (c : After-way_told-2-1) (p : ℕ → Bool) → Only p c.args.labels.now
-    → Flooding (sized c.args.h c.args.w) p c.args.s c.args.labels.now 1024 c.loop-count.labels c.loop-count.stack c.loop-count.count
-floods c p only =
-    let fits : c.args.h * c.args.w ≤ 1024 = area c.args.h c.args.w c.requires.in_grid.0.tall c.requires.in_grid.0.wide in
-    let small : c.args.s < 1024 = omega (arith, c.requires.in_grid.0.within, fits) in
-    c.loop-count.invariant.keeps p c.args.labels.now (flood_starts (small) c.requires.lengths c.offer-count.ensures only)
-
-top : (c : After-wide-i) → get_or c.loop-count.stack (c.loop-count.count - 1) 0 < c.args.h * c.args.w
+-- while a cell waits, the next turn can be made
+ready :
+    {h w s : ℕ} {cells onarrow L₀ L st : List ℕ} {c ones crossed : ℕ} → InGrid h w s → 0 < c
+    → Amid (sized h w) s cells onarrow L₀ L st c ones crossed → Ready h w s L st c
 unfolding size
-top c =
-    let fits : c.args.h * c.args.w ≤ 1024 = area c.args.h c.args.w c.requires.in_grid.0.tall c.requires.in_grid.0.wide in
-    let small : c.args.s < 1024 = omega (arith, c.requires.in_grid.0.within, fits) in
-    let floods : (p : ℕ → Bool) → Only p c.args.labels.now
-    → Flooding (sized c.args.h c.args.w) p c.args.s c.args.labels.now 1024 c.loop-count.labels c.loop-count.stack c.loop-count.count = λ p only. c.loop-count.invariant.keeps p c.args.labels.now (flood_starts (small) c.requires.lengths c.offer-count.ensures only) in
-    linked_size (sized c.args.h c.args.w) (λ _. true) c.requires.in_grid.0.within ((floods (λ _. true) (λ _ _. refl)).waiting (c.loop-count.count - 1) (omega (arith, c.loop-count-test.true)))
+ready {h} {w} {c = c} G some A =
+    let F = A.floods (λ _. true) (λ _ _. refl) in
+    record {
+      tall = G.tall;
+      wide = G.wide;
+      seed = cell_small G;
+      count = some;
+      room = F.room;
+      top = linked_size (sized h w) (λ _. true) G.within (F.waiting (c - 1) (omega arith));
+    }
+
+-- the cell on top of the stack is one of the grid
+top_small : {h w s : ℕ} {L st : List ℕ} {c i : ℕ} → Ready h w s L st c → i ≡ get_or st (c - 1) 0 → i < 1024
+top_small {h} {w} R e = omega (arith, e, R.top, area h w R.tall R.wide)
 
 pub returns-then-labels-s-ne-UNLABELLED-clause-counted : goal.returns-then-labels-s-ne-UNLABELLED-clause-counted
 returns-then-labels-s-ne-UNLABELLED-clause-counted c =
-    let fits : c.args.h * c.args.w ≤ 1024 = area c.args.h c.args.w c.requires.in_grid.0.tall c.requires.in_grid.0.wide in
-    let small : c.args.s < 1024 = omega (arith, c.requires.in_grid.0.within, fits) in
-    (c.requires.lengths.1, ap (set c.args.squares.now c.args.s) (labelled_none c.args.s (marked c.args.cells.now) c.args.labels.now c.requires.in_grid.1), ap (set c.args.arrowed.now c.args.s) (labelled_none c.args.s (marked c.args.onarrow.now) c.args.labels.now c.requires.in_grid.1))
+    let a = c.args in
+    let unused = c.requires.in_grid.1 in
+    (c.requires.lengths.1, ap (set a.squares.now a.s) (labelled_none a.s (marked a.cells.now) a.labels.now unused), ap (set a.arrowed.now a.s) (labelled_none a.s (marked a.onarrow.now) a.labels.now unused))
 
 pub offer-count-requires : goal.offer-count-requires
 offer-count-requires c =
-    let fits : c.args.h * c.args.w ≤ 1024 = area c.args.h c.args.w c.requires.in_grid.0.tall c.requires.in_grid.0.wide in
-    let small : c.args.s < 1024 = omega (arith, c.requires.in_grid.0.within, fits) in
+    let small : c.args.s < 1024 = cell_small c.requires.in_grid.0 in
     record { cell = small; seed = small; room = omega (arith, how_many-le unlabelled c.args.labels.now, c.requires.lengths.0) }
 
 pub loop-count-init : goal.loop-count-init
 loop-count-init c =
-    let fits : c.args.h * c.args.w ≤ 1024 = area c.args.h c.args.w c.requires.in_grid.0.tall c.requires.in_grid.0.wide in
-    let small : c.args.s < 1024 = omega (arith, c.requires.in_grid.0.within, fits) in
-    let empty : 0 + free c.args.labels.now ≤ 1024 = omega (arith, how_many-le unlabelled c.args.labels.now, c.requires.lengths.0) in
+    let a = c.args in
+    let long = c.requires.lengths in
+    let unused = c.requires.in_grid.1 in
+    let small : a.s < 1024 = cell_small c.requires.in_grid.0 in
+    let room : 0 + free a.labels.now ≤ 1024 = omega (arith, how_many-le unlabelled a.labels.now, long.0) in
     record {
-      keeps = λ p L₀ F. F;
-      stays = λ h. h;
-      squares = Offered-counts c.args.s (marked c.args.cells.now) small empty c.offer-count.ensures (Counting-none c.args.s (marked c.args.cells.now) c.requires.lengths.0 c.requires.lengths.1 c.requires.in_grid.1);
-      crossings = Offered-counts c.args.s (marked c.args.onarrow.now) small empty c.offer-count.ensures (Counting-none c.args.s (marked c.args.onarrow.now) c.requires.lengths.0 c.requires.lengths.1 c.requires.in_grid.1);
+      floods = λ p only. flood_starts small long c.offer-count.ensures only;
+      seed = Offered-labelled small c.offer-count.ensures;
+      squares = Offered-counts a.s (marked a.cells.now) small room c.offer-count.ensures (Counting-none a.s (marked a.cells.now) long.0 long.1 unused);
+      crossings = Offered-counts a.s (marked a.onarrow.now) small room c.offer-count.ensures (Counting-none a.s (marked a.onarrow.now) long.0 long.1 unused);
     }
 
 pub offset_bounds-stack-count : goal.offset_bounds-stack-count
-offset_bounds-stack-count c =
-    let fits : c.args.h * c.args.w ≤ 1024 = area c.args.h c.args.w c.requires.in_grid.0.tall c.requires.in_grid.0.wide in
-    let small : c.args.s < 1024 = omega (arith, c.requires.in_grid.0.within, fits) in
-    let floods : (p : ℕ → Bool) → Only p c.args.labels.now
-    → Flooding (sized c.args.h c.args.w) p c.args.s c.args.labels.now 1024 c.loop-count.labels c.loop-count.stack c.loop-count.count = λ p only. c.loop-count.invariant.keeps p c.args.labels.now (flood_starts small c.requires.lengths c.offer-count.ensures only) in
-    let room : c.loop-count.count ≤ 1024 = omega (arith, (floods (λ _. true) (λ _ _. refl)).room) in
-    omega (arith, room)
+offset_bounds-stack-count c = let R = ready c.requires.in_grid.0 c.loop-count-test.true c.loop-count.invariant in omega (arith, R.room)
 
 pub bounds-stack-count : goal.bounds-stack-count
-bounds-stack-count c =
-    let fits : c.args.h * c.args.w ≤ 1024 = area c.args.h c.args.w c.requires.in_grid.0.tall c.requires.in_grid.0.wide in
-    let small : c.args.s < 1024 = omega (arith, c.requires.in_grid.0.within, fits) in
-    let floods : (p : ℕ → Bool) → Only p c.args.labels.now
-    → Flooding (sized c.args.h c.args.w) p c.args.s c.args.labels.now 1024 c.loop-count.labels c.loop-count.stack c.loop-count.count = λ p only. c.loop-count.invariant.keeps p c.args.labels.now (flood_starts small c.requires.lengths c.offer-count.ensures only) in
-    let room : c.loop-count.count ≤ 1024 = omega (arith, (floods (λ _. true) (λ _ _. refl)).room) in
-    omega (arith, room)
+bounds-stack-count c = let R = ready c.requires.in_grid.0 c.loop-count-test.true c.loop-count.invariant in omega (arith, R.room)
 
 pub bounds-cells-i : goal.bounds-cells-i
-unfolding size
-bounds-cells-i c =
-    let small : c.args.s < 1024 = omega (arith, c.requires.in_grid.0.within, (fits (goal.at.bounds-cells-i c).Else-labels-s-ne-UNLABELLED)) in
-    let floods : (p : ℕ → Bool) → Only p c.args.labels.now
-    → Flooding (sized c.args.h c.args.w) p c.args.s c.args.labels.now 1024 c.loop-count.labels c.loop-count.stack c.loop-count.count = λ p only. c.loop-count.invariant.keeps p c.args.labels.now (flood_starts small c.requires.lengths c.offer-count.ensures only) in
-    let top : get_or c.loop-count.stack (c.loop-count.count - 1) 0 < c.args.h * c.args.w = linked_size (sized c.args.h c.args.w) (λ _. true) c.requires.in_grid.0.within ((floods (λ _. true) (λ _ _. refl)).waiting (c.loop-count.count - 1) (omega (arith, c.loop-count-test.true))) in
-    omega (arith, c.wide-i.ensures.0, top, (fits (goal.at.bounds-cells-i c).Else-labels-s-ne-UNLABELLED))
+bounds-cells-i c = top_small (ready c.requires.in_grid.0 c.loop-count-test.true c.loop-count.invariant) c.from-i.ensures
 
-pub count_with-ones-requires : goal.count_with-ones-requires
-count_with-ones-requires c = Counting-few c.args.s (marked c.args.cells.now) c.loop-count.invariant.squares
+pub overflow_add-ones : goal.overflow_add-ones
+overflow_add-ones c = omega (arith, c.from-ones.ensures, bit_few, Counting-few c.args.s (marked c.args.cells.now) c.loop-count.invariant.squares)
 
 pub bounds-onarrow-i : goal.bounds-onarrow-i
-bounds-onarrow-i c =
-    let fits : c.args.h * c.args.w ≤ 1024 = area c.args.h c.args.w c.requires.in_grid.0.tall c.requires.in_grid.0.wide in
-    omega (arith, c.wide-i.ensures.0, (top (goal.at.bounds-onarrow-i c).After-wide-i), fits)
+bounds-onarrow-i c = top_small (ready c.requires.in_grid.0 c.loop-count-test.true c.loop-count.invariant) c.from-i.ensures
 
-pub count_with-crossed-requires : goal.count_with-crossed-requires
-count_with-crossed-requires c = Counting-few c.args.s (marked c.args.onarrow.now) c.loop-count.invariant.crossings
+pub overflow_add-crossed : goal.overflow_add-crossed
+overflow_add-crossed c = omega (arith, c.from-crossed.ensures, bit_few, Counting-few c.args.s (marked c.args.onarrow.now) c.loop-count.invariant.crossings)
 
 pub spread-count-requires : goal.spread-count-requires
-spread-count-requires c =
-    let fits : c.args.h * c.args.w ≤ 1024 = area c.args.h c.args.w c.requires.in_grid.0.tall c.requires.in_grid.0.wide in
-    let small : c.args.s < 1024 = omega (arith, c.requires.in_grid.0.within, fits) in
-    let floods : (p : ℕ → Bool) → Only p c.args.labels.now
-    → Flooding (sized c.args.h c.args.w) p c.args.s c.args.labels.now 1024 c.loop-count.labels c.loop-count.stack c.loop-count.count = λ p only. c.loop-count.invariant.keeps p c.args.labels.now (flood_starts small c.requires.lengths c.offer-count.ensures only) in
-    let F = floods (λ _. true) (λ _ _. refl) in
-    record {
-      tall = c.requires.in_grid.0.tall;
-      wide = c.requires.in_grid.0.wide;
-      seed = small;
-      count = c.loop-count-test.true;
-      room = F.room;
-      top = (top (goal.at.spread-count-requires c).After-wide-i);
-    }
+spread-count-requires c = ready c.requires.in_grid.0 c.loop-count-test.true c.loop-count.invariant
 
 pub loop-count-smaller : goal.loop-count-smaller
 loop-count-smaller c = (c.spread-count.ensures (λ _. true)).falls
@@ -123,20 +91,17 @@ loop-count-smaller c = (c.spread-count.ensures (λ _. true)).falls
 pub loop-count-preserved : goal.loop-count-preserved
 unfolding marked
 loop-count-preserved c =
-    let fits : c.args.h * c.args.w ≤ 1024 = area c.args.h c.args.w c.requires.in_grid.0.tall c.requires.in_grid.0.wide in
-    let small : c.args.s < 1024 = omega (arith, c.requires.in_grid.0.within, fits) in
-    let floods : (p : ℕ → Bool) → Only p c.args.labels.now
-    → Flooding (sized c.args.h c.args.w) p c.args.s c.args.labels.now 1024 c.loop-count.labels c.loop-count.stack c.loop-count.count = λ p only. c.loop-count.invariant.keeps p c.args.labels.now (flood_starts small c.requires.lengths c.offer-count.ensures only) in
-    let room : c.loop-count.count ≤ 1024 = omega (arith, (floods (λ _. true) (λ _ _. refl)).room) in
+    let a = c.args in
     let A = c.loop-count.invariant in
     let S = c.spread-count.ensures (λ _. true) in
-    let pos = c.loop-count-test.true in
-    let few : c.loop-count.count ≤ 1025 = omega (arith, room) in
+    let some = c.loop-count-test.true in
+    let R = ready c.requires.in_grid.0 some A in
+    let few : c.loop-count.count ≤ 1025 = omega (arith, R.room) in
     record {
-      keeps = λ p L₀ F. (c.spread-count.ensures p).keeps L₀ (A.keeps p L₀ F);
-      stays = λ h. S.stays c.args.s (A.stays h);
-      squares = rw (c.count_with-ones.ensures, c.wide-i.ensures.0) (S.counts (marked c.args.cells.now) _ (counted c.args.s (marked c.args.cells.now) pos few A.squares));
-      crossings = rw (c.count_with-crossed.ensures, c.wide-i.ensures.0) (S.counts (marked c.args.onarrow.now) _ (counted c.args.s (marked c.args.onarrow.now) pos few A.crossings));
+      floods = λ p only. (c.spread-count.ensures p).keeps a.labels.now (A.floods p only);
+      seed = S.stays a.s A.seed;
+      squares = rw (c.from-ones.ensures, c.from-i.ensures) (S.counts (marked a.cells.now) _ (counted a.s (marked a.cells.now) some few A.squares));
+      crossings = rw (c.from-crossed.ensures, c.from-i.ensures) (S.counts (marked a.onarrow.now) _ (counted a.s (marked a.onarrow.now) some few A.crossings));
     }
 
 pub overflow_cast-squares : goal.overflow_cast-squares
@@ -148,17 +113,14 @@ overflow_cast-arrowed c = omega (arith, Counting-few c.args.s (marked c.args.ona
 pub returns-clause-walked : goal.returns-clause-walked
 unfolding size
 returns-clause-walked c =
-    let small : c.args.s < 1024 = omega (arith, c.requires.in_grid.0.within, (fits (goal.at.returns-clause-walked c).Else-labels-s-ne-UNLABELLED)) in
+    let a = c.args in
+    let G = c.requires.in_grid.0 in
     let A = c.loop-count.invariant in
-    let none : c.loop-count.count ≡ 0 = omega (arith, c.loop-count-test.false) in λ p only. flood_ends (fits (goal.at.returns-clause-walked c).Else-labels-s-ne-UNLABELLED) none ((floods (goal.at.returns-clause-walked c).After-way_told-2-1) p only) (A.stays (Offered-labelled small c.offer-count.ensures))
+    λ p only. flood_ends (area a.h a.w G.tall G.wide) (omega (arith, c.loop-count-test.false)) (A.floods p only) A.seed
 
 pub returns-clause-counted : goal.returns-clause-counted
-unfolding size
 returns-clause-counted c =
-    let small : c.args.s < 1024 = omega (arith, c.requires.in_grid.0.within, (fits (goal.at.returns-clause-counted c).Else-labels-s-ne-UNLABELLED)) in
+    let a = c.args in
     let A = c.loop-count.invariant in
-    let none : c.loop-count.count ≡ 0 = omega (arith, c.loop-count-test.false) in (
-      A.squares.stack_long,
-      ap (set c.args.squares.now c.args.s) (Counting-all c.args.s (marked c.args.cells.now) none A.squares),
-      ap (set c.args.arrowed.now c.args.s) (Counting-all c.args.s (marked c.args.onarrow.now) none A.crossings),
-    )
+    let none : c.loop-count.count ≡ 0 = omega (arith, c.loop-count-test.false) in
+    (A.squares.stack_long, ap (set a.squares.now a.s) (Counting-all a.s (marked a.cells.now) none A.squares), ap (set a.arrowed.now a.s) (Counting-all a.s (marked a.onarrow.now) none A.crossings))

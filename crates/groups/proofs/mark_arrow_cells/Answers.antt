@@ -7,10 +7,10 @@ use Rattle.groups.proofs.mark_arrow_cells.Goals as goal
 
 pub loop-k-init : goal.loop-k-init
 unfolding any member
-loop-k-init c = (omega arith, Marks-none)
+loop-k-init c = Marks-none
 
 pub loop-k-preserved : goal.loop-k-preserved
 loop-k-preserved c =
     let k = c.loop-k.k in
     let v = c.loop-k.invariant in
-    (omega arith, rw c.wide-i.ensures.0 (Marks-next c.args.arrows.now k (omega (arith, c.requires.long)) (c.requires.cells k c.loop-k-test.true) v.1))
+    rw c.from.ensures (Marks-next c.args.arrows.now k (omega (arith, c.requires.long)) (c.requires.cells k c.loop-k-test.true) v)

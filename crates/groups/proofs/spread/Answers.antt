@@ -1,25 +1,30 @@
 -- `groups::spread` meets its contract: the neighbours in the directions before k have been offered.
 -- Assumes nothing.
-use Prim.Native.Nat.{◌/◌, ◌%◌}
-use mathlib.Core.Path.{◌≡◌}
+use mathlib.Core.Path.{◌≡◌, sym, ◌∙◌}
 use mathlib.Core.Bool.{true}
 use native.Mathlib.Omega.{arith}
-use Rattle.grid.specs.Side.{InPlace}
-use Rattle.groups.proofs.FloodLaws.{Offers-none, Offers-more, top, Spread-does}
+use Rattle.groups.specs.Flood.{beyond, within}
+use Rattle.groups.proofs.FloodLaws.{Offers-none, Offers-more, beside_small, top, Spread-does}
 use Rattle.groups.proofs.spread.Goals as goal
+use Rattle.groups.proofs.spread.Goals.{in-Some, in_default}
 
 pub loop-k-init : goal.loop-k-init
-loop-k-init c = (λ p. Offers-none (omega (arith, c.requires.room)), omega arith)
+loop-k-init c = λ p. Offers-none (omega (arith, c.requires.room))
 
-pub offer_toward-waiting-requires-clause-name_and_room : goal.offer_toward-waiting-requires-clause-name_and_room
-offer_toward-waiting-requires-clause-name_and_room c =
-    let place : InPlace c.args.h c.args.w (c.wide-i.result / c.args.w) (c.wide-i.result % c.args.w) = top c.requires c.wide-i.ensures.0 in
-    (c.requires.seed, (c.loop-k.invariant.0 (λ _. true)).room)
+pub offer-waiting-requires : goal.offer-waiting-requires
+offer-waiting-requires c = record {
+  cell = beside_small c.loop-k.k (top c.requires c.from-i.ensures) c.in-Some.ensures;
+  seed = c.requires.seed;
+  room = (c.loop-k.invariant (λ _. true)).room;
+}
 
 pub loop-k-preserved : goal.loop-k-preserved
-loop-k-preserved c = (λ p. Offers-more c.requires.seed (c.loop-k.invariant.0 p) c.offer_toward-waiting.ensures, omega (arith, c.loop-k-test.true))
+loop-k-preserved c = λ p. Offers-more c.requires.seed (c.loop-k.invariant p) (elim c.match-toward.branch [
+  | in-Some v ↦ within _ (sym v.in-Some.is ∙ c.toward.ensures) (rw (v.labels-is, v.stack-is, v.waiting-is) v.offer-waiting.ensures)
+  | in_default v ↦ beyond (sym v.in_default.is ∙ c.toward.ensures) v.labels-is v.stack-is v.waiting-is
+])
 
 pub returns : goal.returns
 returns c =
-    let all : c.loop-k.k ≡ 4 = omega (arith, c.loop-k.invariant.1, c.loop-k-test.false) in
-    λ p. Spread-does c.requires c.wide-i.ensures.0 (rw all at (c.loop-k.invariant.0 p))
+    let all : c.loop-k.k ≡ 4 = omega (arith, c.loop-k.auto.k-end, c.loop-k-test.false) in
+    λ p. Spread-does c.requires c.from-i.ensures (rw all at (c.loop-k.invariant p))

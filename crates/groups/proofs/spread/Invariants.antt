@@ -1,6 +1,6 @@
--- What holds at each turn of the loop of `groups::spread`, and what falls from turn to turn.
+-- What holds at each turn of the loop of `groups::spread`.
 -- Assumes nothing.
-use Prim.Native.Nat.{ℕ, ◌+◌, ◌-◌, ◌*◌, ◌≤◌}
+use Prim.Native.Nat.{ℕ, ◌+◌, ◌*◌}
 use mathlib.Core.Bool.{Bool}
 use Rattle.grid.specs.Side.{sized}
 use Rattle.groups.proofs.FloodLaws.{Offers}
@@ -8,7 +8,4 @@ use Rattle.groups.proofs.spread.Given as goal
 
 abbrev pub invariant-loop-k : goal.invariant-loop-k
 invariant-loop-k l =
-    ((p : ℕ → Bool) → Offers (sized l.h l.w) p l.s (l.y * l.w + l.x) l.k l.initial.labels l.initial.stack l.initial.waiting l.labels l.stack l.waiting) × (l.k ≤ 4)
-
-abbrev pub decreases-loop-k : goal.decreases-loop-k
-decreases-loop-k l = 4 - l.k
+    (p : ℕ → Bool) → Offers (sized l.h l.w) p l.s (l.y * l.w + l.x) l.k l.initial.labels l.initial.stack l.initial.waiting l.labels l.stack l.waiting

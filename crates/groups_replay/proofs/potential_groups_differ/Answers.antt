@@ -8,6 +8,7 @@ use Rattle.grid.specs.Cells.{square}
 use Rattle.grid.specs.Grid.{size}
 use Rattle.grid.specs.Side.{sized}
 use Rattle.grid.proofs.SideLaws.{area}
+use Rattle.groups.specs.declared.Members.TheVariants.{Potential}
 use Rattle.groups.specs.Arrays.{counts, marked}
 use Rattle.replay.proofs.ComparisonLaws.{same_differs}
 use Rattle.groups_replay.proofs.BlockLaws.{groups_told}
@@ -22,4 +23,4 @@ returns c =
     same_differs
     (λ h. record { labelled = some; told = omega (arith, c.if-rounds-eq0-2.false); groups_so = h })
     (λ q. q.groups_so) c.groups_differ.result
-    (groups_told (sized a.h a.w) (counts true (take (a.h * a.w) a.cells.now)) (square (take (a.h * a.w) a.cells.now)) (marked a.onarrow.now) a.list.now a.at a.n c.requires.1 few (c.label_in_rounds.ensures.computed some) c.groups_differ.result c.groups_differ.ensures)
+    (groups_told (sized a.h a.w) (counts Potential (take (a.h * a.w) a.cells.now)) (square (take (a.h * a.w) a.cells.now)) (marked a.onarrow.now) a.list.now a.at a.n c.requires.1 few (c.label_in_rounds.ensures.computed some) c.groups_differ.result c.groups_differ.ensures)

@@ -11,18 +11,18 @@ use Rattle.growth.specs.Growth.{most_apart}
 use Rattle.growth.proofs.Gap.{part_done, part_taken, part_passed}
 use Rattle.growth.proofs.gap_count.Goals as goal
 
-pub loop-k-preserved-then-cells-wide-eq2 : goal.loop-k-preserved-then-cells-wide-eq2
-loop-k-preserved-then-cells-wide-eq2 c =
+pub loop-k-preserved-then-cells-from-eq2 : goal.loop-k-preserved-then-cells-from-eq2
+loop-k-preserved-then-cells-from-eq2 c =
     let k = c.loop-k.k in
     let p = c.requires.1 in
-    let u : get_or c.args.cells.now (get_or c.args.arrows.now k 0) 0 ≡ 2 = rw (← c.wide.ensures.0) c.if-cells-wide-eq2.true in
+    let u : get_or c.args.cells.now (get_or c.args.arrows.now k 0) 0 ≡ 2 = rw (← c.from.ensures) c.if-cells-from-eq2.true in
     (omega (arith, part_taken c.args.cells.now c.args.arrows.now k c.args.to (omega arith) (omega (arith, p.long)) u), omega arith)
 
 pub loop-k-preserved : goal.loop-k-preserved
 loop-k-preserved c =
     let k = c.loop-k.k in
     let p = c.requires.1 in
-    let u : get_or c.args.cells.now (get_or c.args.arrows.now k 0) 0 ≡ 2 → ⊥ = rw (← c.wide.ensures.0) c.if-cells-wide-eq2.false in
+    let u : get_or c.args.cells.now (get_or c.args.arrows.now k 0) 0 ≡ 2 → ⊥ = rw (← c.from.ensures) c.if-cells-from-eq2.false in
     (omega (arith, part_passed c.args.cells.now c.args.arrows.now k c.args.to (omega arith) (omega (arith, p.long)) u, ap (λ (j : ℕ). most_apart c.args.cells.now false (slice j c.args.to c.args.arrows.now)) (add-one k)), omega arith)
 
 pub returns : goal.returns

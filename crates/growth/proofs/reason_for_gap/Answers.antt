@@ -27,13 +27,13 @@ push-count-requires c =
     let i< = c.loop-k-test.true in
     let few = fewer c.loop-k.invariant in
     let long = wrote_length c.loop-k.invariant.wrote (omega (arith, few, i<, c.requires.2)) in
-    (omega (arith, few, long, i<, c.requires.2), omega (arith, c.wide-i.ensures.0, c.requires.1.cells c.loop-k.k), omega arith)
+    (omega (arith, few, long, i<, c.requires.2), omega (arith, c.from-i.ensures, c.requires.1.cells c.loop-k.k), omega arith)
 
 pub loop-k-preserved : goal.loop-k-preserved
 unfolding empty
 loop-k-preserved c =
     let i< = c.loop-k-test.true in
-    let e = c.wide-i.ensures.0 in
+    let e = c.from-i.ensures in
     record {
       low = omega (arith, c.loop-k.invariant.low);
       high = omega (arith, i<);

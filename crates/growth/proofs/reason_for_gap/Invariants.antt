@@ -1,6 +1,6 @@
--- What holds at each turn of the loop of `growth::reason_for_gap`, and what falls from turn to turn.
+-- What holds at each turn of the loop of `growth::reason_for_gap`.
 -- Assumes nothing.
-use Prim.Native.Nat.{ℕ, ◌-◌, ◌≤◌, max}
+use Prim.Native.Nat.{ℕ, ◌≤◌, max}
 use mathlib.Core.List.{List}
 use lib.Seq.{slice}
 use Rattle.grid.specs.Lists.{filter}
@@ -17,6 +17,3 @@ pub record Amid (cells arrows : List ℕ) (from to : ℕ) (before after : List �
 
 abbrev pub invariant-loop-k : goal.invariant-loop-k
 invariant-loop-k l = Amid l.cells l.arrows l.from l.to l.initial.buffer l.buffer l.count l.k
-
-abbrev pub decreases-loop-k : goal.decreases-loop-k
-decreases-loop-k l = l.to - l.k

@@ -1,19 +1,23 @@
 -- `host_board::finding_number` meets its contract: a count of literals is small enough for the number.
 -- Assumes nothing.
-use mathlib.Core.Path.{sym, ap, ◌∙◌}
+use Prim.Native.Nat.{ℕ, ◌<◌}
+use native.Mathlib.Omega.{arith}
+use mathlib.Core.Path.{◌≡◌, ap, ◌∙◌}
 use mir.Syntax.{w32}
 use mir.ValLaws.{to_z-of_z}
-use Rattle.host_board.specs.Lent.{finding_number}
+use Rattle.refusal.specs.Refusals.{outcome_of}
+use Rattle.host_board.proofs.LentLaws.{finding_found, finding_refused, few_found}
 use Rattle.host_board.proofs.finding_number.Goals as goal
 
-pub returns-in-Nothing : goal.returns-in-Nothing
-unfolding finding_number
-returns-in-Nothing c = sym (ap finding_number c.in-Nothing.is)
+pub returned-requires : goal.returned-requires
+returned-requires c =
+    let few : c.unwrap_or.result < 2147483648 = rw c.unwrap_or.ensures (few_found c.in-Ok.found (λ k e. c.requires k (ap outcome_of c.in-Ok.is ∙ ap (λ o. Rattle.refusal.specs.Refusals.ok o) e))) in
+    λ x e. let z : c.unwrap_or.result ≡ x = cc in omega (arith, few, z)
 
-pub returns-in-Reason : goal.returns-in-Reason
-unfolding finding_number
-returns-in-Reason c = to_z-of_z w32 c.counted.result (record { sfits = c.counted.type_inv }) ∙ c.counted.ensures ∙ sym (ap finding_number c.in-Reason.is)
+pub returns-in-Ok : goal.returns-in-Ok
+returns-in-Ok c f e =
+    to_z-of_z w32 c.returned.result (record { sfits = c.returned.type_inv }) ∙ c.returned.ensures ∙ rw c.unwrap_or.ensures (finding_found f c.in-Ok.found (rw c.in-Ok.is at e))
 
-pub returns-in-Refused : goal.returns-in-Refused
-unfolding finding_number
-returns-in-Refused c = to_z-of_z w32 c.negated.result (record { sfits = c.negated.type_inv }) ∙ c.negated.ensures ∙ sym (ap finding_number c.in-Refused.is)
+pub returns-in-Err : goal.returns-in-Err
+returns-in-Err c f e =
+    to_z-of_z w32 c.returned-in-Err.result (record { sfits = c.returned-in-Err.type_inv }) ∙ c.returned-in-Err.ensures ∙ finding_refused f (rw c.in-Err.is at e)

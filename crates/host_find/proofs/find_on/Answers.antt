@@ -14,7 +14,7 @@ use Rattle.kinds.specs.Inside.{puzzle_with}
 use Rattle.reasons.specs.Reasons.{find_reason}
 use Rattle.reasons.proofs.Room.{room_length}
 use Rattle.groups.specs.Arrays.{lines_of}
-use Rattle.literals.proofs.Findings.{nothing_found, not_refused}
+use Rattle.literals.proofs.Findings.{nothing_found}
 use Rattle.host_find.proofs.FoundLaws.{Literals, found_Literals, few_Literals, none_told, Literals-told}
 use Rattle.host_find.proofs.find_on.Goals as goal
 
@@ -25,27 +25,24 @@ find_inconsistency-found-requires c =
 
 pub write_numbers-requires : goal.write_numbers-requires
 write_numbers-requires c =
-    let literals : Literals (find_reason (leaf_with c.args.edition (kept_ranges c.args.lowest.now c.args.highest.now (length c.args.lowest.now)) (puzzle_with (sized c.args.h c.args.w) (lines_of c.args.arrows.now c.args.ends.now c.args.number))) (take (c.args.h * c.args.w) c.args.cells.now)) c.in-Reason.count c.find_inconsistency-found.new.buffer = found_Literals (find_reason (leaf_with c.args.edition (kept_ranges c.args.lowest.now c.args.highest.now (length c.args.lowest.now)) (puzzle_with (sized c.args.h c.args.w) (lines_of c.args.arrows.now c.args.ends.now c.args.number))) (take (c.args.h * c.args.w) c.args.cells.now)) (rw c.in-Reason.is at c.find_inconsistency-found.ensures) in
-    let few : c.in-Reason.count ≤ 3 * (c.args.h * c.args.w) + 1 = few_Literals c.args.edition (kept_ranges c.args.lowest.now c.args.highest.now (length c.args.lowest.now)) c.args.h c.args.w (take (c.args.h * c.args.w) c.args.cells.now) c.requires.3 literals in
+    let literals : Literals (find_reason (leaf_with c.args.edition (kept_ranges c.args.lowest.now c.args.highest.now (length c.args.lowest.now)) (puzzle_with (sized c.args.h c.args.w) (lines_of c.args.arrows.now c.args.ends.now c.args.number))) (take (c.args.h * c.args.w) c.args.cells.now)) c.in-Some.count c.find_inconsistency-found.new.buffer = found_Literals (find_reason (leaf_with c.args.edition (kept_ranges c.args.lowest.now c.args.highest.now (length c.args.lowest.now)) (puzzle_with (sized c.args.h c.args.w) (lines_of c.args.arrows.now c.args.ends.now c.args.number))) (take (c.args.h * c.args.w) c.args.cells.now)) (rw c.in-Some.is at c.find_inconsistency-found.ensures) in
+    let few : c.in-Some.count ≤ 3 * (c.args.h * c.args.w) + 1 = few_Literals c.args.edition (kept_ranges c.args.lowest.now c.args.highest.now (length c.args.lowest.now)) c.args.h c.args.w (take (c.args.h * c.args.w) c.args.cells.now) c.requires.3 literals in
     (literals.within, omega (arith, few, c.requires.2))
 
 pub overflow_cast-result : goal.overflow_cast-result
 overflow_cast-result c =
-    let literals : Literals (find_reason (leaf_with c.args.edition (kept_ranges c.args.lowest.now c.args.highest.now (length c.args.lowest.now)) (puzzle_with (sized c.args.h c.args.w) (lines_of c.args.arrows.now c.args.ends.now c.args.number))) (take (c.args.h * c.args.w) c.args.cells.now)) c.in-Reason.count c.find_inconsistency-found.new.buffer = found_Literals (find_reason (leaf_with c.args.edition (kept_ranges c.args.lowest.now c.args.highest.now (length c.args.lowest.now)) (puzzle_with (sized c.args.h c.args.w) (lines_of c.args.arrows.now c.args.ends.now c.args.number))) (take (c.args.h * c.args.w) c.args.cells.now)) (rw c.in-Reason.is at c.find_inconsistency-found.ensures) in
-    let few : c.in-Reason.count ≤ 3 * (c.args.h * c.args.w) + 1 = few_Literals c.args.edition (kept_ranges c.args.lowest.now c.args.highest.now (length c.args.lowest.now)) c.args.h c.args.w (take (c.args.h * c.args.w) c.args.cells.now) c.requires.3 literals in
+    let literals : Literals (find_reason (leaf_with c.args.edition (kept_ranges c.args.lowest.now c.args.highest.now (length c.args.lowest.now)) (puzzle_with (sized c.args.h c.args.w) (lines_of c.args.arrows.now c.args.ends.now c.args.number))) (take (c.args.h * c.args.w) c.args.cells.now)) c.in-Some.count c.find_inconsistency-found.new.buffer = found_Literals (find_reason (leaf_with c.args.edition (kept_ranges c.args.lowest.now c.args.highest.now (length c.args.lowest.now)) (puzzle_with (sized c.args.h c.args.w) (lines_of c.args.arrows.now c.args.ends.now c.args.number))) (take (c.args.h * c.args.w) c.args.cells.now)) (rw c.in-Some.is at c.find_inconsistency-found.ensures) in
+    let few : c.in-Some.count ≤ 3 * (c.args.h * c.args.w) + 1 = few_Literals c.args.edition (kept_ranges c.args.lowest.now c.args.highest.now (length c.args.lowest.now)) c.args.h c.args.w (take (c.args.h * c.args.w) c.args.cells.now) c.requires.3 literals in
     let cells-few : c.args.h * c.args.w ≤ 1024 = area c.args.h c.args.w c.requires.0 c.requires.1 in
     record { sfits = omega (arith, few, cells-few) }
 
-pub returns-in-Nothing : goal.returns-in-Nothing
-returns-in-Nothing c = none_told c.args.output.now (nothing_found (find_reason (leaf_with c.args.edition (kept_ranges c.args.lowest.now c.args.highest.now (length c.args.lowest.now)) (puzzle_with (sized c.args.h c.args.w) (lines_of c.args.arrows.now c.args.ends.now c.args.number))) (take (c.args.h * c.args.w) c.args.cells.now)) (rw c.in-Nothing.is at c.find_inconsistency-found.ensures)).0
+pub returns-in-None : goal.returns-in-None
+returns-in-None c = none_told c.args.output.now (nothing_found (find_reason (leaf_with c.args.edition (kept_ranges c.args.lowest.now c.args.highest.now (length c.args.lowest.now)) (puzzle_with (sized c.args.h c.args.w) (lines_of c.args.arrows.now c.args.ends.now c.args.number))) (take (c.args.h * c.args.w) c.args.cells.now)) (rw c.in-None.is at c.find_inconsistency-found.ensures)).0
 
-pub returns-in-Reason : goal.returns-in-Reason
-returns-in-Reason c =
-    let literals : Literals (find_reason (leaf_with c.args.edition (kept_ranges c.args.lowest.now c.args.highest.now (length c.args.lowest.now)) (puzzle_with (sized c.args.h c.args.w) (lines_of c.args.arrows.now c.args.ends.now c.args.number))) (take (c.args.h * c.args.w) c.args.cells.now)) c.in-Reason.count c.find_inconsistency-found.new.buffer = found_Literals (find_reason (leaf_with c.args.edition (kept_ranges c.args.lowest.now c.args.highest.now (length c.args.lowest.now)) (puzzle_with (sized c.args.h c.args.w) (lines_of c.args.arrows.now c.args.ends.now c.args.number))) (take (c.args.h * c.args.w) c.args.cells.now)) (rw c.in-Reason.is at c.find_inconsistency-found.ensures) in
-    let few : c.in-Reason.count ≤ 3 * (c.args.h * c.args.w) + 1 = few_Literals c.args.edition (kept_ranges c.args.lowest.now c.args.highest.now (length c.args.lowest.now)) c.args.h c.args.w (take (c.args.h * c.args.w) c.args.cells.now) c.requires.3 literals in
+pub returns-in-Some : goal.returns-in-Some
+returns-in-Some c =
+    let literals : Literals (find_reason (leaf_with c.args.edition (kept_ranges c.args.lowest.now c.args.highest.now (length c.args.lowest.now)) (puzzle_with (sized c.args.h c.args.w) (lines_of c.args.arrows.now c.args.ends.now c.args.number))) (take (c.args.h * c.args.w) c.args.cells.now)) c.in-Some.count c.find_inconsistency-found.new.buffer = found_Literals (find_reason (leaf_with c.args.edition (kept_ranges c.args.lowest.now c.args.highest.now (length c.args.lowest.now)) (puzzle_with (sized c.args.h c.args.w) (lines_of c.args.arrows.now c.args.ends.now c.args.number))) (take (c.args.h * c.args.w) c.args.cells.now)) (rw c.in-Some.is at c.find_inconsistency-found.ensures) in
+    let few : c.in-Some.count ≤ 3 * (c.args.h * c.args.w) + 1 = few_Literals c.args.edition (kept_ranges c.args.lowest.now c.args.highest.now (length c.args.lowest.now)) c.args.h c.args.w (take (c.args.h * c.args.w) c.args.cells.now) c.requires.3 literals in
     let cells-few : c.args.h * c.args.w ≤ 1024 = area c.args.h c.args.w c.requires.0 c.requires.1 in
     let t = Literals-told c.args.output.now literals in
-    (to_z_pos w32 c.in-Reason.count (omega (arith, few, cells-few)) ∙ t.0, c.write_numbers.ensures ∙ t.1)
-
-pub returns-in-Refused : goal.returns-in-Refused
-returns-in-Refused c = absurd (not_refused (find_reason (leaf_with c.args.edition (kept_ranges c.args.lowest.now c.args.highest.now (length c.args.lowest.now)) (puzzle_with (sized c.args.h c.args.w) (lines_of c.args.arrows.now c.args.ends.now c.args.number))) (take (c.args.h * c.args.w) c.args.cells.now)) (rw c.in-Refused.is at c.find_inconsistency-found.ensures))
+    (to_z_pos w32 c.in-Some.count (omega (arith, few, cells-few)) ∙ t.0, c.write_numbers.ensures ∙ t.1)

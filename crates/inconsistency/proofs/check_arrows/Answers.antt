@@ -1,17 +1,11 @@
 -- `inconsistency::check_arrows` meets its contract: the kinds are those of the board, the cells of each owner are linked and counted, and the searches go on from there.
 -- Assumes nothing.
 use Prim.Native.Nat.{◌*◌}
-use mathlib.Core.Path.{subst}
-use lib.ListN.{length}
 use Rattle.groups.specs.Arrays.{lines_of}
 use Rattle.kinds.specs.Inside.{Held}
-use Rattle.literals.specs.Inside.{FoundAs}
-use Rattle.literals.proofs.Findings.{found_first, found_next, not_refused}
-use Rattle.growth.specs.Growth.{reason34}
+use Rattle.literals.proofs.Findings.{nothing_found, found_first, found_next}
 use Rattle.growth.specs.Pairs.{view_on, Grouped}
-use Rattle.record.specs.Sizes.{kept_ranges}
-use Rattle.sized.specs.Sized.{reason5}
-use Rattle.inconsistency.proofs.Checks.{Blocks-Counted, Fit-after, same_after}
+use Rattle.inconsistency.proofs.Checks.{Blocks-Counted, Fit-after}
 use Rattle.inconsistency.proofs.check_arrows.Goals as goal
 
 pub search_pairs-finding-requires : goal.search_pairs-finding-requires
@@ -32,20 +26,16 @@ check_sizes-requires c =
       counts = c.count_cells.ensures;
       blocks = Blocks-Counted c.args.h c.args.w c.requires.0.tall c.requires.0.wide (lines_of c.args.arrows.now c.args.ends.now c.args.number) c.args.cells.now held c.requires.1.counted;
     } in (
-      Fit-after c.requires.0 (same_after (reason34 c.args.edition (view_on c.args.h c.args.w (lines_of c.args.arrows.now c.args.ends.now c.args.number) c.args.cells.now)) c.search_pairs-finding.ensures.found_as c.in-Nothing.is),
+      Fit-after c.requires.0 (nothing_found _ c.in_default.ensures.found_as).1,
       record { lines = lines_of c.args.arrows.now c.args.ends.now c.args.number; board = record { held = held; sizes = c.requires.4 } },
       grouped,
       c.search_pairs-finding.ensures.work.groups_long,
     )
 
-pub returns-in-Nothing : goal.returns-in-Nothing
-returns-in-Nothing c =
-    let held : Held (view_on c.args.h c.args.w (lines_of c.args.arrows.now c.args.ends.now c.args.number) c.args.cells.now) c.compute_board_info_detailed.new.kinds c.compute_board_info_detailed.new.owners = c.compute_board_info_detailed.ensures (lines_of c.args.arrows.now c.args.ends.now c.args.number) c.requires.1.held in
-    found_next (reason34 c.args.edition (view_on c.args.h c.args.w (lines_of c.args.arrows.now c.args.ends.now c.args.number) c.args.cells.now)) (reason5 (view_on c.args.h c.args.w (lines_of c.args.arrows.now c.args.ends.now c.args.number) c.args.cells.now) (kept_ranges c.args.lowest.now c.args.highest.now (length c.args.lowest.now))) (subst (FoundAs _ _ _) c.in-Nothing.is c.search_pairs-finding.ensures.found_as)
-    (c.check_sizes.ensures (lines_of c.args.arrows.now c.args.ends.now c.args.number) (record { held = held; sizes = c.requires.4 }))
+pub returns-in-Some : goal.returns-in-Some
+returns-in-Some c = found_first _ _ c.in-Some.ensures.found_as
 
-pub returns-in-Reason : goal.returns-in-Reason
-returns-in-Reason c = found_first (reason34 c.args.edition (view_on c.args.h c.args.w (lines_of c.args.arrows.now c.args.ends.now c.args.number) c.args.cells.now)) (reason5 (view_on c.args.h c.args.w (lines_of c.args.arrows.now c.args.ends.now c.args.number) c.args.cells.now) (kept_ranges c.args.lowest.now c.args.highest.now (length c.args.lowest.now))) (subst (FoundAs _ _ _) c.in-Reason.is c.search_pairs-finding.ensures.found_as)
-
-pub returns-in-Refused : goal.returns-in-Refused
-returns-in-Refused c = absurd (not_refused _ (subst (FoundAs _ _ _) c.in-Refused.is c.search_pairs-finding.ensures.found_as))
+pub returns : goal.returns
+returns c =
+    let held = c.compute_board_info_detailed.ensures (lines_of c.args.arrows.now c.args.ends.now c.args.number) c.requires.1.held in
+    found_next _ _ c.in_default.ensures.found_as (c.check_sizes.ensures (lines_of c.args.arrows.now c.args.ends.now c.args.number) (record { held = held; sizes = c.requires.4 }))

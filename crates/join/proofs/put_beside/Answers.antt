@@ -1,59 +1,75 @@
 -- `join::put_beside` meets its contract: there is room for all, and what the loops fill is the joined puzzle.
 -- Assumes nothing.
 use native.Mathlib.Omega.{arith}
-use Rattle.join.proofs.BesideLaws.{Fit, fit, sides, places, built}
+use Rattle.std.proofs.Common.{rules, ◌+◌}
+use Rattle.join.specs.Join.{placed}
+use Rattle.join.proofs.BesideLaws.{Fit, fit, sides, front_below, front_at, place_in, built}
 use Rattle.join.proofs.put_beside.Goals as goal
-
-pub join_codes-cells-requires : goal.join_codes-cells-requires
-join_codes-cells-requires c =
-    let fitting : Fit c.args.left c.args.right = fit c.args.left c.args.right c.requires in
-    sides c.args.left c.args.right fitting
 
 pub arrow_total-left_total-requires : goal.arrow_total-left_total-requires
 arrow_total-left_total-requires c =
-    let fitting : Fit c.args.left c.args.right = fit c.args.left c.args.right c.requires in
-    let b = fitting.left in (b.few, b.ended)
+    let f : Fit c.args.left.now c.args.right.now = fit c.args.left.now c.args.right.now c.requires in
+    f.left.few
 
 pub arrow_total-right_total-requires : goal.arrow_total-right_total-requires
 arrow_total-right_total-requires c =
-    let fitting : Fit c.args.left c.args.right = fit c.args.left c.args.right c.requires in
-    let b = fitting.right in (b.few, b.ended)
+    let f : Fit c.args.left.now c.args.right.now = fit c.args.left.now c.args.right.now c.requires in
+    f.right.few
 
-pub append_line-requires : goal.append_line-requires
-append_line-requires c =
-    let fitting : Fit c.args.left c.args.right = fit c.args.left c.args.right c.requires in
-    let f = fitting in
-    (omega (arith, c.arrow_total-left_total.ensures, f.left.short), places c.args.left f.left _ _ (omega arith) f.wide c.arrow_total-left_total.result c.arrow_total-left_total.ensures)
+pub shared_ref_as_front-first : goal.shared_ref_as_front-first
+shared_ref_as_front-first c =
+    let f : Fit c.args.left.now c.args.right.now = fit c.args.left.now c.args.right.now c.requires in
+    omega (arith, c.arrow_total-left_total.ensures, f.left.short)
 
-pub append_line-requires-2 : goal.append_line-requires-2
-append_line-requires-2 c =
-    let fitting : Fit c.args.left c.args.right = fit c.args.left c.args.right c.requires in
-    let f = fitting in
-    (omega (arith, c.arrow_total-left_total.ensures, c.arrow_total-right_total.ensures, f.line), places c.args.right f.right _ _ (omega arith) f.wide c.arrow_total-right_total.result c.arrow_total-right_total.ensures)
+pub append-requires : goal.append-requires
+append-requires c =
+    let f : Fit c.args.left.now c.args.right.now = fit c.args.left.now c.args.right.now c.requires in
+    (omega (arith, c.arrow_total-left_total.ensures, f.left.short), λ k d h κs r z _ _ _. place_in c.args.left.now f.left _ _ (omega arith) f.wide _ c.arrow_total-left_total.ensures k d h)
 
-pub append_ends-requires : goal.append_ends-requires
-append_ends-requires c =
-    let fitting : Fit c.args.left c.args.right = fit c.args.left c.args.right c.requires in
-    let f = fitting in
-    (f.count, omega (arith, f.left.short, c.arrow_total-left_total.ensures), f.ends)
+pub shared_ref_as_front-second : goal.shared_ref_as_front-second
+shared_ref_as_front-second c =
+    let f : Fit c.args.left.now c.args.right.now = fit c.args.left.now c.args.right.now c.requires in
+    omega (arith, c.arrow_total-right_total.ensures, f.right.short)
+
+pub append-requires-2 : goal.append-requires-2
+append-requires-2 c =
+    let f : Fit c.args.left.now c.args.right.now = fit c.args.left.now c.args.right.now c.requires in
+    (omega (arith, c.arrow_total-left_total.ensures, c.arrow_total-right_total.ensures, f.line), λ k d h κs r z _ _ _. place_in c.args.right.now f.right _ _ (omega arith) f.wide _ c.arrow_total-right_total.ensures k d h)
+
+pub shared_ref_as_front-later : goal.shared_ref_as_front-later
+shared_ref_as_front-later c =
+    let f : Fit c.args.left.now c.args.right.now = fit c.args.left.now c.args.right.now c.requires in
+    omega (arith, f.count)
+
+pub append-requires-3 : goal.append-requires-3
+append-requires-3 c =
+    let f : Fit c.args.left.now c.args.right.now = fit c.args.left.now c.args.right.now c.requires in (
+      omega (arith, f.count),
+      λ k d h κs r z _ _.
+          omega (arith, f.left.short, c.arrow_total-left_total.ensures, front_at c.args.right.now.count c.args.right.now.ends k d h, f.ends k (front_below c.args.right.now.count c.args.right.now.ends k h)),
+    )
+
+pub join_codes-requires : goal.join_codes-requires
+join_codes-requires c = sides c.args.left.now c.args.right.now (fit c.args.left.now c.args.right.now c.requires)
 
 pub overflow_add-result : goal.overflow_add-result
 overflow_add-result c =
-    let fitting : Fit c.args.left c.args.right = fit c.args.left c.args.right c.requires in
-    omega (arith, fitting.count)
+    let f : Fit c.args.left.now c.args.right.now = fit c.args.left.now c.args.right.now c.requires in
+    omega (arith, f.count)
 
 pub returns : goal.returns
 returns c =
-    let k = c.join_codes-cells in
-    λ p q v w e f.
-    built p q v w c.args.left c.args.right e f c.requires.2 c.requires.3 c.arrow_total-left_total.result c.arrow_total-right_total.result
-    k.result c.no_cells-arrows.result c.append_line.new.line c.append_line-2.new.line c.append_ends.new.ends
+    let l = c.args.left.now in
+    let q = c.args.right.now in
+    let w = l.width + 1 + q.width in
+    λ p r v u e f.
+    built p r v u l q e f c.requires.2 c.requires.3 c.arrow_total-left_total.result c.arrow_total-right_total.result
+    c.join_codes.result c.append.new.line c.append-2.new.line c.append-3.new.line
     (record {
       left_total = c.arrow_total-left_total.ensures;
       right_total = c.arrow_total-right_total.ensures;
-      cells = k.ensures;
-      empty = c.no_cells-arrows.ensures;
-      left = c.append_line.ensures;
-      right = c.append_line-2.ensures;
-      later = c.append_ends.ensures;
+      cells = c.join_codes.ensures;
+      left = c.append.ensures (placed 0 l.width w) (λ k y h s. search rules);
+      right = c.append-2.ensures (placed (l.width + 1) q.width w) (λ k y h s. search rules);
+      later = c.append-3.ensures (λ e. c.arrow_total-left_total.result + e) (λ k y h s. search rules);
     })

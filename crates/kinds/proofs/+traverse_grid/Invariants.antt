@@ -1,7 +1,7 @@
 -- What holds at each turn of the loop of `kinds::traverse_grid`, and what falls from turn to turn, and from call to call.
 -- Assumes nothing.
 use mathlib.Core.Bool.{Bool, So}
-use Prim.Native.Nat.{◌≤◌, ◌-◌, ℕ}
+use Prim.Native.Nat.{ℕ}
 use Rattle.grid.specs.Side.{sized}
 use Rattle.groups.specs.Flood.{free, Only}
 use Rattle.kinds.proofs.Traversal.{Turn}
@@ -13,7 +13,4 @@ decreases-traverse_grid l = free l.owners.now
 
 abbrev pub invariant-loop-k : goal.invariant-loop-k
 invariant-loop-k l =
-    (l.k ≤ 4) × ((p : ℕ → Bool) → So (p l.i) → Only p l.initial.owners → Turn (sized l.h l.w) p l.i l.name l.initial.owners l.owners (gathered (sized l.h l.w) l.i l.k))
-
-abbrev pub decreases-loop-k : goal.decreases-loop-k
-decreases-loop-k l = 4 - l.k
+    (p : ℕ → Bool) → So (p l.i) → Only p l.initial.owners → Turn (sized l.h l.w) p l.i l.name l.initial.owners l.owners (gathered (sized l.h l.w) l.i l.k)

@@ -10,30 +10,28 @@ use Rattle.kinds.specs.Inside.{Owned, arrow_blocks_at}
 use Rattle.kinds.specs.declared.Owner.TheVariants.{Nobody}
 use Rattle.kinds.proofs.Owners.{Owned-none}
 use Rattle.kinds.proofs.look_around.Goals as goal
-use Rattle.kinds.proofs.look_around.Goals.{in-At, in-Off}
+use Rattle.kinds.proofs.look_around.Goals.{in-Some, in_default}
 
 pub loop-k-init : goal.loop-k-init
 loop-k-init c =
     let a = c.args in
-    (omega arith, sides_none (λ (l : List ℕ). Owned (arrow_blocks_at a.blocks.now a.arrowed.now l) Nobody) _ _ (Owned-none _ _))
+    sides_none (λ (l : List ℕ). Owned (arrow_blocks_at a.blocks.now a.arrowed.now l) Nobody) _ _ (Owned-none _ _)
 
 pub meet_at-owner-requires : goal.meet_at-owner-requires
-meet_at-owner-requires c = cell_small (side_cell c.requires c.loop-k.k c.toward-side.result c.toward-side.ensures _ c.in-At.is)
+meet_at-owner-requires c = cell_small (side_cell c.requires c.loop-k.k c.toward.result c.toward.ensures _ c.in-Some.is)
 
 pub loop-k-preserved : goal.loop-k-preserved
 loop-k-preserved c =
-    let a = c.args in (
-      omega (arith, c.loop-k-test.true),
-      elim c.match-side.branch [
-        | in-At v ↦ side_at c.requires c.loop-k.k c.toward-side.result c.toward-side.ensures (λ (m : List ℕ). Owned (arrow_blocks_at a.blocks.now a.arrowed.now m) c.match-side.owner) _ v.in-At.is
-            (rw v.owner-is (v.meet_at-owner.ensures _ c.loop-k.invariant.1))
-        | in-Off v ↦ side_off c.requires c.loop-k.k c.toward-side.result c.toward-side.ensures (λ (m : List ℕ). Owned (arrow_blocks_at a.blocks.now a.arrowed.now m) c.match-side.owner) v.in-Off.is
-            (rw v.owner-is c.loop-k.invariant.1)
-      ],
-    )
+    let a = c.args in
+    elim c.match-toward.branch [
+      | in-Some v ↦ side_at c.requires c.loop-k.k c.toward.result c.toward.ensures (λ (m : List ℕ). Owned (arrow_blocks_at a.blocks.now a.arrowed.now m) c.match-toward.owner) _ v.in-Some.is
+          (rw v.owner-is (v.meet_at-owner.ensures _ c.loop-k.invariant))
+      | in_default v ↦ side_off c.requires c.loop-k.k c.toward.result c.toward.ensures (λ (m : List ℕ). Owned (arrow_blocks_at a.blocks.now a.arrowed.now m) c.match-toward.owner) v.in_default.is
+          (rw v.owner-is c.loop-k.invariant)
+    ]
 
 pub returns : goal.returns
 returns c =
     let a = c.args in
     sides_all (λ (m : List ℕ). Owned (arrow_blocks_at a.blocks.now a.arrowed.now m) c.loop-k.owner) (sized a.h a.w) a.i c.loop-k.k
-    c.loop-k.invariant.0 c.loop-k-test.false c.loop-k.invariant.1
+    (omega (arith, c.loop-k.auto.k-end)) c.loop-k-test.false c.loop-k.invariant

@@ -1,13 +1,9 @@
--- What holds at each turn of the loop of `kinds::look_around`, and what falls from turn to turn.
+-- What holds at each turn of the loop of `kinds::look_around`.
 -- Assumes nothing.
-use Prim.Native.Nat.{◌≤◌, ◌-◌}
 use Rattle.grid.specs.Side.{sized}
 use Rattle.grid.proofs.AroundLaws.{gathered}
 use Rattle.kinds.specs.Inside.{Owned, arrow_blocks_at}
 use Rattle.kinds.proofs.look_around.Given as goal
 
 abbrev pub invariant-loop-k : goal.invariant-loop-k
-invariant-loop-k l = (l.k ≤ 4) × Owned (arrow_blocks_at l.blocks l.arrowed (gathered (sized l.h l.w) l.i l.k)) l.owner
-
-abbrev pub decreases-loop-k : goal.decreases-loop-k
-decreases-loop-k l = 4 - l.k
+invariant-loop-k l = Owned (arrow_blocks_at l.blocks l.arrowed (gathered (sized l.h l.w) l.i l.k)) l.owner

@@ -3,8 +3,8 @@
 use Rattle.kinds.proofs.Owners.{Owned-hit, Owned-miss}
 use Rattle.kinds.proofs.meet_at.Goals as goal
 
-pub returns-then-f-ge1024 : goal.returns-then-f-ge1024
-returns-then-f-ge1024 c = λ js q. Owned-miss _ _ js _ _ c.arrow_block_at-f.ensures c.if-f-ge1024.true q
+pub returns-in-Some : goal.returns-in-Some
+returns-in-Some c = λ js q. rw c.meet.ensures (Owned-hit _ _ js _ _ c.in-Some.ensures q)
 
-pub returns : goal.returns
-returns c = λ js q. rw c.meet.ensures (Owned-hit _ _ js _ _ c.arrow_block_at-f.ensures c.if-f-ge1024.false q)
+pub returns-in-None : goal.returns-in-None
+returns-in-None c = λ js q. Owned-miss _ _ js _ c.in-None.ensures q

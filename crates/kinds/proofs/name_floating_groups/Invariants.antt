@@ -1,13 +1,10 @@
--- What holds at each turn of the loop of `kinds::name_floating_groups`, and what falls from turn to turn.
+-- What holds at each turn of the loop of `kinds::name_floating_groups`.
 -- Assumes nothing.
-use Prim.Native.Nat.{ℕ, ◌≤◌, ◌-◌}
+use Prim.Native.Nat.{ℕ}
 use mathlib.Core.Bool.{Bool}
 use Rattle.grid.specs.Side.{sized}
 use Rattle.groups.specs.Flood.{Unlabelled, Sofar}
 use Rattle.kinds.proofs.name_floating_groups.Given as goal
 
 abbrev pub invariant-loop-i : goal.invariant-loop-i
-invariant-loop-i l = (l.i ≤ l.n) × ((p : ℕ → Bool) → Unlabelled p l.initial.owners → Sofar (sized l.h l.w) p l.initial.owners l.i l.owners)
-
-abbrev pub decreases-loop-i : goal.decreases-loop-i
-decreases-loop-i l = l.n - l.i
+invariant-loop-i l = (p : ℕ → Bool) → Unlabelled p l.initial.owners → Sofar (sized l.h l.w) p l.initial.owners l.i l.owners

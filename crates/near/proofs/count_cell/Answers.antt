@@ -7,7 +7,7 @@ use Rattle.reach.proofs.NearLaws.{Sizes-either, size_few}
 use Rattle.near.proofs.count_cell.Goals as goal
 
 pub overflow_add-size : goal.overflow_add-size
-overflow_add-size c = omega (arith, size_few c.requires.1 (get_or c.args.owners.now c.args.i 0 % 1024) (omega arith), c.requires.0)
+overflow_add-size c = rw c.from-slot.ensures (omega (arith, size_few c.requires.1 (get_or c.args.owners.now c.args.i 0 % 1024) (omega arith), c.requires.0))
 
 pub returns : goal.returns
-returns c = rw c.pick.ensures (Sizes-either c.requires.1)
+returns c = rw (c.pick.ensures, c.from-slot.ensures) (Sizes-either c.requires.1)

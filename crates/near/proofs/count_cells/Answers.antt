@@ -1,8 +1,7 @@
 -- `near::count_cells` meets its contract: the cells passed are counted.
 -- Assumes nothing.
-use native.Mathlib.Omega.{arith}
 use Rattle.reach.proofs.NearLaws.{Sizes-none}
 use Rattle.near.proofs.count_cells.Goals as goal
 
 pub loop-i-init : goal.loop-i-init
-loop-i-init c = (omega arith, rw c.requires.1 (Sizes-none _ _))
+loop-i-init c = rw c.requires.1 (Sizes-none _ _)

@@ -1,11 +1,7 @@
--- What holds at each turn of the loop of `near::count_cells`, and what falls from turn to turn.
+-- What holds at each turn of the loop of `near::count_cells`.
 -- Assumes nothing.
-use Prim.Native.Nat.{◌≤◌, ◌-◌}
 use Rattle.reach.specs.Near.{Sizes}
 use Rattle.near.proofs.count_cells.Given as goal
 
 abbrev pub invariant-loop-i : goal.invariant-loop-i
-invariant-loop-i l = (l.i ≤ l.n) × Sizes l.kinds l.owners l.i l.sizes
-
-abbrev pub decreases-loop-i : goal.decreases-loop-i
-decreases-loop-i l = l.n - l.i
+invariant-loop-i l = Sizes l.kinds l.owners l.i l.sizes

@@ -1,6 +1,6 @@
--- What holds at each turn of the loop of `near::list_floats_beside`, and what falls from turn to turn.
+-- What holds at each turn of the loop of `near::list_floats_beside`.
 -- Assumes nothing.
-use Prim.Native.Nat.{ℕ, ◌+◌, ◌-◌, ◌*◌, ◌≤◌}
+use Prim.Native.Nat.{ℕ, ◌+◌, ◌*◌}
 use mathlib.Core.Bool.{Bool, ◌||◌}
 use Rattle.grid.specs.Side.{sized}
 use Rattle.grid.proofs.AroundLaws.{gathered}
@@ -10,7 +10,4 @@ use Rattle.near.proofs.list_floats_beside.Given as goal
 
 abbrev pub invariant-loop-k : goal.invariant-loop-k
 invariant-loop-k l =
-    (l.k ≤ 4) × ((t : ℕ → Bool) → Listed t l.initial.near l.initial.groups l.count → Listed (λ m. t m || float_among l.kinds l.owners (gathered (sized l.h l.w) (l.y * l.w + l.x) l.k) m) l.near l.groups l.total)
-
-abbrev pub decreases-loop-k : goal.decreases-loop-k
-decreases-loop-k l = 4 - l.k
+    (t : ℕ → Bool) → Listed t l.initial.near l.initial.groups l.count → Listed (λ m. t m || float_among l.kinds l.owners (gathered (sized l.h l.w) (l.y * l.w + l.x) l.k) m) l.near l.groups l.total

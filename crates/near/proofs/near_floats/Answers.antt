@@ -8,7 +8,7 @@ use Rattle.reach.proofs.NearReach.{near_computed}
 use Rattle.near.proofs.near_floats.Goals as goal
 
 pub loop-i-init : goal.loop-i-init
-loop-i-init c = rw c.clear.ensures (Nearby-none c.args.kinds.now (sized c.args.h c.args.w) c.requires.limits.1 c.args.f c.requires.name_and_room.0 c.requires.name_and_room.1)
+loop-i-init c = rw (c.from-i.ensures, c.from.ensures) (Nearby-none c.args.kinds.now (sized c.args.h c.args.w) c.requires.limits.1 c.args.f c.requires.name_and_room.0 c.requires.name_and_room.1)
 
 pub list_floats_beside-total-requires : goal.list_floats_beside-total-requires
 list_floats_beside-total-requires c =
@@ -18,12 +18,12 @@ list_floats_beside-total-requires c =
     )
 
 pub loop-i-smaller : goal.loop-i-smaller
-loop-i-smaller c = walk_less c.requires.limits.1 c.args.f c.requires.name_and_room.0 c.loop-i.invariant.walk c.loop-i-test.true
+loop-i-smaller c = rw c.from-i-in-loop-i.ensures (walk_less c.requires.limits.1 c.args.f c.requires.name_and_room.0 c.loop-i.invariant.walk c.loop-i-test.true)
 
 pub loop-i-preserved : goal.loop-i-preserved
 loop-i-preserved c =
     let W = c.loop-i.invariant in
-    Nearby-more c.args.kinds.now _ c.requires.limits.1 c.args.f c.requires.name_and_room.0 W c.loop-i-test.true (c.list_floats_beside-total.ensures _ W.so_far)
+    rw c.from-i-in-loop-i.ensures (Nearby-more c.args.kinds.now _ c.requires.limits.1 c.args.f c.requires.name_and_room.0 W c.loop-i-test.true (c.list_floats_beside-total.ensures _ W.so_far))
 
 pub returns-clause-answer : goal.returns-clause-answer
 returns-clause-answer c =

@@ -10,15 +10,14 @@ use Rattle.std.proofs.lemmas.Grind.{common_steps}
 
 pub loop-k-init : goal.loop-k-init
 loop-k-init c =
-    let w = c.wide.ensures in
-    let v = c.wide-2.ensures in
-    (omega arith, omega (arith, w.1, v.1), omega (arith, w.0, v.0, total_none (λ m. get_or c.args.sizes.now m 0) c.args.groups.now))
+    let a = c.args in
+    rw (c.from.ensures, c.from-2.ensures, c.from-f.ensures) (omega (arith, c.fits-squares a.f, c.fits-sizes a.f), omega (arith, total_none (λ m. get_or a.sizes.now m 0) a.groups.now))
 
 pub loop-k-preserved : goal.loop-k-preserved
 loop-k-preserved c = grind (arith, common_steps, total_next)
 
 pub returns : goal.returns
 returns c =
-    let all : c.loop-k.k ≡ c.args.count = omega (arith, c.loop-k.invariant.0, c.loop-k-test.false) in
+    let all : c.loop-k.k ≡ c.args.count = omega (arith, c.loop-k.auto.k-end, c.loop-k-test.false) in
     λ h w arrows cells kinds owners near limits held S Q N block.
-    (rw all at c.loop-k.invariant.2) ∙ reach_sum h w limits arrows cells kinds owners held c.args.f near c.args.groups.now c.args.count N block c.requires.0 c.args.sizes.now c.args.squares.now S Q
+    (rw all at c.loop-k.invariant.1) ∙ reach_sum h w limits arrows cells kinds owners held c.args.f near c.args.groups.now c.args.count N block c.requires.0 c.args.sizes.now c.args.squares.now S Q

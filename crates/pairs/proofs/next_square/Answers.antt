@@ -7,19 +7,18 @@ use lib.ListN.{get_or}
 use Rattle.grid.specs.Cells.{square}
 use Rattle.pairs.proofs.next_square.Goals as goal
 
-pub returns-then-cells-wide-eq1 : goal.returns-then-cells-wide-eq1
+pub returns-then-cells-from-eq1 : goal.returns-then-cells-from-eq1
 unfolding square
-returns-then-cells-wide-eq1 c = record {
-  low = c.loop-k.invariant.low;
-  high = c.loop-k.invariant.high;
-  none = λ j l h. c.loop-k.invariant.passed j h l;
-  some = λ _. eq-eqb (get_or c.args.cells.now (get_or c.args.arrows.now c.loop-k.k 0) 0) 1 (rw (← c.wide.ensures.0) c.if-cells-wide-eq1.true);
+returns-then-cells-from-eq1 c = record {
+  low = omega arith;
+  high = omega (arith, c.loop-k-test.true);
+  none = λ j l h. c.loop-k.invariant j h l;
+  some = λ _. eq-eqb (get_or c.args.cells.now (get_or c.args.arrows.now c.loop-k.k 0) 0) 1 (rw (← c.from.ensures) c.if-cells-from-eq1.true);
 }
 
 pub loop-k-preserved : goal.loop-k-preserved
 unfolding square
-loop-k-preserved c = record {
-  low = omega (arith, c.loop-k.invariant.low);
-  high = omega (arith, c.loop-k-test.true);
-  passed = below_more _ c.loop-k.k c.loop-k.invariant.passed (λ _. ne_eqb (get_or c.args.cells.now (get_or c.args.arrows.now c.loop-k.k 0) 0) 1 (rw (← c.wide.ensures.0) c.if-cells-wide-eq1.false));
-}
+loop-k-preserved c = below_more _ c.loop-k.k c.loop-k.invariant (λ _. ne_eqb (get_or c.args.cells.now (get_or c.args.arrows.now c.loop-k.k 0) 0) 1 (rw (← c.from.ensures) c.if-cells-from-eq1.false))
+
+pub returns : goal.returns
+returns c = record { low = c.requires.0; high = omega arith; none = λ j l h. c.loop-k.invariant j (omega (arith, h, c.loop-k-test.false)) l; some = λ h. absurd (omega (arith, h)) }

@@ -2,11 +2,10 @@
 -- Assumes nothing.
 use Prim.Native.Nat.{◌≤◌, ◌<◌}
 use native.Mathlib.Omega.{arith}
-use mathlib.Core.Path.{refl, subst, ◌∙◌}
+use mathlib.Core.Path.{refl, ◌∙◌}
 use lib.Arith.{lt_of_le-ne}
 use lib.ListN.{length}
-use Rattle.literals.specs.Inside.{FoundAs}
-use Rattle.literals.proofs.Findings.{found_same, found_none, nothing_found, not_refused}
+use Rattle.literals.proofs.Findings.{found_same, found_none, nothing_found}
 use Rattle.growth.proofs.PairNames.{Scene-part}
 use Rattle.pairs.proofs.PairSearch.{search_start, search_done, search_more, search_found, search_end}
 use Rattle.pairs.proofs.search_arrow.Goals as goal
@@ -35,24 +34,19 @@ loop-last-preserved c =
       high = n.high;
       first = n.some;
       work = c.check_pair-finding.ensures.work;
-      same = (nothing_found _ (subst (FoundAs _ _ _) c.in-Nothing.is (c.check_pair-finding.ensures.answer c.requires.1.lines (Scene-part c.requires.1.scene c.loop-last.invariant.low (omega (arith, more)))))).1 ∙ c.loop-last.invariant.same;
+      same = (nothing_found _ ((c.in_default.ensures.answer c.requires.1.lines (Scene-part c.requires.1.scene c.loop-last.invariant.low (omega (arith, more)))))).1 ∙ c.loop-last.invariant.same;
       passed = λ lines k. c.loop-last.invariant.passed lines k
-          ∙ search_more c.args.stage k long c.loop-last.last c.loop-last.invariant.low within (c.loop-last.invariant.first within) n more (subst (FoundAs _ _ _) c.in-Nothing.is (c.check_pair-finding.ensures.answer lines (Scene-part k c.loop-last.invariant.low (omega (arith, more)))));
+          ∙ search_more c.args.stage k long c.loop-last.last c.loop-last.invariant.low within (c.loop-last.invariant.first within) n more ((c.in_default.ensures.answer lines (Scene-part k c.loop-last.invariant.low (omega (arith, more)))));
     }
 
-pub returns-in-Reason-clause-answer : goal.returns-in-Reason-clause-answer
-returns-in-Reason-clause-answer c =
+pub returns-in-Some-clause-answer : goal.returns-in-Some-clause-answer
+returns-in-Some-clause-answer c =
     let long : c.args.to ≤ length c.args.arrows.now = omega (arith, c.requires.1.short, c.requires.1.places.long) in
     let more : c.next_square-cur.result < c.args.to = lt_of_le-ne c.next_square-cur.ensures.high c.if-cur-to.false in
     let within = c.loop-last-test.true in
     (λ lines k.
     rw (c.loop-last.invariant.passed lines k) (found_same c.loop-last.invariant.same (search_found c.args.stage k long c.loop-last.last c.loop-last.invariant.low within (c.loop-last.invariant.first within) c.next_square-cur.ensures more
-    (subst (FoundAs _ _ _) c.in-Reason.is (c.check_pair-finding.ensures.answer lines (Scene-part k c.loop-last.invariant.low (omega (arith, more))))))))
-
-pub returns-in-Refused-clause-answer : goal.returns-in-Refused-clause-answer
-returns-in-Refused-clause-answer c =
-    let more : c.next_square-cur.result < c.args.to = lt_of_le-ne c.next_square-cur.ensures.high c.if-cur-to.false in
-    (λ lines k. absurd (not_refused _ (subst (FoundAs _ _ _) c.in-Refused.is (c.check_pair-finding.ensures.answer lines (Scene-part k c.loop-last.invariant.low (omega (arith, more)))))))
+    ((c.in-Some.ensures.answer lines (Scene-part k c.loop-last.invariant.low (omega (arith, more))))))))
 
 pub returns-clause-answer : goal.returns-clause-answer
 returns-clause-answer c =

@@ -6,13 +6,14 @@ use mathlib.Core.Bool.{true}
 use mathlib.Core.List.{List}
 use lib.ListN.{get_or}
 use Rattle.grid.specs.Cells.{square}
+use Rattle.pairs.specs.declared.Stage.{Stage}
 use Rattle.growth.specs.Pairs.{Scene}
 use Rattle.shift.specs.Shift.{Work}
 use Rattle.pairs.proofs.PairSearch.{ahead}
 use Rattle.pairs.proofs.search_arrow.Given as goal
 
 -- the pairs before `last` give no reason, and the buffer is as it was
-pub record Amid (stage : ℕ) (cells arrows kinds owners : List ℕ) (h w from to : ℕ) (groups rows columns buffer₀ buffer : List ℕ) (last : ℕ) : Type 0 where
+pub record Amid (stage : Stage) (cells arrows kinds owners : List ℕ) (h w from to : ℕ) (groups rows columns buffer₀ buffer : List ℕ) (last : ℕ) : Type 0 where
   pub low : from ≤ last
   pub high : last ≤ to
   pub first : last < to → square cells (get_or arrows last 0) ≡ true

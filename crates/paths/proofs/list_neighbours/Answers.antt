@@ -18,7 +18,6 @@ loop-k-init c =
     let p = get_or c.args.order.now c.args.t 0 in
     let cells = take (c.args.h * c.args.w) c.args.cells.now in
     record {
-      few = omega arith;
       room = c.requires.2;
       more = omega arith;
       list = λ cs L. subst (Listing (size g) c.args.order.now c.args.from.now c.args.count) (sym (news_none g cells cs p)) L;
@@ -26,28 +25,28 @@ loop-k-init c =
 
 pub offset_bounds-sides-k : goal.offset_bounds-sides-k
 offset_bounds-sides-k c =
-    let around-is : c.neighbours-around.result ≡ around_of (sized c.args.h c.args.w) (get_or c.args.order.now c.args.t 0) = rw (← c.wide.ensures.0) c.neighbours-around.ensures in
+    let around-is : c.neighbours-around.result ≡ around_of (sized c.args.h c.args.w) (get_or c.args.order.now c.args.t 0) = rw (← c.from.ensures) c.neighbours-around.ensures in
     let turn_at : Turn (sized c.args.h c.args.w) (get_or c.args.order.now c.args.t 0) c.loop-k.k c.neighbours-around.result = turn _ _ _ _ around-is (in_size c.requires.1) c.loop-k-test.true in
     let t = turn_at in omega (arith, t.four)
 
 pub bounds-sides-k : goal.bounds-sides-k
 bounds-sides-k c =
-    let around-is : c.neighbours-around.result ≡ around_of (sized c.args.h c.args.w) (get_or c.args.order.now c.args.t 0) = rw (← c.wide.ensures.0) c.neighbours-around.ensures in
+    let around-is : c.neighbours-around.result ≡ around_of (sized c.args.h c.args.w) (get_or c.args.order.now c.args.t 0) = rw (← c.from.ensures) c.neighbours-around.ensures in
     let turn_at : Turn (sized c.args.h c.args.w) (get_or c.args.order.now c.args.t 0) c.loop-k.k c.neighbours-around.result = turn _ _ _ _ around-is (in_size c.requires.1) c.loop-k-test.true in
     let t = turn_at in omega (arith, t.four)
 
 pub list_cell-listed-requires : goal.list_cell-listed-requires
 list_cell-listed-requires c =
-    let around-is : c.neighbours-around.result ≡ around_of (sized c.args.h c.args.w) (get_or c.args.order.now c.args.t 0) = rw (← c.wide.ensures.0) c.neighbours-around.ensures in
+    let around-is : c.neighbours-around.result ≡ around_of (sized c.args.h c.args.w) (get_or c.args.order.now c.args.t 0) = rw (← c.from.ensures) c.neighbours-around.ensures in
     let turn_at : Turn (sized c.args.h c.args.w) (get_or c.args.order.now c.args.t 0) c.loop-k.k c.neighbours-around.result = turn _ _ _ _ around-is (in_size c.requires.1) c.loop-k-test.true in
     let t = turn_at in
     let o = c.requires.1 in
-    (omega (arith, c.wide-in-loop-k.ensures.0, t.cell, t.on, size_most (sized c.args.h c.args.w) o.tall o.wide), c.loop-k.invariant.room)
+    (omega (arith, c.from-in-loop-k.ensures, t.cell, t.on, size_most (sized c.args.h c.args.w) o.tall o.wide), c.loop-k.invariant.room)
 
 pub loop-k-preserved : goal.loop-k-preserved
 unfolding size
 loop-k-preserved c =
-    let around-is : c.neighbours-around.result ≡ around_of (sized c.args.h c.args.w) (get_or c.args.order.now c.args.t 0) = rw (← c.wide.ensures.0) c.neighbours-around.ensures in
+    let around-is : c.neighbours-around.result ≡ around_of (sized c.args.h c.args.w) (get_or c.args.order.now c.args.t 0) = rw (← c.from.ensures) c.neighbours-around.ensures in
     let turn_at : Turn (sized c.args.h c.args.w) (get_or c.args.order.now c.args.t 0) c.loop-k.k c.neighbours-around.result = turn _ _ _ _ around-is (in_size c.requires.1) c.loop-k-test.true in
     let t = turn_at in
     let o = c.requires.1 in
@@ -56,10 +55,9 @@ loop-k-preserved c =
     let cells = take (c.args.h * c.args.w) c.args.cells.now in
     let small = size_most g o.tall o.wide in
     let p< : p < 1024 = omega (arith, small, in_size o) in
-    let e : c.wide-in-loop-k.result ≡ get_or (neighbours g p) c.loop-k.k 0 = c.wide-in-loop-k.ensures.0 ∙ t.cell in
+    let e : c.from-in-loop-k.result ≡ get_or (neighbours g p) c.loop-k.k 0 = c.from-in-loop-k.ensures ∙ t.cell in
     let off : Offered c.args.cells.now c.loop-k.from c.loop-k.order c.loop-k.listed (get_or (neighbours g p) c.loop-k.k 0) p c.list_cell-listed.new.from c.list_cell-listed.new.order c.list_cell-listed.result = rw e at c.list_cell-listed.ensures in
     record {
-      few = omega (arith, t.below);
       room = offered_Room off p< c.loop-k.invariant.room;
       more = omega (arith, c.loop-k.invariant.more, offered_more off);
       list = λ cs L. neighbour_Offered g cells cs p c.loop-k.k (apart g p (in_size o)) t.below (c.loop-k.invariant.list cs L) small p< t.on c.loop-k.invariant.room (Offered-take (c.args.h * c.args.w) t.on off);
@@ -68,11 +66,11 @@ loop-k-preserved c =
 pub returns : goal.returns
 unfolding size
 returns c =
-    let around-is : c.neighbours-around.result ≡ around_of (sized c.args.h c.args.w) (get_or c.args.order.now c.args.t 0) = rw (← c.wide.ensures.0) c.neighbours-around.ensures in
+    let around-is : c.neighbours-around.result ≡ around_of (sized c.args.h c.args.w) (get_or c.args.order.now c.args.t 0) = rw (← c.from.ensures) c.neighbours-around.ensures in
     let g = sized c.args.h c.args.w in
     let p = get_or c.args.order.now c.args.t 0 in
     let cells = take (c.args.h * c.args.w) c.args.cells.now in
-    let e : c.loop-k.k ≡ length (neighbours g p) = omega (arith, c.loop-k.invariant.few, c.loop-k-test.false, turn_count g p _ around-is) in
+    let e : c.loop-k.k ≡ length (neighbours g p) = omega (arith, c.loop-k.auto.k-end, c.loop-k-test.false, turn_count g p _ around-is) in
     record {
       list = λ cs L. rw (← news_all g cells cs p, ← e) (c.loop-k.invariant.list cs L);
       room = c.loop-k.invariant.room;

@@ -1,6 +1,5 @@
--- What holds at each turn of the loop of `paths::next_arrow_cell`, and what falls from turn to turn.
+-- What holds at each turn of the loop of `paths::next_arrow_cell`.
 -- Assumes nothing.
-use Prim.Native.Nat.{◌-◌}
 use mathlib.Core.Path.{◌≡◌}
 use lib.ListN.{get_or}
 use Rattle.paths.specs.Ends.{arrow_cells_from}
@@ -8,6 +7,3 @@ use Rattle.paths.proofs.next_arrow_cell.Given as goal
 
 abbrev pub invariant-loop-i : goal.invariant-loop-i
 invariant-loop-i l = get_or (arrow_cells_from l.blocks l.onarrow l.n l.f l.from) 0 l.n ≡ get_or (arrow_cells_from l.blocks l.onarrow l.n l.f l.i) 0 l.n
-
-abbrev pub decreases-loop-i : goal.decreases-loop-i
-decreases-loop-i l = l.n - l.i

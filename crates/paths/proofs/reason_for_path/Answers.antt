@@ -122,7 +122,7 @@ loop-cell-preserved c =
     let l = c.breadth_first.ensures in
     let g = sized c.args.h c.args.w in
     let n = next in
-    let e = c.wide-cell.ensures.0 ∙ way_mark g c.args.cells.now c.args.b c.loop-cell.invariant l in
+    let e = c.from-cell.ensures ∙ way_mark g c.args.cells.now c.args.b c.loop-cell.invariant l in
     rw (e, c.literal.ensures) (Way-more g c.args.cells.now c.args.b c.loop-cell.invariant c.loop-cell-test.true (omega (arith, n.count-on, c.requires.3)))
 
 pub literal-requires-2 : goal.literal-requires-2

@@ -4,4 +4,4 @@ use Rattle.reach.proofs.ChainLaws.{chains_either}
 use Rattle.reach.proofs.chain_cell.Goals as goal
 
 pub returns : goal.returns
-returns c = λ n l C. rw (c.pick.ensures, c.pick-2.ensures) (chains_either c.args.owners.now n c.args.i l C)
+returns c = λ n l C. rw (c.pick.ensures, c.pick-2.ensures, c.from-slot.ensures) (chains_either c.args.owners.now n c.args.i l C)

@@ -7,9 +7,9 @@ use Rattle.reach.proofs.ChainLaws.{chains_none}
 use Rattle.reach.proofs.chain_cells.Goals as goal
 
 pub loop-i-init : goal.loop-i-init
-loop-i-init c = (omega arith, rw (c.requires.1, c.requires.2) (chains_none c.args.owners.now c.args.n c.requires.0))
+loop-i-init c = rw (c.requires.1, c.requires.2) (chains_none c.args.owners.now c.args.n c.requires.0)
 
 pub loop-i-preserved : goal.loop-i-preserved
 loop-i-preserved c =
-    let e : c.loop-i.i - 1 + 1 ≡ c.loop-i.i = omega arith in
-    (omega arith, c.chain_cell.ensures _ (omega arith) (rw e c.loop-i.invariant.1))
+    let e : c.loop-i.i - 1 + 1 ≡ c.loop-i.i = omega (arith, c.loop-i-test.true) in
+    c.chain_cell.ensures _ (omega (arith, c.loop-i-test.true, c.loop-i.auto.i)) (rw e c.loop-i.invariant)

@@ -8,31 +8,28 @@ use Rattle.grid.proofs.AroundLaws.{side_cell, side_at, side_off, sides_none, sid
 use Rattle.reach.proofs.Counting.{near_off, near_none, near_more, near_all}
 use Rattle.reach.proofs.mark_floats_beside.Goals as goal
 use Rattle.reach.proofs.mark_floats_beside.Invariants.{Near}
-use Rattle.reach.proofs.mark_floats_beside.Goals.{in-At, in-Off}
+use Rattle.reach.proofs.mark_floats_beside.Goals.{in-Some, in_default}
 
-pub returns-then-kinds-i-ne2 : goal.returns-then-kinds-i-ne2
-returns-then-kinds-i-ne2 c = λ t q. near_off c.args.kinds.now c.args.owners.now c.args.f t c.args.i _ (rw (ne_eqb _ 2 c.if-kinds-i-ne2.true)) q
+pub returns-then-kinds-i-ne-ARROW_BLOCK_NEIGHBOR : goal.returns-then-kinds-i-ne-ARROW_BLOCK_NEIGHBOR
+returns-then-kinds-i-ne-ARROW_BLOCK_NEIGHBOR c = λ t q. near_off c.args.kinds.now c.args.owners.now c.args.f t c.args.i _ (rw (ne_eqb _ 2 c.if-kinds-i-ne-ARROW_BLOCK_NEIGHBOR.true)) q
 
 pub returns-then-owners-i : goal.returns-then-owners-i
-returns-then-owners-i c = λ t q. near_off c.args.kinds.now c.args.owners.now c.args.f t c.args.i _ (rw (c.if-kinds-i-ne2.false, ne_eqb _ _ c.if-owners-i.true)) q
+returns-then-owners-i c = λ t q. near_off c.args.kinds.now c.args.owners.now c.args.f t c.args.i _ (rw (c.if-kinds-i-ne-ARROW_BLOCK_NEIGHBOR.false, ne_eqb _ _ c.if-owners-i.true)) q
 
 pub loop-k-init : goal.loop-k-init
-loop-k-init c = (omega arith, λ t. sides_none (Near c.args.kinds.now c.args.owners.now c.args.near.now c.args.near.now t) _ _ (λ q. near_none c.args.kinds.now c.args.owners.now c.args.f t q))
+loop-k-init c = λ t. sides_none (Near c.args.kinds.now c.args.owners.now c.args.near.now c.args.near.now t) _ _ (λ q. near_none c.args.kinds.now c.args.owners.now c.args.f t q)
 
 pub mark_name-requires : goal.mark_name-requires
-mark_name-requires c = cell_small (side_cell c.requires c.loop-k.k c.toward-side.result c.toward-side.ensures _ c.in-At.is)
+mark_name-requires c = cell_small (side_cell c.requires c.loop-k.k c.toward.result c.toward.ensures _ c.in-Some.is)
 
 pub loop-k-preserved : goal.loop-k-preserved
-loop-k-preserved c = (
-  omega (arith, c.loop-k-test.true),
-  λ t. elim c.match-side.branch [
-    | in-At v ↦ side_at c.requires c.loop-k.k c.toward-side.result c.toward-side.ensures (Near c.args.kinds.now c.args.owners.now c.args.near.now c.match-side.near t) _ v.in-At.is
-        (λ q. rw v.near-is (near_more c.args.kinds.now c.args.owners.now c.args.f t _ _ (v.mark_name.ensures _ (c.loop-k.invariant.1 t q))))
-    | in-Off v ↦ side_off c.requires c.loop-k.k c.toward-side.result c.toward-side.ensures (Near c.args.kinds.now c.args.owners.now c.args.near.now c.match-side.near t) v.in-Off.is
-        (λ q. rw v.near-is (c.loop-k.invariant.1 t q))
-  ],
-)
+loop-k-preserved c = λ t. elim c.match-toward.branch [
+  | in-Some v ↦ side_at c.requires c.loop-k.k c.toward.result c.toward.ensures (Near c.args.kinds.now c.args.owners.now c.args.near.now c.match-toward.near t) _ v.in-Some.is
+      (λ q. rw v.near-is (near_more c.args.kinds.now c.args.owners.now c.args.f t _ _ (v.mark_name.ensures _ (c.loop-k.invariant t q))))
+  | in_default v ↦ side_off c.requires c.loop-k.k c.toward.result c.toward.ensures (Near c.args.kinds.now c.args.owners.now c.args.near.now c.match-toward.near t) v.in_default.is
+      (λ q. rw v.near-is (c.loop-k.invariant t q))
+]
 
 pub returns : goal.returns
-returns c = λ t q. near_all c.args.kinds.now c.args.owners.now c.args.f t c.args.i _ c.if-kinds-i-ne2.false c.if-owners-i.false
-    (sides_all (Near c.args.kinds.now c.args.owners.now c.args.near.now c.loop-k.near t) (sized c.args.h c.args.w) c.args.i c.loop-k.k c.loop-k.invariant.0 c.loop-k-test.false (c.loop-k.invariant.1 t) q)
+returns c = λ t q. near_all c.args.kinds.now c.args.owners.now c.args.f t c.args.i _ c.if-kinds-i-ne-ARROW_BLOCK_NEIGHBOR.false c.if-owners-i.false
+    (sides_all (Near c.args.kinds.now c.args.owners.now c.args.near.now c.loop-k.near t) (sized c.args.h c.args.w) c.args.i c.loop-k.k (omega (arith, c.loop-k.auto.k-end)) c.loop-k-test.false (c.loop-k.invariant t) q)

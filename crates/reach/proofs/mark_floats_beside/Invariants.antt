@@ -1,6 +1,6 @@
--- What holds at each turn of the loop of `reach::mark_floats_beside`, and what falls from turn to turn.
+-- What holds at each turn of the loop of `reach::mark_floats_beside`.
 -- Assumes nothing.
-use Prim.Native.Nat.{ℕ, ◌≤◌, ◌-◌}
+use Prim.Native.Nat.{ℕ}
 use mathlib.Core.Bool.{Bool, ◌||◌}
 use mathlib.Core.List.{List}
 use Rattle.reach.specs.Inside.{float_among}
@@ -14,7 +14,4 @@ abbrev pub Near : List ℕ → List ℕ → List ℕ → List ℕ → (ℕ → B
 Near kinds owners near₀ near t js = Marks near₀ t → Marks near (λ m. t m || float_among kinds owners js m)
 
 abbrev pub invariant-loop-k : goal.invariant-loop-k
-invariant-loop-k l = (l.k ≤ 4) × ((t : ℕ → Bool) → Near l.kinds l.owners l.initial.near l.near t (gathered (sized l.h l.w) l.i l.k))
-
-abbrev pub decreases-loop-k : goal.decreases-loop-k
-decreases-loop-k l = 4 - l.k
+invariant-loop-k l = (t : ℕ → Bool) → Near l.kinds l.owners l.initial.near l.near t (gathered (sized l.h l.w) l.i l.k)

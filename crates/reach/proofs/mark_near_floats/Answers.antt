@@ -1,12 +1,11 @@
 -- `reach::mark_near_floats` meets its contract: the floating groups that touch a neighbour of f among the cells passed are marked.
 -- Assumes nothing.
-use native.Mathlib.Omega.{arith}
 use Rattle.grid.proofs.MarkLaws.{Marks-none}
 use Rattle.reach.proofs.Counting.{among_near_none, among_near_more}
 use Rattle.reach.proofs.mark_near_floats.Goals as goal
 
 pub loop-i-init : goal.loop-i-init
-loop-i-init c = (omega arith, among_near_none _ _ _ _ (rw c.clear.ensures Marks-none))
+loop-i-init c = among_near_none _ _ _ _ Marks-none
 
 pub loop-i-preserved : goal.loop-i-preserved
-loop-i-preserved c = (omega (arith, c.loop-i-test.true), among_near_more _ _ _ _ _ (c.mark_floats_beside.ensures _ c.loop-i.invariant.1))
+loop-i-preserved c = among_near_more _ _ _ _ _ (c.mark_floats_beside.ensures _ c.loop-i.invariant)

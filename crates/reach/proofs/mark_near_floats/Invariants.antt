@@ -1,13 +1,9 @@
--- What holds at each turn of the loop of `reach::mark_near_floats`, and what falls from turn to turn.
+-- What holds at each turn of the loop of `reach::mark_near_floats`.
 -- Assumes nothing.
-use Prim.Native.Nat.{◌≤◌, ◌-◌}
 use Rattle.grid.specs.Marks.{Marks}
 use Rattle.grid.specs.Side.{sized}
 use Rattle.reach.specs.Inside.{near_among}
 use Rattle.reach.proofs.mark_near_floats.Given as goal
 
 abbrev pub invariant-loop-i : goal.invariant-loop-i
-invariant-loop-i l = (l.i ≤ l.n) × Marks l.near (near_among l.kinds l.owners (sized l.h l.w) l.f l.i)
-
-abbrev pub decreases-loop-i : goal.decreases-loop-i
-decreases-loop-i l = l.n - l.i
+invariant-loop-i l = Marks l.near (near_among l.kinds l.owners (sized l.h l.w) l.f l.i)

@@ -1,4 +1,4 @@
--- What holds at each turn of the loop of `record_replay::arrows_differ`, and what falls from turn to turn.
+-- What holds at each turn of the loop of `record_replay::arrows_differ`.
 -- Assumes nothing.
 use Prim.Native.Nat.{◌-◌, ◌≤◌}
 use mathlib.Core.Bool.{Bool}
@@ -8,8 +8,5 @@ use Rattle.record_replay.proofs.arrows_differ.Given as goal
 
 abbrev pub invariant-loop-i : goal.invariant-loop-i
 invariant-loop-i l =
-    (l.i ≤ l.arrows) × (l.end ≤ 1024)
+    (l.end ≤ 1024)
     × ((r : Bool) → DiffersUnless r (ArrowsSo l.list l.at (l.arrows - l.i) l.line l.ends l.end l.i) → DiffersUnless r (ArrowsSo l.list l.start l.arrows l.line l.ends 0 0))
-
-abbrev pub decreases-loop-i : goal.decreases-loop-i
-decreases-loop-i l = l.arrows - l.i

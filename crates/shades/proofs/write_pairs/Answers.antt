@@ -1,12 +1,11 @@
 -- `shades::write_pairs` meets its contract: the numbers of the cells passed stand in front, and behind them nothing changed.
 -- Assumes nothing.
 use native.Mathlib.Omega.{arith}
-use borrow.Author.Rules.{rules}
 use Rattle.shades.proofs.PairLaws.{pairs_none, pairs_next}
 use Rattle.shades.proofs.write_pairs.Goals as goal
 
 pub loop-i-init : goal.loop-i-init
-loop-i-init c = (search rules, pairs_none c.args.groups.now c.args.squares.now c.args.shades.now)
+loop-i-init c = pairs_none c.args.groups.now c.args.squares.now c.args.shades.now
 
 pub loop-i-preserved : goal.loop-i-preserved
-loop-i-preserved c = (search rules, rw (c.pick-in-loop-i.ensures, c.pick.ensures, c.wide.ensures.0, c.loop-i.invariant.1) (pairs_next c.args.groups.now c.args.squares.now c.args.shades.now c.loop-i.i (omega arith)))
+loop-i-preserved c = rw (c.pick-in-loop-i.ensures, c.pick.ensures, c.from.ensures, c.loop-i.invariant) (pairs_next c.args.groups.now c.args.squares.now c.args.shades.now c.loop-i.i (omega arith))

@@ -25,4 +25,4 @@ returns c =
     let a = c.args in
     λ lines cells held floats arrow places.
     sym (fits_none a.h a.w limits lines cells a.e a.f held floats arrow places (sym c.fits_chain.ensures ∙ c.if-fits_chain.false)
-    (λ j h. c.loop-k.invariant.passed j (omega (arith, h, c.loop-k-test.false))))
+    (λ j h. c.loop-k.invariant j (omega (arith, h, c.loop-k-test.false))))

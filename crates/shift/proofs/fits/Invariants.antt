@@ -1,6 +1,6 @@
--- What holds at each turn of the loop of `shift::fits`, and what falls from turn to turn.
+-- What holds at each turn of the loop of `shift::fits`.
 -- Assumes nothing.
-use Prim.Native.Nat.{ℕ, ◌-◌, ◌*◌, ◌≤◌, ◌<◌}
+use Prim.Native.Nat.{ℕ, ◌*◌, ◌<◌}
 use mathlib.Core.Path.{◌≡◌}
 use mathlib.Core.Bool.{Bool, false}
 use mathlib.Core.List.{List}
@@ -16,12 +16,5 @@ abbrev pub test : ℕ → ℕ → List ℕ → List ℕ → ℕ → List ℕ →
 test h w rows columns count kinds owners near e fy fx m = any (fits_at h w rows columns count (reaches_at kinds owners near e) fy fx) (cells_from owners (h * w) m 0)
 
 -- none to one of the first k groups does
-pub record Amid (total : ℕ) (groups : List ℕ) (test : ℕ → Bool) (k : ℕ) : Type 0 where
-  pub high : k ≤ total
-  pub passed : (j : ℕ) → j < k → test (get_or groups j 0) ≡ false
-
 abbrev pub invariant-loop-k : goal.invariant-loop-k
-invariant-loop-k l = Amid l.total l.groups (test l.h l.w l.rows l.columns l.count l.kinds l.owners l.near l.e l.fy l.fx) l.k
-
-abbrev pub decreases-loop-k : goal.decreases-loop-k
-decreases-loop-k l = l.total - l.k
+invariant-loop-k l = (j : ℕ) → j < l.k → test l.h l.w l.rows l.columns l.count l.kinds l.owners l.near l.e l.fy l.fx (get_or l.groups j 0) ≡ false

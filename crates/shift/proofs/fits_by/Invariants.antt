@@ -1,6 +1,6 @@
--- What holds at each turn of the loop of `shift::fits_by`, and what falls from turn to turn.
+-- What holds at each turn of the loop of `shift::fits_by`.
 -- Assumes nothing.
-use Prim.Native.Nat.{ℕ, ◌-◌, ◌≤◌, ◌<◌}
+use Prim.Native.Nat.{ℕ, ◌<◌}
 use mathlib.Core.Path.{◌≡◌}
 use mathlib.Core.Bool.{Bool, true}
 use mathlib.Core.List.{List}
@@ -16,12 +16,5 @@ abbrev pub test : ℕ → ℕ → List ℕ → List ℕ → (ℕ → Bool) → �
 test h w rows columns reached dy dx k = lands_in reached (shifted_of h w (get_or rows k 0) (get_or columns k 0) dy dx)
 
 -- so do those before it
-pub record Amid (h w : ℕ) (rows columns : List ℕ) (count : ℕ) (reached : ℕ → Bool) (dy dx : ℤ) (k : ℕ) : Type 0 where
-  pub high : k ≤ count
-  pub passed : (j : ℕ) → j < k → test h w rows columns reached dy dx j ≡ true
-
 abbrev pub invariant-loop-k : goal.invariant-loop-k
-invariant-loop-k l = Amid l.h l.w l.rows l.columns l.count (reaches_at l.kinds l.owners l.near l.e) l.dy l.dx l.k
-
-abbrev pub decreases-loop-k : goal.decreases-loop-k
-decreases-loop-k l = l.count - l.k
+invariant-loop-k l = (j : ℕ) → j < l.k → test l.h l.w l.rows l.columns (reaches_at l.kinds l.owners l.near l.e) l.dy l.dx j ≡ true

@@ -14,23 +14,23 @@ reached-requires c =
     let n = c.args in
     let ey = to_z-of_z w32 n.dy c.ranges.dy in
     let ex = to_z-of_z w32 n.dx c.ranges.dx in
-    let found = rw (ey, ex) at (sym c.shifted-side.ensures ∙ c.in-At.is) in
-    omega (arith, shifted_inside n.h n.w n.y n.x n.dy n.dx c.in-At.d found, area n.h n.w c.requires.0.tall c.requires.0.wide)
+    let found = rw (ey, ex) at (sym c.shifted.ensures ∙ c.in-Some.is) in
+    omega (arith, shifted_inside n.h n.w n.y n.x n.dy n.dx c.in-Some.d found, area n.h n.w c.requires.0.tall c.requires.0.wide)
 
-pub returns-in-At : goal.returns-in-At
+pub returns-in-Some : goal.returns-in-Some
 unfolding lands_in
-returns-in-At c =
+returns-in-Some c =
     let n = c.args in
     let ey = to_z-of_z w32 n.dy c.ranges.dy in
     let ex = to_z-of_z w32 n.dx c.ranges.dx in
-    let found = rw (ey, ex) at (sym c.shifted-side.ensures ∙ c.in-At.is) in
+    let found = rw (ey, ex) at (sym c.shifted.ensures ∙ c.in-Some.is) in
     rw found c.reached.ensures
 
-pub returns-in-Off : goal.returns-in-Off
+pub returns-in-None : goal.returns-in-None
 unfolding lands_in
-returns-in-Off c =
+returns-in-None c =
     let n = c.args in
     let ey = to_z-of_z w32 n.dy c.ranges.dy in
     let ex = to_z-of_z w32 n.dx c.ranges.dx in
-    let found = rw (ey, ex) at (sym c.shifted-side.ensures ∙ c.in-Off.is) in
+    let found = rw (ey, ex) at (sym c.shifted.ensures ∙ c.in-None.is) in
     rw found refl

@@ -1,13 +1,10 @@
--- `text::read_code` meets its contract: the laws of `Codes`, at the number read from its bits.
+-- `text::read_code` meets its contract.
 -- Assumes nothing.
-use Rattle.text.proofs.Codes.{code_refused, code_nothing, code_count}
+use Rattle.text.proofs.Codes.{count_told, refusal_told}
 use Rattle.text.proofs.read_code.Goals as goal
 
-pub returns-then-code-lt0 : goal.returns-then-code-lt0
-returns-then-code-lt0 c = code_refused c.args.code c.requires c.if-code-lt0.true
+pub returns-in-Ok : goal.returns-in-Ok
+returns-in-Ok c = count_told c.args.code c.ranges.code c.in-Ok.count c.in-Ok.ensures
 
-pub returns-then-count-eq0 : goal.returns-then-count-eq0
-returns-then-count-eq0 c = code_nothing c.args.code c.requires c.if-code-lt0.false c.if-count-eq0.true
-
-pub returns : goal.returns
-returns c = code_count c.args.code c.requires c.if-code-lt0.false c.if-count-eq0.false
+pub returns-in-Err : goal.returns-in-Err
+returns-in-Err c = refusal_told c.args.code c.ranges.code c.unsigned_abs.result c.in-Err.ensures c.unsigned_abs.ensures.value

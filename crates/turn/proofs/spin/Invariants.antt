@@ -1,6 +1,5 @@
--- What holds at each turn of the loop of `turn::spin`, and what falls from turn to turn.
+-- What holds at each turn of the loop of `turn::spin`.
 -- Assumes nothing.
-use Prim.Native.Nat.{◌-◌, ◌≤◌}
 use mathlib.Core.Path.{◌≡◌}
 use Rattle.record.specs.Record.{Puzzle}
 use Rattle.record.specs.Valid.{Valid}
@@ -8,8 +7,5 @@ use Rattle.record.specs.Problem.{problem_of}
 use Rattle.turn.specs.Inside.{spun}
 use Rattle.turn.proofs.spin.Given as goal
 
-abbrev pub invariant-loop-i : goal.invariant-loop-i
-invariant-loop-i l = (l.i ≤ l.times) × ((p : Puzzle) × Valid p × (l.initial.q ≡ problem_of p) × (l.q ≡ problem_of (spun l.i p)))
-
-abbrev pub decreases-loop-i : goal.decreases-loop-i
-decreases-loop-i l = l.times - l.i
+abbrev pub invariant-loop : goal.invariant-loop
+invariant-loop l = (p : Puzzle) → Valid p → l.fn.problem ≡ problem_of p → l.spun ≡ problem_of (spun l.counter p)

@@ -1,4 +1,4 @@
--- What holds at each turn of the loop of `unique::open_on`, and what falls from turn to turn.
+-- What holds at each turn of the loop of `unique::open_on`.
 -- Assumes nothing.
 use Prim.Native.Nat.{◌+◌, ◌-◌, ◌≤◌}
 use mathlib.Core.Path.{◌≡◌}
@@ -8,6 +8,3 @@ use Rattle.unique.proofs.open_on.Given as goal
 
 abbrev pub invariant-loop-k : goal.invariant-loop-k
 invariant-loop-k l = (l.count + ahead (potential l.cells) l.arrows l.to l.k ≡ ahead (potential l.cells) l.arrows l.to l.from) × (l.count ≤ l.k)
-
-abbrev pub decreases-loop-k : goal.decreases-loop-k
-decreases-loop-k l = l.to - l.k

@@ -16,12 +16,12 @@ pub loop-a-preserved : goal.loop-a-preserved
 unfolding two_open
 loop-a-preserved c =
     let cuts-length : length (take c.args.number c.args.ends.now) ≡ c.args.number = length-take-le c.args.number c.args.ends.now c.requires.1.ends_long in
-    let within = c.loop-a-test.true in
+    let within : c.loop-a.a < c.args.number = omega arith in
     let cells = c.args.cells.now in
     let arrows = c.args.arrows.now in
     let ends = c.args.ends.now in
-    let end : get_or (take c.args.number c.args.ends.now) c.loop-a.a 0 ≡ c.wide-to.result = get_or-take c.args.number ends c.loop-a.a 0 within ∙ sym c.wide-to.ensures.0 in
-    let counted : c.open_on.result ≡ ahead (potential cells) arrows (get_or ends c.loop-a.a 0) c.loop-a.from = rw c.wide-to.ensures.0 at c.open_on.ensures in
+    let end : get_or (take c.args.number c.args.ends.now) c.loop-a.a 0 ≡ c.from-to.result = get_or-take c.args.number ends c.loop-a.a 0 within ∙ sym c.from-to.ensures in
+    let counted : c.open_on.result ≡ ahead (potential cells) arrows (get_or ends c.loop-a.a 0) c.loop-a.from = rw c.from-to.ensures at c.open_on.ensures in
     let lt : c.loop-a.a < length (take c.args.number c.args.ends.now) = omega (arith, cuts-length, within) in
     elim c.if-open_on-lt2.branch [
       | then-open_on-lt2 w ↦ rw w.good-is
@@ -33,4 +33,4 @@ loop-a-preserved c =
 pub returns : goal.returns
 returns c =
     let cuts-length : length (take c.args.number c.args.ends.now) ≡ c.args.number = length-take-le c.args.number c.args.ends.now c.requires.1.ends_long in
-    arrows_end (two_open c.args.cells.now) c.args.arrows.now (take c.args.number c.args.ends.now) c.loop-a.good c.loop-a.from c.loop-a.a (omega (arith, cuts-length, c.loop-a-test.false)) c.loop-a.invariant
+    arrows_end (two_open c.args.cells.now) c.args.arrows.now (take c.args.number c.args.ends.now) c.loop-a.good c.loop-a.from c.loop-a.a (omega (arith, cuts-length)) c.loop-a.invariant

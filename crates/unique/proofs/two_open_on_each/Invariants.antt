@@ -1,4 +1,4 @@
--- What holds at each turn of the loop of `unique::two_open_on_each`, and what falls from turn to turn.
+-- What holds at each turn of the loop of `unique::two_open_on_each`.
 -- Assumes nothing.
 use Prim.Native.Nat.{◌-◌}
 use mathlib.Core.Path.{◌≡◌}
@@ -13,6 +13,3 @@ use Rattle.unique.proofs.two_open_on_each.Given as goal
 abbrev pub invariant-loop-a : goal.invariant-loop-a
 invariant-loop-a l =
     all (two_open l.cells) (lines_of l.arrows l.ends l.number) ≡ (l.good && all (two_open l.cells) (arrows_from l.arrows l.from (drop l.a (take l.number l.ends))))
-
-abbrev pub decreases-loop-a : goal.decreases-loop-a
-decreases-loop-a l = l.number - l.a

@@ -41,8 +41,8 @@ returns-then-sizes-eq0 c =
     let reads : Reads c.args.«record».now c.read-reading.result.problem = Reads-done c.args.«record».now c.read-reading.result c.read-reading.ensures c.in_default.is in
     let one : c.edition_of-e.result ≡ 0 → ⊥ = c.if-e-eq0.false in
     let r = reads in
-    to_z-of_z w32 c.unique_behind.result (record { sfits = c.unique_behind.type_inv })
-    ∙ c.unique_behind.ensures (in_edition c.edition_of-e.result r.puzzle) (opened_bare r c.args.edition c.edition_of-e.ensures one) (reads_codes r)
+    to_z-of_z w32 c.returned.result (record { sfits = c.returned.type_inv }) ∙ c.returned.ensures
+    ∙ c.unique_behind.ensures.number (in_edition c.edition_of-e.result r.puzzle) (opened_bare r c.args.edition c.edition_of-e.ensures one) (reads_codes r)
     ∙ ap unique_returned (sym (opened_none r c.args.edition c.edition_of-e.ensures one (check_on c.args.certificate.now) c.args.sizes.now c.if-sizes-eq0.true))
 
 pub unique_sized-requires : goal.unique_sized-requires

@@ -31,6 +31,6 @@ returns c =
     λ p d g o.
     let z = c.read_size_bytes-read.ensures p d in
     let k = c.in_default.is in
-    to_z-of_z w32 c.unique_behind.result (record { sfits = c.unique_behind.type_inv })
-    ∙ c.unique_behind.ensures (sized_leaf p d g a.edition c.requires.0 a.sizes.now z k) (sized_Holds p d g a.edition c.requires.0 a.sizes.now z k) o
+    to_z-of_z w32 c.returned.result (record { sfits = c.returned.type_inv }) ∙ c.returned.ensures
+    ∙ c.unique_behind.ensures.number (sized_leaf p d g a.edition c.requires.0 a.sizes.now z k) (sized_Holds p d g a.edition c.requires.0 a.sizes.now z k) o
     ∙ ap unique_returned (sym (sized_asked p d g a.edition c.requires.0 a.sizes.now z k (check_on a.certificate.now)))

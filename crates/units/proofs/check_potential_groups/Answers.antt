@@ -1,33 +1,28 @@
 -- `units::check_potential_groups` meets its contract: the group that was found and its boundary, or none.
 -- Assumes nothing.
 use Prim.Native.Nat.{◌*◌}
-use native.Mathlib.Omega.{arith}
 use mathlib.Core.Path.{sym, ap, ◌∙◌}
 use lib.ListN.{take}
 use Rattle.grid.specs.Side.{sized}
 use Rattle.kinds.specs.Inside.{puzzle_with}
 use Rattle.units.specs.Arrays.{found_at, boundary_of}
 use Rattle.units.proofs.Checks.{named_found, nobody_found}
-use Rattle.units.proofs.Names.{stranded_is, first_low}
+use Rattle.units.proofs.Names.{names_small, stranded_is, first_low}
 use Rattle.units.proofs.check_potential_groups.Goals as goal
 
-pub overflow_cast-f : goal.overflow_cast-f
-overflow_cast-f c = omega (arith, first_low _ c.requires.1 (sym c.find_stranded-name.ensures ∙ c.in-At.is))
+pub find_stranded-requires : goal.find_stranded-requires
+find_stranded-requires c = names_small c.requires.1
 
-pub returns-in-At : goal.returns-in-At
-returns-in-At c = λ lines held.
-    let h = c.args.h in
-    let w = c.args.w in
-    let cells = take (h * w) c.args.cells.now in
-    let r = boundary_of (sized h w) cells in
-    named_found r (stranded_is (puzzle_with (sized h w) lines) cells held ∙ ap (found_at r) (sym c.find_stranded-name.ensures)) c.in-At.is
-    (c.reason_for_potential_unit_boundary-count.ensures held.groups_are
-    (omega (arith, first_low _ c.requires.1 (sym c.find_stranded-name.ensures ∙ c.in-At.is))))
+pub returns-in_err-f : goal.returns-in_err-f
+returns-in_err-f c = λ lines held.
+    let cells = take (c.args.h * c.args.w) c.args.cells.now in
+    let r = boundary_of (sized c.args.h c.args.w) cells in
+    rw c.from_residual.ensures
+    (nobody_found r c.args.buffer.now (stranded_is (puzzle_with (sized c.args.h c.args.w) lines) cells held ∙ ap (found_at r) (sym c.find_stranded.ensures)) c.in_err-f.was)
 
-pub returns-in-Nobody : goal.returns-in-Nobody
-returns-in-Nobody c = λ lines held.
-    let h = c.args.h in
-    let w = c.args.w in
-    let cells = take (h * w) c.args.cells.now in
-    let r = boundary_of (sized h w) cells in
-    nobody_found r c.args.buffer.now (stranded_is (puzzle_with (sized h w) lines) cells held ∙ ap (found_at r) (sym c.find_stranded-name.ensures)) c.in-Nobody.is
+pub returns : goal.returns
+returns c = λ lines held.
+    let cells = take (c.args.h * c.args.w) c.args.cells.now in
+    let r = boundary_of (sized c.args.h c.args.w) cells in
+    named_found r (stranded_is (puzzle_with (sized c.args.h c.args.w) lines) cells held ∙ ap (found_at r) (sym c.find_stranded.ensures)) c.in_ok-f.was
+    (c.reason_for_potential_unit_boundary-count.ensures held.groups_are (first_low _ c.requires.1 (sym c.find_stranded.ensures ∙ c.in_ok-f.was)))

@@ -25,4 +25,4 @@ write_steps-requires c =
     )
 
 pub returns : goal.returns
-returns c = arrow_Appends c.args.height c.args.width c.args.line.now c.args.from c.args.steps c.wide-i.result c.wide-i.ensures.0 c.put-y.ensures c.put-x.ensures c.put-n.ensures c.write_steps.ensures
+returns c = arrow_Appends c.args.height c.args.width c.args.line.now c.args.from c.args.steps c.from-i.result c.from-i.ensures c.put-y.ensures c.put-x.ensures c.put-n.ensures c.write_steps.ensures

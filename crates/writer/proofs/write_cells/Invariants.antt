@@ -1,6 +1,6 @@
--- What holds at each turn of the loop of `writer::write_cells`, and what falls from turn to turn.
+-- What holds at each turn of the loop of `writer::write_cells`.
 -- Assumes nothing.
-use Prim.Native.Nat.{ℕ, ◌-◌, ◌≤◌}
+use Prim.Native.Nat.{ℕ}
 use mathlib.Core.List.{List}
 use lib.ListN.{get_or}
 use Rattle.grid.specs.Lists.{flat_map, upto}
@@ -13,7 +13,4 @@ abbrev pub piece : List ℕ → ℕ → List ℕ
 piece cells i = bits_of (get_or cells i 0) 2
 
 abbrev pub invariant-loop-i : goal.invariant-loop-i
-invariant-loop-i l = (l.i ≤ l.n) × Appends l.at (flat_map (piece l.cells) (upto l.i)) l.initial.out l.out l.end
-
-abbrev pub decreases-loop-i : goal.decreases-loop-i
-decreases-loop-i l = l.n - l.i
+invariant-loop-i l = Appends l.at (flat_map (piece l.cells) (upto l.i)) l.initial.out l.out l.end

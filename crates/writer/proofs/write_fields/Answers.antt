@@ -27,7 +27,7 @@ write_cells-c-requires c =
     let ew = put_place _ 5 c.put-w.ensures in
     let em = put_place _ 11 c.put-m.ensures in (
       record { fits = omega (arith, eh, ew, em, c.requires.1.fits, c.put-h.ensures.long, c.put-w.ensures.long, c.put-m.ensures.long); small = omega (arith, eh, ew, em, c.requires.1.small) },
-      area c.args.height c.args.width c.requires.2.tall c.requires.2.wide,
+      area c.args.problem.now.height c.args.problem.now.width c.requires.2.tall c.requires.2.wide,
     )
 
 pub write_arrows-requires : goal.write_arrows-requires
@@ -35,7 +35,7 @@ write_arrows-requires c =
     let eh = put_place _ 5 c.put-h.ensures in
     let ew = put_place _ 5 c.put-w.ensures in
     let em = put_place _ 11 c.put-m.ensures in
-    let ed = c.write_cells-c.ensures.place ∙ ap (λ (n : ℕ). c.put-m.result + n) (pieces_length (λ i. bits_of (get_or c.args.cells.now i 0) 2) 2 (c.args.height * c.args.width) (λ k. length-bits_of (get_or c.args.cells.now k 0) 2)) in (
+    let ed = c.write_cells-c.ensures.place ∙ ap (λ (n : ℕ). c.put-m.result + n) (pieces_length (λ i. bits_of (get_or c.args.problem.now.cells i 0) 2) 2 (c.args.problem.now.height * c.args.problem.now.width) (λ k. length-bits_of (get_or c.args.problem.now.cells k 0) 2)) in (
       record {
         fits = omega (arith, eh, ew, em, ed, c.requires.1.fits, c.put-h.ensures.long, c.put-w.ensures.long, c.put-m.ensures.long, c.write_cells-c.ensures.long);
         small = omega (arith, eh, ew, em, ed, c.requires.1.small);
@@ -44,4 +44,4 @@ write_arrows-requires c =
     )
 
 pub returns : goal.returns
-returns c = fields_append c.args.height c.args.width c.args.cells.now c.args.line.now c.args.ends.now c.args.count c.put-h.ensures c.put-w.ensures c.put-m.ensures c.write_cells-c.ensures c.write_arrows.ensures
+returns c = fields_append c.args.problem.now.height c.args.problem.now.width c.args.problem.now.cells c.args.problem.now.arrows c.args.problem.now.ends c.args.problem.now.count c.put-h.ensures c.put-w.ensures c.put-m.ensures c.write_cells-c.ensures c.write_arrows.ensures

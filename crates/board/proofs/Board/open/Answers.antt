@@ -1,41 +1,43 @@
 -- `board::Board::open` meets its contract.
 -- Assumes nothing.
-use mathlib.Core.Path.{◌≡◌, sym, ◌∙◌}
-use mathlib.Core.Bool.{true}
-use Rattle.record.specs.Leaf.{is_edition}
-use Rattle.record.specs.declared.Answer.TheVariants.{Done}
-use Rattle.board.proofs.OpenLaws.{open_refused, open_16, open_Drawn, open_22, open_fresh}
+use mathlib.Core.Path.{refl, sym, ◌∙◌}
+use Rattle.fields.proofs.OutcomeLaws.{outcome_fault}
+use Rattle.record.specs.Record.{read_record}
+use Rattle.record.proofs.ProblemLaws.{problem_ok, problem_refused}
+use Rattle.std.proofs.lemmas.Result.{err_from_is_err_and}
+use Rattle.sizes.proofs.ReadLaws.{sizes_words}
+use Rattle.board.proofs.OpenLaws.{read_Keeps, open_refused, open_16, open_22, open_fresh}
 use Rattle.board.proofs.Board.open.Goals as goal
 
-pub returns-in-Refused : goal.returns-in-Refused
-returns-in-Refused c = c.not_opened.ensures ∙ open_refused c.args.bytes.now c.args.edition c.args.sizes.now c.read-reading.result c.read-reading.ensures c.in-Refused.is
+pub returns-in_err-problem : goal.returns-in_err-problem
+returns-in_err-problem c =
+    let a = c.args in
+    outcome_fault _ _ c.from_residual.ensures.1 (open_refused a.bytes.now a.edition a.sizes.now (problem_refused (read_record a.bytes.now) c.in_err-problem.ensures))
 
-pub returns-then-not-is_edition : goal.returns-then-not-is_edition
-returns-then-not-is_edition c =
-    let accept : c.read-reading.result.answer ≡ Done = c.in_default.is in
-    c.not_opened-then-not-is_edition.ensures
-    ∙ open_16 c.args.bytes.now c.args.edition c.args.sizes.now c.read-reading.result c.read-reading.ensures accept
-    (sym c.is_edition.ensures ∙ c.if-not-is_edition.true)
+pub returns-in_err-edition : goal.returns-in_err-edition
+returns-in_err-edition c =
+    let a = c.args in
+    let p = problem_ok (read_record a.bytes.now) c.in_ok-problem.ensures in
+    let q = err_from_is_err_and c.from_residual-in_err-edition.result c.from_residual-in_err-edition.ensures.1 in
+    rw (q.1, q.2, c.in_err-edition.ensures.1) (open_16 a.bytes.now a.edition a.sizes.now p.0 p.1 c.in_err-edition.ensures.0)
 
-pub read_sizes-sized-requires : goal.read_sizes-sized-requires
-read_sizes-sized-requires c =
-    let accept : c.read-reading.result.answer ≡ Done = c.in_default.is in (
-      open_Drawn c.args.bytes.now c.args.edition c.args.sizes.now c.read-reading.result c.read-reading.ensures accept,
-      c.no_sizes-lowest.ensures,
-      c.no_sizes-highest.ensures,
-    )
+pub read-requires-2 : goal.read-requires-2
+read-requires-2 c =
+    let p = problem_ok (read_record c.args.bytes.now) c.in_ok-problem.ensures in
+    ((p.0, read_Keeps c.args.bytes.now p.0 p.1 p.2), refl, refl)
 
-pub returns-in-Refused-sized : goal.returns-in-Refused-sized
-returns-in-Refused-sized c =
-    let accept : c.read-reading.result.answer ≡ Done = c.in_default.is in
-    let one : is_edition c.args.edition ≡ true = sym c.is_edition.ensures ∙ c.if-not-is_edition.false in
-    c.not_opened-in-Refused-sized.ensures
-    ∙ open_22 c.args.bytes.now c.args.edition c.args.sizes.now c.read-reading.result c.read-reading.ensures accept
-    one c.read_sizes-sized.ensures c.in-Refused-sized.is
+pub returns-in_err-read : goal.returns-in_err-read
+returns-in_err-read c =
+    let a = c.args in
+    let p = problem_ok (read_record a.bytes.now) c.in_ok-problem.ensures in
+    outcome_fault _ _ c.from_residual-in_err-read.ensures.1
+    (open_22 a.bytes.now a.edition a.sizes.now p.0 p.1 c.in_ok-edition.ensures.0 (sym (sizes_words p.0 a.sizes.now) ∙ c.in_err-read.ensures p.0 (read_Keeps a.bytes.now p.0 p.1 p.2)))
 
 pub returns : goal.returns
 returns c =
-    let accept : c.read-reading.result.answer ≡ Done = c.in_default.is in
-    let one : is_edition c.args.edition ≡ true = sym c.is_edition.ensures ∙ c.if-not-is_edition.false in
-    open_fresh c.args.bytes.now c.args.edition c.args.sizes.now c.read-reading.result c.read-reading.ensures accept
-    one c.read_sizes-sized.ensures c.in_default-sized.is c.fresh.ensures
+    let a = c.args in
+    let p = problem_ok (read_record a.bytes.now) c.in_ok-problem.ensures in
+    let d = c.in_ok-read.ensures p.0 (read_Keeps a.bytes.now p.0 p.1 p.2) in
+    let e = c.in_ok-edition.ensures in
+    rw (c.fresh.ensures, c.number.ensures, e.1)
+    (open_fresh a.bytes.now a.edition a.sizes.now p.0 p.1 e.0 (sym (sizes_words p.0 a.sizes.now) ∙ d.1) p.2 d.2.0 d.2.1)

@@ -1,10 +1,14 @@
--- What holds at each turn of the loop of `groups_replay::rounds::kinds_in_rounds`, and what falls from turn to turn.
+-- What holds at each turn of the loop of `groups_replay::rounds::kinds_in_rounds`: after the first, what is computed of the board holds.
 -- Assumes nothing.
-use Prim.Native.Nat.{◌-◌}
+use Prim.Native.Nat.{ℕ, ◌*◌, ◌<◌}
+use mathlib.Core.List.{List}
+use lib.ListN.{take}
+use Rattle.grid.specs.Side.{sized}
+use Rattle.kinds.specs.Kinds.{view}
+use Rattle.kinds.specs.Inside.{puzzle_with, Given, Held}
 use Rattle.groups_replay.proofs.rounds.kinds_in_rounds.Given as goal
 
 abbrev pub invariant-loop-i : goal.invariant-loop-i
-invariant-loop-i l = Unit {0}
-
-abbrev pub decreases-loop-i : goal.decreases-loop-i
-decreases-loop-i l = l.rounds - l.i
+invariant-loop-i l =
+    0 < l._i → (arrows : List (List ℕ)) → Given (puzzle_with (sized l.h l.w) arrows) (take (l.h * l.w) l.cells) l.blocks l.arrowed
+    → Held (view (puzzle_with (sized l.h l.w) arrows) (take (l.h * l.w) l.cells)) l.kinds l.owners

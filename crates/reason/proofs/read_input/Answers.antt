@@ -1,8 +1,0 @@
--- `reason::read_input` meets its contract: the room that is filled has 8,193 places.
--- Assumes nothing.
-use native.Mathlib.Omega.{arith}
-use Rattle.text.proofs.ReadLaws.{read_known}
-use Rattle.reason.proofs.read_input.Goals as goal
-
-pub returns : goal.returns
-returns g c = read_known _ _ _ _ 8193 _ c.in_ok-n.ensures.read (omega (arith, c.told-room, c.in_ok-n.ensures.within)) (omega (arith, c.told-room))

@@ -1,0 +1,12 @@
+-- What holds at each turn of the loop of `record::Line::read_steps`.
+-- Assumes nothing.
+use Prim.Native.Nat.{◌+◌, ◌*◌, ◌<◌}
+use Rattle.grid.specs.Side.{sized}
+use Rattle.record.proofs.ArrowLaws.{StepsSoFar}
+use Rattle.record.proofs.Line.read_steps.Given as goal
+
+abbrev pub invariant-loop-i : goal.invariant-loop-i
+invariant-loop-i l =
+    (l.place.row < l.height)
+    × (l.place.col < l.width)
+    × StepsSoFar l.s (sized l.height l.width) l.initial.self (l.fn.from.row * l.width + l.fn.from.col) l.at l.steps l.i (l.place.row * l.width + l.place.col) l.self

@@ -1,9 +1,0 @@
--- `record::read_head` meets its contract: what is read of a record at the head of a file is the puzzle of that head.
--- Assumes nothing.
-use mathlib.Core.Path.{ap, ◌∙◌}
-use Rattle.record.specs.Problem.{reading}
-use Rattle.record.proofs.FieldsLaws.{head_as}
-use Rattle.record.proofs.read_head.Goals as goal
-
-pub returns : goal.returns
-returns c = c.read_as.ensures ∙ ap reading (head_as c.args.s.now)
