@@ -6,7 +6,7 @@ use mathlib.Core.Path.{◌≡◌, refl, sym, ap, ◌∙◌, subst}
 use mathlib.Core.List.{List, [], ◌∷◌, ◌++◌, map, Memᴰ}
 use lib.ListN.{length, drop}
 use lib.Seq.{take_at}
-use Rattle.std.specs.Prelude.{Ok, Err, IfOk, IfErr}
+use Rattle.std.specs.Prelude.{Ok, Err, IfOk}
 use Rattle.std.specs.declared.result.Result.{Result}
 use Rattle.grid.specs.Lists.{flat_map}
 use Rattle.record.specs.Record.{Outcome, refused}
@@ -48,13 +48,6 @@ few (refusal_of {k = suc k} m) = tt
 few (value_of nothing) = omega arith
 few (value_of (reason p q h)) = q
 
-small : {o : Outcome Found} → Possible (8 ∷ refusals) Printable o → IfErr (told_by (returned o)) (λ k. k < 10000)
-unfolding returned told_by
-small (refusal_of {k = zero} m) = tt
-small (refusal_of {k = suc k} m) = omega (arith, (refusal_small (suc k) m).1)
-small (value_of nothing) = tt
-small (value_of (reason p q h)) = tt
-
 -- a refusal that the program finds is not 0, so that its number reads back
 refusal_back : (k : ℕ) → Possible (8 ∷ refusals) Printable (refused k) → told_by (returned (refused k)) ≡ Err k
 unfolding returned told_by
@@ -90,10 +83,6 @@ module _ (input : List ℕ) {told : Result ℕ ℕ} (e : told ≡ told_by (retur
   count_small found h =
       let f : IfOk told (λ n. n ≤ 3073) = rw e (few (program_finds_lem input)) in
       roomy told found h f
-
-  -- a refusal's number is small
-  pub number_small : IfErr told (λ k. k < 10000)
-  number_small = rw e (small (program_finds_lem input))
 
   -- the text for them is what the program prints
   pub text_printed : (before after : List ℕ) → after ≡ output_after (program_finds input) before → told_text told after ≡ printed input

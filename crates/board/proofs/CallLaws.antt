@@ -21,8 +21,7 @@ use Rattle.record.specs.Record.{Puzzle, Outcome, ok, refused}
 use Rattle.record.specs.Leaf.{Leaf, leaf_of}
 use Rattle.record.specs.Sizes.{numbers_of, Words}
 use Rattle.record.specs.Write.{write_record}
-use Rattle.record.specs.Problem.{problem_of, puzzle_of, grid_of, number_of, blank}
-use Rattle.record.specs.declared.Answer.TheVariants.{Done}
+use Rattle.record.specs.Problem.{problem_of, puzzle_of, grid_of, number_of, blank, Done}
 use Rattle.record.proofs.RecordLaws.{Valid-size}
 use Rattle.record.proofs.LeafLaws.{ValidLeaf, leaf_ok, ok_leaf, leaf_valid}
 use Rattle.record.proofs.SizesLaws.{good_read}

@@ -11,9 +11,7 @@ use lib.Dec.{eqb, leb, ltb}
 use lib.ListN.{length, get_or}
 use lib.Seq.{get_or-set_same, get_or-set_other}
 use borrow.Author.Tests.{lt-leb}
-use Rattle.record.specs.Problem.{grid_of}
-use Rattle.record.specs.declared.Answer.{Answer}
-use Rattle.record.specs.declared.Answer.TheVariants.{Done, Refused}
+use Rattle.record.specs.Problem.{grid_of, Answer, Done, Refused}
 use Rattle.board.specs.declared.Board.{Board}
 use Rattle.board.specs.Answers.{Decided}
 use Rattle.board.specs.Kept.{sizes_on}

@@ -9,8 +9,7 @@ use lib.ListN.{length, get_or, drop}
 use borrow.Author.Tests.{eq-eqb, ne_eqb}
 use Rattle.grid.specs.Grid.{size}
 use Rattle.record.specs.Leaf.{Leaf}
-use Rattle.record.specs.Problem.{puzzle_of, grid_of}
-use Rattle.record.specs.declared.Answer.TheVariants.{Done}
+use Rattle.record.specs.Problem.{puzzle_of, grid_of, Done}
 use Rattle.record.proofs.LeafLaws.{ValidLeaf}
 use Rattle.board.specs.declared.Board.{Board}
 use Rattle.board.specs.Answers.{Decided}

@@ -8,3 +8,5 @@ pub mod Answers
 pub mod Fold
 pub mod OpenLaws
 pub mod Unchanged
+pub mod LentSizes
+pub mod BoardArrays

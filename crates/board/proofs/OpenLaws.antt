@@ -15,7 +15,8 @@ use Rattle.record.specs.declared.Problem.{Problem}
 use Rattle.record.proofs.RecordLaws.{record_Valid, Valid-size}
 use Rattle.record.proofs.LeafLaws.{ok_leaf, leaf_refused, leaf_16, leaf_sizes}
 use Rattle.sizes.specs.Kept.{lowest_of, highest_of}
-use Rattle.sizes.specs.Inside.{Keeps}
+use Rattle.sizes.specs.Inside.{Drawn}
+use Rattle.sizes.proofs.DrawnLaws.{problem_Drawn}
 use Rattle.board.specs.declared.Board.{Board}
 use Rattle.board.specs.Answers.{opened_as}
 use Rattle.board.specs.Board.{value_at, cells_after}
@@ -39,9 +40,9 @@ pub fresh_leaf : (l : Leaf) → size l.puzzle.grid ≤ 1024 → fresh_of (proble
 unfolding board_of
 fresh_leaf l h = rw (fresh_cells l.puzzle.grid h) (unfold array_of in refl)
 
--- the problem that was read keeps its puzzle
-pub read_Keeps : (s : List ℕ) (p : Puzzle) {q : Problem} → read_record s ≡ ok p → q ≡ problem_of p → Keeps p q
-read_Keeps s p r e = record { valid = record_Valid s r; is = e }
+-- the problem that was read has the arrows of its puzzle
+pub read_Drawn : (s : List ℕ) (p : Puzzle) {q : Problem} → read_record s ≡ ok p → q ≡ problem_of p → Drawn p q.arrows q.ends q.count
+read_Drawn s p r e = problem_Drawn (record_Valid s r) e
 
 module _ (s : List ℕ) (e : ℕ) (ns : List ℕ) where
   -- the record is refused

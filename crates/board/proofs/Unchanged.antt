@@ -7,9 +7,7 @@ use mathlib.Core.Bool.{Bool, true, false, cond}
 use mathlib.Core.List.{List}
 use Rattle.record.specs.Record.{Outcome, ok, refused}
 use Rattle.record.specs.Leaf.{Leaf, leaf_of}
-use Rattle.record.specs.Problem.{number_of}
-use Rattle.record.specs.declared.Answer.{Answer}
-use Rattle.record.specs.declared.Answer.TheVariants.{Done, Refused}
+use Rattle.record.specs.Problem.{number_of, Answer, Done, Refused}
 use Rattle.board.specs.declared.Board.{Board}
 use Rattle.board.specs.Answers.{Decided}
 use Rattle.board.specs.Kept.{opening, open_of}

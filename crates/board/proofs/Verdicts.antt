@@ -19,7 +19,8 @@ use Rattle.record.specs.Leaf.{is_edition}
 use Rattle.form.specs.Form.{long, problem_formed, stated, ordered}
 use Rattle.form.proofs.Verdicts.{decisions_formed}
 use Rattle.form.proofs.ProblemForm.{Formed-is, formed_Valid, formed_again}
-use Rattle.sizes.specs.Inside.{Keeps}
+use Rattle.sizes.specs.Inside.{Drawn}
+use Rattle.sizes.proofs.DrawnLaws.{problem_Drawn}
 use Rattle.sizes.specs.Form.{sized_cell, sizes_formed}
 use Rattle.board.specs.declared.Board.{Board}
 use Rattle.board.specs.Form.{Counts, counts_formed, sizes_good, well_formed}
@@ -49,11 +50,11 @@ module _ (b : Board) where
       go true false = refl
       go false t = refl
 
-  -- a problem that passes keeps its puzzle
-  pub board_Keeps : problem_formed b.problem ≡ true → Keeps (puzzle_of b.problem) b.problem
-  board_Keeps e =
+  -- a problem that passes has the arrows of its puzzle
+  pub board_Drawn : problem_formed b.problem ≡ true → Drawn (puzzle_of b.problem) b.problem.arrows b.problem.ends b.problem.count
+  board_Drawn e =
       let f = Formed-is b.problem e in
-      record { valid = formed_Valid b.problem f; is = sym (formed_again b.problem f) }
+      problem_Drawn (formed_Valid b.problem f) (sym (formed_again b.problem f))
 
   pub board_area : problem_formed b.problem ≡ true → b.problem.height * b.problem.width ≤ 1024
   unfolding grid_of size

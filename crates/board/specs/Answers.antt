@@ -1,8 +1,7 @@
 -- What open and the calls that change a board answer, as the definitions have it, and the same as an outcome.
 -- Assumes nothing.
 use Rattle.std.specs.Prelude.{⊤}
-use Rattle.record.specs.declared.Answer.{Answer}
-use Rattle.record.specs.declared.Answer.TheVariants.{Done, Refused}
+use Rattle.record.specs.Problem.{Answer, Done, Refused}
 use Rattle.refusal.specs.Refusals.{Outcome, ok, refused}
 use Rattle.board.specs.declared.Board.{Board}
 

@@ -5,8 +5,7 @@ use Rattle.grid.specs.Lists.{upto}
 use Rattle.record.specs.Record.{Puzzle, Bytes}
 use Rattle.record.specs.Leaf.{Leaf}
 use Rattle.record.specs.Sizes.{Words}
-use Rattle.record.specs.Problem.{number_of}
-use Rattle.record.specs.declared.Answer.TheVariants.{Done}
+use Rattle.record.specs.Problem.{number_of, Done}
 use Rattle.board.specs.declared.Board.{Board}
 use Rattle.grid.specs.Cells.{Literal}
 use Rattle.board.specs.Board.{Call, decide, undo, find, SameCells, SameDecisions, after_all, refusal, how_often}

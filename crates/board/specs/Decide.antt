@@ -2,9 +2,7 @@
 -- Assumes nothing.
 use Rattle.std.specs.Prelude.{ℕ, zero, suc, ◌+◌, ◌-◌, ◌*◌, ◌/◌, ◌%◌, cond, List, [], ◌∷◌, eqb, leb, ltb, get_or, set}
 use Rattle.grid.specs.Grid.{size}
-use Rattle.record.specs.Problem.{grid_of}
-use Rattle.record.specs.declared.Answer.{Answer}
-use Rattle.record.specs.declared.Answer.TheVariants.{Done, Refused}
+use Rattle.record.specs.Problem.{grid_of, Answer, Done, Refused}
 use Rattle.board.specs.declared.Board.{Board}
 use Rattle.board.specs.Answers.{Decided}
 use Rattle.board.specs.Form.{well_formed}

@@ -1,14 +1,15 @@
 -- What the inner steps of a list of decisions promise each other.
 -- Assumes nothing.
-use Rattle.std.specs.Prelude.{ℕ, ◌/◌, ◌%◌, ◌≤◌, ◌<◌, true, ◌≡◌, ⊤, List, get_or, set, replicate, Ok, Err}
+use Rattle.std.specs.Prelude.{ℕ, ◌/◌, ◌%◌, ◌≤◌, ◌<◌, true, ◌≡◌, ⊤, cond, List, get_or, set, replicate, Ok, Err}
 use Rattle.std.specs.declared.result.Result.{Result}
 use Rattle.grid.specs.Grid.{size}
 use Rattle.record.specs.Problem.{grid_of}
 use Rattle.record.specs.declared.Problem.{Problem}
-use Rattle.record.specs.declared.Answer.TheVariants.{Done, Refused}
+use Rattle.record.specs.Problem.{Done, Refused}
 use Rattle.refusal.specs.Refusals.{number_of}
 use Rattle.refusal.specs.declared.Refusal.{Refusal}
 use Rattle.refusal.specs.declared.Refusal.TheVariants.{Decision, Index, Decided}
+use Rattle.form.specs.Form.{behind}
 use Rattle.board.specs.declared.Board.{Board}
 use Rattle.board.specs.Answers as answers
 use Rattle.board.specs.Kept.{no_hints}
@@ -37,3 +38,7 @@ pub record Held (n decided : ℕ) (cells order : List ℕ) : Type 0 where
   pub board : Board
   pub area : size (grid_of board.problem) ≡ n
   pub well : well_formed (with_decisions board cells order decided) ≡ true
+
+-- how many of n cells are lent with their sizes: none where no cell has a lowest size
+unfoldable pub lent_sizes : List ℕ → ℕ → ℕ
+lent_sizes lows n = cond (behind 0 0 lows) 0 n

@@ -6,8 +6,7 @@ use Rattle.grid.specs.Lists.{array_of}
 use Rattle.record.specs.Record.{Outcome, ok, refused}
 use Rattle.record.specs.Leaf.{Range, Leaf, leaf_with, leaf_of}
 use Rattle.record.specs.Sizes.{kept_ranges}
-use Rattle.record.specs.Problem.{problem_of, puzzle_of, grid_of, blank}
-use Rattle.record.specs.declared.Answer.TheVariants.{Done, Refused}
+use Rattle.record.specs.Problem.{problem_of, puzzle_of, grid_of, blank, Done, Refused}
 use Rattle.sizes.specs.Kept.{lowest_of, highest_of}
 use Rattle.board.specs.declared.Board.{Board}
 use Rattle.board.specs.Answers.{Opened}

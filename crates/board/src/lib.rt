@@ -2,26 +2,29 @@
 // opened from a record; decide adds a decision, undo removes the latest.
 #![tactic(auto)]
 
-ghost use Rattle.std.specs.Prelude.{◌≡◌, true, ℕ, ◌≤◌, ◌<◌, get_or};
+ghost use Rattle.std.specs.Prelude.{◌≡◌, true, false, ℕ, ◌≤◌, ◌<◌, get_or, IfOk, IfErr};
 ghost use Rattle.grid.specs.Grid.{size};
 ghost use Rattle.record.specs.Problem.{grid_of};
 ghost use Rattle.refusal.specs.Refusals.{outcome_of};
 ghost use Rattle.board.specs.Answers.{opened_as, decided_as};
-ghost use Rattle.board.specs.Kept.{open_of};
+ghost use Rattle.board.specs.Kept.{open_of, leaf_on};
+ghost use Rattle.sizes.specs.LeafOf.{leaf_of};
+ghost use Rattle.refusal.specs.declared.Refusal.TheVariants as refusals;
 ghost use Rattle.board.specs.Form.{well_formed};
 ghost use Rattle.board.specs.Decide.{with_decisions, decide_of, undo_of, decide_all_of, placed_from};
 ghost use Rattle.board.specs.Hints.{raised};
-ghost use Rattle.board.specs.Inside.{Placing, Stands, fresh_of, Held};
+ghost use Rattle.board.specs.Inside.{Placing, Stands, fresh_of, Held, lent_sizes};
 
+use grid::UNDECIDED;
 use record::Problem;
 use refusal::Refusal;
-use sizes::{Edition, Words};
+use sizes::{Edition, LentLeaf, Words};
 
 // A problem with its decisions. `edition` is 1, or 2 for free growth; `cells` has the state of each cell (0 empty, 1 square, 2 undecided), with 2 behind the grid;
 // `order` has the decided cells in the order decided, `decided` of them, with 0 behind; `hints` counts for each player, 0 to 3, that
 // player's accepted finds since open, up to 65,535; `lowest` and `highest` have the ends of the range beside each cell, with 0 at a cell that has none.
 #[repr(C)]
-#[derive(Clone, Copy)]
+#[derive(Clone, Copy, Debug, PartialEq, Eq)]
 pub struct Board {
     pub problem: Problem,
     pub edition: u8,
@@ -55,7 +58,7 @@ fn place(
     if n <= index {
         return Err(Refusal::Index);
     }
-    if cells[index] != 2 {
+    if cells[index] != UNDECIDED {
         return Err(Refusal::Decided);
     }
     cells[index] = (word / 32768) as u8;
@@ -72,7 +75,7 @@ pub fn place_all(
     decided: &mut usize,
     bytes: &[u8],
 ) -> Result<(), Refusal>
-    requires { Held n decided.old cells.old order.old }
+    requires given { Held n decided.old cells.old order.old }
     ensures { (b : Board) → size (grid_of b.problem) ≡ n → well_formed (with_decisions b cells.old order.old decided.old) ≡ true
         → Stands b cells.new order.new decided.new (placed_from (with_decisions b cells.old order.old decided.old) bytes.now) result }
 {
@@ -102,6 +105,16 @@ fn fresh(problem: Problem, edition: u8, lowest: [u16; 1024], highest: [u16; 1024
         lowest,
         highest,
     }
+}
+
+// How many of n cells are lent with their sizes: none on a leaf without sizes, which then pays for none.
+fn lent_sizes(lowest: &[u16; 1024], n: usize) -> usize
+    ensures { (result ≡ lent_sizes lowest.now n) × (result ≤ n) }
+{
+    if form::zeros(lowest, 0) {
+        return 0;
+    }
+    n
 }
 
 // A count of hints after one more; at 65,535 it stops rising.
@@ -163,6 +176,25 @@ impl Board {
         self.is_formed()
     }
 
+    // The leaf that the board is played on, lent with its sizes: what the search for a reason reads, but the states of the cells. A leaf without sizes lends
+    // none. Refused: 6 a board that no list of calls could leave.
+    #[tactic(auto, using(crate::proofs::BoardArrays::board_most))]
+    pub fn leaf(&self) -> Result<LentLeaf<'_>, Refusal>
+        ensures lent { IfOk result (λ leaf. (well_formed self.now ≡ true) × (leaf_of leaf ≡ leaf_on self.now) × (leaf.problem.now ≡ self.now.problem)) }
+        ensures refused { IfErr result (λ r. (well_formed self.now ≡ false) × (r ≡ refusals.Board)) }
+    {
+        if !self.is_formed() {
+            return Err(Refusal::Board);
+        }
+        let n = lent_sizes(&self.lowest, self.problem.height * self.problem.width);
+        Ok(LentLeaf {
+            problem: &self.problem,
+            edition: self.edition,
+            lowest: &self.lowest[..n],
+            highest: &self.highest[..n],
+        })
+    }
+
     // Adds a standing decision. Refused: 6 a board that no list of calls could leave, 7 an index off the grid, 8 a value above 1,
     // 9 a cell that is decided already.
     #[tactic(auto, using(crate::proofs::Answers::decide_6, crate::proofs::Answers::decide_7, crate::proofs::Answers::decide_8, crate::proofs::Answers::decide_9, crate::proofs::Answers::decide_done, crate::proofs::BoardForm::formed_area, crate::proofs::BoardForm::formed_room), unfolding(crate::specs::Decide::area, crate::specs::Decide::placed, grid::specs::Grid::size, record::specs::Problem::grid_of))]
@@ -178,7 +210,7 @@ impl Board {
         if 1 < value {
             return Err(Refusal::Value);
         }
-        if self.cells[index] != 2 {
+        if self.cells[index] != UNDECIDED {
             return Err(Refusal::Decided);
         }
         let mut next = self;
@@ -201,7 +233,7 @@ impl Board {
         }
         let last = self.decided - 1;
         let mut next = self;
-        next.cells[usize::from(self.order[last])] = 2;
+        next.cells[usize::from(self.order[last])] = UNDECIDED;
         next.order[last] = 0;
         next.decided = last;
         Ok(next)

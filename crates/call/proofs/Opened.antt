@@ -12,27 +12,23 @@ use Rattle.record.specs.Leaf.{Range, Leaf, leaf_with, in_edition, is_edition, ra
 use Rattle.record.proofs.LeafLaws.{ValidLeaf, ok_leaf, leaf_valid}
 use Rattle.sizes.specs.Bytes.{numbers_in, sizes_in}
 use Rattle.call.specs.Call.{leaf_from}
-use Rattle.call.specs.Inside.{with_sizes}
+use Rattle.call.specs.Inside.{leaf_in}
 
-module _ {A : Type 0} (F : Leaf → Outcome A) (s : List ℕ) (e : ℕ) (sizes : List ℕ) where
+module _ (s : List ℕ) (e : ℕ) (sizes : List ℕ) where
   -- a refused record
-  pub with_unread : {k : ℕ} → read_record s ≡ refused k → (leaf_from s e sizes >>= F) ≡ refused k
+  pub with_unread : {k : ℕ} → read_record s ≡ refused k → leaf_from s e sizes ≡ refused k
   unfolding leaf_from ◌>>=◌
   with_unread r = rw r refl
 
   -- an edition that is not 1 or 2
-  pub with_16 : {p : Puzzle} → read_record s ≡ ok p → is_edition e ≡ false → (leaf_from s e sizes >>= F) ≡ refused 16
+  pub with_16 : {p : Puzzle} → read_record s ≡ ok p → is_edition e ≡ false → leaf_from s e sizes ≡ refused 16
   unfolding leaf_from ◌>>=◌ unless
   with_16 r h = rw (r, h) refl
 
   -- the sizes come next
-  pub with_sizes_lem : {p : Puzzle} → read_record s ≡ ok p → is_edition e ≡ true → (leaf_from s e sizes >>= F) ≡ with_sizes F e sizes p
+  pub with_sizes_lem : {p : Puzzle} → read_record s ≡ ok p → is_edition e ≡ true → leaf_from s e sizes ≡ leaf_in e sizes p
   unfolding leaf_from ◌>>=◌ unless
-  with_sizes_lem {p} r h = rw (r, h) (go (sizes_in p sizes))
-    where
-      go : (o : Outcome (List Range)) → ((o >>= λ rs. ok (leaf_with e rs p)) >>= F) ≡ (o >>= λ rs. F (leaf_with e rs p))
-      go (refused k) = refl
-      go (ok rs) = refl
+  with_sizes_lem r h = rw (r, h) refl
 
 -- an empty list has no sizes
 pub no_bytes : (p : Puzzle) (sizes : List ℕ) → length sizes ≡ 0 → sizes_in p sizes ≡ ok []
@@ -40,11 +36,20 @@ unfolding sizes_in numbers_in sizes_of ranges_from ◌>>=◌
 no_bytes p [] h = refl
 no_bytes p (x ∷ l) h = absurd (omega arith)
 
-module _ {A : Type 0} (F : Leaf → Outcome A) where
-  pub sizes_none : (e : ℕ) (sizes : List ℕ) (p : Puzzle) → length sizes ≡ 0 → with_sizes F e sizes p ≡ F (in_edition e p)
-  unfolding ◌>>=◌
-  sizes_none e sizes p h = rw (no_bytes p sizes h) refl
+pub sizes_none : (e : ℕ) (sizes : List ℕ) (p : Puzzle) → length sizes ≡ 0 → leaf_in e sizes p ≡ ok (in_edition e p)
+unfolding ◌>>=◌
+sizes_none e sizes p h = rw (no_bytes p sizes h) refl
 
+-- sizes that are refused, or read
+pub sizes_refused : (e : ℕ) (sizes : List ℕ) (p : Puzzle) {k : ℕ} → sizes_in p sizes ≡ refused k → leaf_in e sizes p ≡ refused k
+unfolding ◌>>=◌
+sizes_refused e sizes p h = rw h refl
+
+pub sizes_ok : (e : ℕ) (sizes : List ℕ) (p : Puzzle) {rs : List Range} → sizes_in p sizes ≡ ok rs → leaf_in e sizes p ≡ ok (leaf_with e rs p)
+unfolding ◌>>=◌
+sizes_ok e sizes p h = rw h refl
+
+module _ {A : Type 0} (F : Leaf → Outcome A) where
   -- so a leaf in edition 1 without sizes is that of its record
   pub with_none : (s : List ℕ) → (leaf_from s 1 [] >>= F) ≡ (read_record s >>= λ p. F (in_edition 1 p))
   unfolding leaf_from sizes_in numbers_in sizes_of ranges_from is_edition unless ◌>>=◌

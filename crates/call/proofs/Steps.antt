@@ -4,23 +4,22 @@ use Prim.Native.Nat.{ℕ, zero, suc, ◌+◌, ◌*◌, ◌/◌, ◌%◌, ◌≤�
 use native.Mathlib.Omega.{arith}
 use mathlib.Core.Path.{◌≡◌, refl, sym, ap, ◌∙◌}
 use mathlib.Core.Bool.{Bool, true, false, cond}
-use mathlib.Core.List.{List, [], ◌∷◌}
+use mathlib.Core.List.Memᴰ
+use mathlib.Core.List.{List, [], ◌∷◌, Memᴰ}
 use lib.Dec.{eqb}
-use lib.ListN.{take}
+use lib.ListN.{take, replicate, length-replicate}
 use borrow.Author.Tests.{le-leb, lt-leb}
 use Rattle.grid.specs.Grid.{Grid, size}
 use Rattle.grid.specs.Cells.{Literal}
 use Rattle.grid.specs.Lists.{array_of}
 use Rattle.grid.proofs.ArrayLaws.{array_take}
 use Rattle.record.specs.Record.{Outcome, ok, refused, Puzzle, read_record, ◌>>=◌, unless}
-use Rattle.record.specs.Problem.{problem_of, read_of}
-use Rattle.record.specs.Valid.{Valid}
+use Rattle.record.specs.Problem.{problem_of, as_problem}
+use Rattle.record.specs.Valid.{Valid, Arrows}
 use Rattle.record.specs.Leaf.{Leaf, in_edition, is_edition}
 use Rattle.record.specs.declared.Problem.{Problem}
-use Rattle.record.specs.declared.Reading.{Reading}
-use Rattle.record.specs.declared.Answer.{Answer}
-use Rattle.record.specs.declared.Answer.TheVariants.{Done, Refused}
-use Rattle.record.proofs.ProblemLaws.{read_done}
+use Rattle.record.specs.Problem.{Answer, Done, Refused}
+use Rattle.record.proofs.ProblemLaws.{problem_ok}
 use Rattle.record.proofs.RecordLaws.{record_Valid, Valid-size}
 use Rattle.record.proofs.LeafLaws.{ValidLeaf, no_sizes}
 use Rattle.sizes.specs.Kept.{lowest_of, highest_of}
@@ -35,12 +34,13 @@ use Rattle.board.specs.Inside.{Stands, whole, part}
 use Rattle.refusal.specs.Refusals as refusals
 use Rattle.refusal.specs.declared.Refusal.{Refusal}
 use Rattle.std.specs.Prelude.{Ok, Err}
+use Rattle.std.specs.declared.result.Result.{Result}
+use Rattle.fields.specs.Inside.{Agrees}
 use Rattle.board.proofs.HintLaws.{no_hints_lem}
 use Rattle.board.proofs.OpenLaws.{fresh_leaf}
 use Rattle.board.proofs.Standing.{Standing, none, after-Standing, cells_valid}
 use Rattle.board.proofs.CallLaws.{Standing-well, decide_number, decide_left}
 use Rattle.call.specs.Call.{accept_or, decide_bytes, call_on, host_call, host_call_with}
-use Rattle.call.specs.Inside.{Decides}
 use Rattle.call.proofs.Opened.{with_none}
 
 -- the board's answer to a list of decisions, by the machine's
@@ -92,6 +92,14 @@ bytes_Standing g (a ∷ b ∷ rest) {ds} {es} s e =
         accepted (refusal g (decide i x) ds) (decide_bytes g (after g (decide i x) ds) rest)
         (next (after g (decide i x) ds) (after-Standing g (decide i x) s)) q
 
+-- what stands in the arrays, by the answer of `place_all`
+pub stands_whole : {b : Board} {cells order : List ℕ} {d : Decided} {n : ℕ} → Stands b cells order n d (Ok tt) → d ≡ record { answer = Done; board = with_decisions b cells order n }
+stands_whole whole = refl
+
+pub stands_part : {b : Board} {cells order : List ℕ} {d : Decided} {n : ℕ} {r : Refusal} → Stands b cells order n d (Err r)
+    → d ≡ record { answer = Refused (refusals.number_of r); board = with_decisions b cells order n }
+stands_part part = refl
+
 -- ---- the fresh board of an accepted leaf
 
 module _ (l : Leaf) (v : ValidLeaf l) {b : Board} (fresh : b ≡ board_of l [] no_hints) where
@@ -104,20 +112,22 @@ module _ (l : Leaf) (v : ValidLeaf l) {b : Board} (fresh : b ≡ board_of l [] n
   all_decided decisions = rw fresh (decided_bytes l v (board_of l [] no_hints) decisions none)
 
   -- what placing all decisions answers, and the states that it leaves
-  module _ (decisions : List ℕ) (a : Answer) (cells order : List ℕ) (n : ℕ) (e : placed_from b decisions ≡ record { answer = a; board = with_decisions b cells order n }) where
-    answered_as : {x : Answer} → a ≡ x → all_placed b (record { answer = x; board = with_decisions b cells order n }) ≡ decided_by b l (decide_bytes l.puzzle.grid [] decisions)
-    answered_as f = sym (ap (λ (x : Answer). all_placed b (record { answer = x; board = with_decisions b cells order n })) f) ∙ sym (ap (all_placed b) e) ∙ all_decided decisions
+  module _ (decisions cells order : List ℕ) (n : ℕ) where
+    answered_as : {x : Answer} → placed_from b decisions ≡ record { answer = x; board = with_decisions b cells order n }
+        → all_placed b (record { answer = x; board = with_decisions b cells order n }) ≡ decided_by b l (decide_bytes l.puzzle.grid [] decisions)
+    answered_as e = sym (ap (all_placed b) e) ∙ all_decided decisions
 
-    pub decides : Decides l.puzzle.grid decisions a cells
+    pub decides : (r : Result Unit Refusal) → Stands b cells order n (placed_from b decisions) r → Agrees (decide_bytes l.puzzle.grid [] decisions) (λ ds _. cells ≡ array_of 2 (cells_after l.puzzle.grid ds)) r
     unfolding onward decided_by refused_with board_of
-    decides = record { done = λ f. accepted (decide_bytes l.puzzle.grid [] decisions) refl (answered_as f); refusal = λ f. not_accepted (decide_bytes l.puzzle.grid [] decisions) (answered_as f) }
+    decides (Ok u) s = accepted (decide_bytes l.puzzle.grid [] decisions) refl (answered_as (stands_whole s))
       where
-        accepted : (r : Outcome (List Literal)) → decide_bytes l.puzzle.grid [] decisions ≡ r → ◌≡◌ {A = Decided} (record { answer = Done; board = with_decisions b cells order n }) (decided_by b l r)
+        accepted : (o : Outcome (List Literal)) → decide_bytes l.puzzle.grid [] decisions ≡ o → ◌≡◌ {A = Decided} (record { answer = Done; board = with_decisions b cells order n }) (decided_by b l o)
             → (ds : List Literal) × (decide_bytes l.puzzle.grid [] decisions ≡ ok ds) × (cells ≡ array_of 2 (cells_after l.puzzle.grid ds))
         accepted (refused m) q g = let a = ap (λ (d : Decided). d.answer) g in let z : ◌≡◌ {A = ℕ} 0 1 = cc in absurd (omega arith)
         accepted (ok ds) q g = (ds, q, ap (λ (d : Decided). d.board.cells) g)
-
-        not_accepted : {k : ℕ} (r : Outcome (List Literal)) → refused_with k b ≡ decided_by b l r → r ≡ refused k
+    decides (Err e) s = not_accepted (decide_bytes l.puzzle.grid [] decisions) (answered_as (stands_part s))
+      where
+        not_accepted : {k : ℕ} (o : Outcome (List Literal)) → refused_with k b ≡ decided_by b l o → o ≡ refused k
         not_accepted {k} (refused m) g = let a = ap (λ (d : Decided). d.answer) g in let z : m ≡ k = cc in ap refused z
         not_accepted (ok ds) g = let a = ap (λ (d : Decided). d.answer) g in let z : ◌≡◌ {A = ℕ} 0 1 = cc in absurd (omega arith)
 
@@ -131,13 +141,19 @@ module _ (p : Puzzle) (v : Valid p) where
   pub fresh_first : fresh_of (problem_of p) 1 (lowest_of []) (highest_of []) ≡ board_of (in_edition 1 p) [] no_hints
   fresh_first = fresh_leaf (in_edition 1 p) (Valid-size v)
 
--- what stands in the arrays, by the answer of `place_all`
-pub stands_whole : {b : Board} {cells order : List ℕ} {d : Decided} {n : ℕ} → Stands b cells order n d (Ok tt) → d ≡ record { answer = Done; board = with_decisions b cells order n }
-stands_whole whole = refl
+-- the puzzle of a grid alone: no cell is black or given square, and there are no arrows
+unfoldable pub plain : Grid → Puzzle
+plain g = record { grid = g; given = replicate (size g) 0; arrows = [] }
 
-pub stands_part : {b : Board} {cells order : List ℕ} {d : Decided} {n : ℕ} {r : Refusal} → Stands b cells order n d (Err r)
-    → d ≡ record { answer = Refused (refusals.number_of r); board = with_decisions b cells order n }
-stands_part part = refl
+-- it is a valid one
+pub plain_Valid : (g : Grid) → (0 < g.height) × (0 < g.width) → (g.height ≤ 32) × (g.width ≤ 32) → Valid (plain g)
+unfolding plain
+plain_Valid g low high = record { low = low; high = high; total = length-replicate (size g) 0; codes = λ c m. zeros (size g) m; arrows = Arrows.nil }
+  where
+    zeros : (n : ℕ) {c : ℕ} → Memᴰ c (replicate n 0) → c < 3
+    zeros zero m = absurd (Memᴰ.not-nil m)
+    zeros (suc n) (Memᴰ.head e) = omega (arith, e)
+    zeros (suc n) (Memᴰ.tail m) = zeros n m
 
 -- ---- the arrays of an accepted record
 
@@ -145,15 +161,21 @@ stands_part part = refl
 pub states_taken : {g : Grid} {ds : List Literal} → Standing g ds → take (size g) (array_of 2 (cells_after g ds)) ≡ cells_after g ds
 states_taken {g} {ds} t = rw (← (cells_valid t).long) (array_take 2 (cells_after g ds))
 
+-- decisions that are accepted on the fresh board of a leaf, and the states of its cells that they leave
+pub record Made (l : Leaf) (decisions cells : List ℕ) : Type 0 where
+  pub made : List Literal
+  pub accepted : decide_bytes l.puzzle.grid [] decisions ≡ ok made
+  pub left : take (size l.puzzle.grid) cells ≡ cells_after l.puzzle.grid made
+
 -- the record s is accepted, and the problem is its puzzle's
 pub record Reads (s : List ℕ) (q : Problem) : Type 0 where
   pub puzzle : Puzzle
   pub reads : read_record s ≡ ok puzzle
   pub is : q ≡ problem_of puzzle
 
-pub Reads-done : (s : List ℕ) (r : Reading) → r ≡ read_of s → r.answer ≡ Done → Reads s r.problem
-Reads-done s r e d =
-    let p = read_done s r e d in
+pub Reads-ok : (s : List ℕ) {q : Problem} → ok q ≡ as_problem (read_record s) → Reads s q
+Reads-ok s e =
+    let p = problem_ok (read_record s) e in
     record { puzzle = p.0; reads = p.1; is = p.2 }
 
 pub Reads-Valid : {s : List ℕ} {q : Problem} (r : Reads s q) → Valid r.puzzle
@@ -172,19 +194,16 @@ module _ {A : Type 0} (need : Grid → ℕ) (says : Leaf → List Literal → A)
   unfolding ◌>>=◌ unless
   call_long h = rw (le-leb (need l.puzzle.grid) n h) refl
 
-  -- what deciding in order answers, and the states that it leaves
-  module _ {a : Answer} {cells : List ℕ} (d : Decides l.puzzle.grid decisions a cells) (h : need l.puzzle.grid ≤ n) where
+  module _ (h : need l.puzzle.grid ≤ n) where
     -- a decision is refused
-    pub call_refused : {k : ℕ} → a ≡ Refused k → call_on need says decisions n l ≡ refused k
+    pub call_refused : {k : ℕ} → decide_bytes l.puzzle.grid [] decisions ≡ refused k → call_on need says decisions n l ≡ refused k
     unfolding ◌>>=◌
-    call_refused f = call_long h ∙ rw (d.refusal f) refl
+    call_refused f = call_long h ∙ rw f refl
 
     -- all are accepted: the call says what it says of the states that are left
-    pub call_done : a ≡ Done → (x : A) → ((ds : List Literal) → Standing l.puzzle.grid ds → cells ≡ array_of 2 (cells_after l.puzzle.grid ds) → says l ds ≡ x) → call_on need says decisions n l ≡ ok x
+    pub call_done : {ds : List Literal} → decide_bytes l.puzzle.grid [] decisions ≡ ok ds → call_on need says decisions n l ≡ ok (says l ds)
     unfolding ◌>>=◌
-    call_done f x said =
-        let y = d.done f in
-        call_long h ∙ rw y.1 (ap ok (said y.0 (bytes_Standing l.puzzle.grid decisions none y.1) y.2))
+    call_done f = call_long h ∙ rw f refl
 
 -- a call without edition and sizes opens in edition 1 and has none
 pub call_plain : {A : Type 0} (need : Grid → ℕ) (says : Leaf → List Literal → A) (s decisions : List ℕ) (n : ℕ)

@@ -5,13 +5,10 @@ ghost use Rattle.std.specs.Prelude.{◌≤◌, true, ◌≡◌};
 use super::boards;
 use super::boards::Left;
 use board::Board;
-use certain::{Certainty, Facts};
-use finds::{Made, Way};
-use finished::Verdict;
+use finds::{Find, Literals, Way};
 use record::Problem;
 use refusal::Refusal;
 use replay::Tally;
-use shades::Shaded;
 
 // How many damages there are.
 const DAMAGES: usize = 41;
@@ -22,92 +19,52 @@ const TO_PROBLEM: usize = 20;
 // How many are to the sizes.
 const TO_SIZES: usize = 6;
 
-// Whether a call by value is not refused with 6.
-fn decided(answer: Result<Board, Refusal>) -> bool {
-    match answer {
-        Ok(_) => true,
-        Err(refusal) => refusal.number() != 6,
-    }
+// Whether a call is not refused with 6.
+fn taken<T: Copy>(answer: Result<T, Refusal>) -> bool {
+    !matches!(answer, Err(Refusal::Board))
 }
 
-// Whether an answer is not refusal 6 with the board b unchanged.
-fn taken(left: Left, b: Board) -> bool {
-    let board = left.board;
-    boards::answer_differs(left.answer, 6) || boards::boards_differ(board, b)
+// Whether a call on a lent board is not refused with 6, or does not leave it as b.
+fn changed(left: Left, b: Board) -> bool {
+    taken(left.answer) || left.board != b
 }
 
-// Whether a find differs from refusal 6 with its buffer unchanged, or the board b is not unchanged.
-fn found(m: Made, b: Board) -> bool {
-    let board = m.board;
-    m.differs || boards::boards_differ(board, b)
+// Whether a find of the player on the board, made in this way, is not refused with 6, or changes the board or the lent buffer.
+fn asked_so(b: Board, find: Find, way: Way) -> bool {
+    let literals = Literals {
+        list: b"",
+        at: 0,
+        count: 0,
+    };
+    let made = finds::find_differs(b, find, way, 6, literals);
+    made.differs || made.board != b
 }
 
-// Whether a verdict is not refusal 6.
-fn judged(verdict: Verdict) -> bool {
-    !matches!(verdict, Verdict::Refused(6))
-}
-
-// Whether what is told of certain cells is not refusal 6.
-fn told(facts: Facts) -> bool {
-    let answer = facts.answer;
-    !matches!(answer, Certainty::Refused(6))
-}
-
-// Whether shades are not refusal 6.
-fn shaded(shaded: Shaded) -> bool {
-    let answer = shaded.answer;
-    replay::number(answer) != 6
-}
-
-// Whether a find of the player on the board is not refused with 6, or changes the board or the lent buffer.
+// Whether it is so by value or on a lent board.
 fn asked(b: Board, player: u8, size: usize) -> bool
     requires { size ≤ 4096 }
 {
-    found(
-        finds::find_differs(b"", 0, 0, b, player, size, 6, Way::Value(1)),
-        b,
-    ) || found(
-        finds::find_differs(b"", 0, 0, b, player, size, 6, Way::Lent),
-        b,
-    )
+    let find = Find { player, size };
+    asked_so(b, find, Way::Value(1)) || asked_so(b, find, Way::Lent)
 }
 
 // Whether some call on the board is not refused with 6, or changes the board or a lent buffer. Finds of a player above 3 are among them, and
 // finds whose buffer is too short: 6 comes before 17 and before 11.
 fn accepted(b: Board) -> bool {
-    decided(b.decide(1, 1))
-        || decided(b.undo())
-        || taken(boards::decide_lent(b, 1, 1), b)
-        || taken(boards::undo_lent(b), b)
-        || decided(b.decide_all(b""))
-        || decided(b.decide_all(b"\x80\x01"))
+    taken(b.decide(1, 1))
+        || taken(b.undo())
+        || changed(boards::on_lent(b, |lent| lent::decide_in(lent, 1, 1)), b)
+        || changed(boards::on_lent(b, lent::undo_in), b)
+        || taken(b.decide_all(b""))
+        || taken(b.decide_all(b"\x80\x01"))
         || asked(b, 0, 4096)
         || asked(b, 3, 0)
         || asked(b, 4, 4096)
         || asked(b, 255, 0)
-        || judged(finished::finished(b))
-        || told(certain::certain(b, 0))
-        || told(certain::certain(b, 1000))
-        || shaded(shades::shades(b))
-}
-
-// The board with another problem.
-fn with_problem(b: Board, problem: Problem) -> Board {
-    let cells = b.cells;
-    let order = b.order;
-    let hints = b.hints;
-    let lowest = b.lowest;
-    let highest = b.highest;
-    Board {
-        problem,
-        edition: b.edition,
-        cells,
-        order,
-        decided: b.decided,
-        hints,
-        lowest,
-        highest,
-    }
+        || taken(finished::finished(b))
+        || taken(certain::certain(b, 0))
+        || taken(certain::certain(b, 1000))
+        || taken(shades::shades(b))
 }
 
 // The damages stay matches on their numbers: each is one to be tried by itself, and an enum of forty-one names would only repeat them.
@@ -193,8 +150,10 @@ fn damaged_sizes(board: Board, k: usize) -> Board {
 // The k-th damaged board.
 fn damaged(b: Board, k: usize) -> Board {
     if k < TO_PROBLEM {
-        let q = b.problem;
-        return with_problem(b, damaged_problem(q, k));
+        return Board {
+            problem: damaged_problem(b.problem, k),
+            ..b
+        };
     }
     let rest = k - TO_PROBLEM;
     if rest < TO_SIZES {

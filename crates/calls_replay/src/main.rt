@@ -17,7 +17,7 @@ ghost use Rattle.std.specs.Prelude.{◌≤◌, ◌<◌, length};
 
 use board::Board;
 use boards::Left;
-use finds::{Made, Way};
+use finds::{Find, Literals, Way};
 use refusal::Refusal;
 use replay::{Cursor, Entries, Report, Run};
 use std::io;
@@ -42,8 +42,8 @@ fn answered(b: Board, d: Left, l: Left, expected: usize, end: usize) -> Step {
         board,
         differs: boards::answer_differs(d.answer, expected)
             || boards::answer_differs(l.answer, expected)
-            || boards::boards_differ(lent, board)
-            || expected != 0 && boards::boards_differ(board, b),
+            || lent != board
+            || expected != 0 && board != b,
         end: Some(end),
     }
 }
@@ -69,7 +69,7 @@ fn make_decide(list: &[u8], at: usize, b: Board) -> Step
     answered(
         b,
         boards::after_call(b, b.decide(index, value)),
-        boards::decide_lent(b, index, value),
+        boards::on_lent(b, |lent| lent::decide_in(lent, index, value)),
         usize::from(list[at + 4]),
         at + 5,
     )
@@ -85,22 +85,22 @@ fn make_undo(list: &[u8], at: usize, b: Board) -> Step
     answered(
         b,
         boards::after_call(b, b.undo()),
-        boards::undo_lent(b),
+        boards::on_lent(b, lent::undo_in),
         usize::from(list[at + 1]),
         at + 2,
     )
 }
 
-// The step of a find on the board b, made by value as m and on a lent board as l. A refused one leaves the board as it was.
-fn found(b: Board, m: Made, l: Made, expected: usize, end: usize) -> Step {
+// The step of a find on the board b, made by value and on a lent board, of which the list says this refusal, or, where that is 0, these literals. A
+// refused one leaves the board as it was.
+fn found(b: Board, find: Find, refusal: usize, literals: Literals<'_>, end: usize) -> Step {
+    let m = finds::find_differs(b, find, Way::Value(1), refusal, literals);
+    let l = finds::find_differs(b, find, Way::Lent, refusal, literals);
     let board = m.board;
     let lent = l.board;
     Step {
         board,
-        differs: m.differs
-            || l.differs
-            || boards::boards_differ(lent, board)
-            || expected != 0 && boards::boards_differ(board, b),
+        differs: m.differs || l.differs || lent != board || refusal != 0 && board != b,
         end: Some(end),
     }
 }
@@ -117,28 +117,19 @@ fn make_find(list: &[u8], at: usize, b: Board) -> Step
     if 4096 < size {
         return broken(b);
     }
+    let find = Find { player, size };
     let refusal = usize::from(list[at + 4]);
+    let at = at + 5;
     if refusal != 0 {
-        return found(
-            b,
-            finds::find_differs(list, at + 5, 0, b, player, size, refusal, Way::Value(1)),
-            finds::find_differs(list, at + 5, 0, b, player, size, refusal, Way::Lent),
-            refusal,
-            at + 5,
-        );
+        return found(b, find, refusal, Literals { list, at, count: 0 }, at);
     }
-    let count = replay::number_at(list, at + 5);
-    let end = at + 7 + 2 * count;
+    let count = replay::number_at(list, at);
+    let at = at + 2;
+    let end = at + 2 * count;
     if list.len() < end {
         return broken(b);
     }
-    found(
-        b,
-        finds::find_differs(list, at + 7, count, b, player, size, 0, Way::Value(1)),
-        finds::find_differs(list, at + 7, count, b, player, size, 0, Way::Lent),
-        0,
-        end,
-    )
+    found(b, find, 0, Literals { list, at, count }, end)
 }
 
 // Compares the cells at `at`.
@@ -149,7 +140,7 @@ fn compare_cells(list: &[u8], at: usize, b: Board) -> Step
     let cells = b.cells;
     Step {
         board: b,
-        differs: replay::cells_differ(list, at + 1, n, &cells, 2),
+        differs: replay::cells_differ(list, at + 1, n, &cells, grid::UNDECIDED),
         end: Some(at + 1 + n),
     }
 }

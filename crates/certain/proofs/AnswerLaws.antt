@@ -30,8 +30,14 @@ use Rattle.finished.proofs.VerdictLaws.{few}
 use Rattle.certain.specs.Tree.{Reached, search_of}
 use Rattle.certain.specs.Facts.{fact_of, facts_in, certainty, untold, known, certain_by, certain_of}
 use Rattle.certain.specs.Inside.{States, Searched}
-use Rattle.certain.specs.declared.Certainty.TheVariants.{Told, Impossible, Spent, Refused}
-use Rattle.certain.specs.declared.Facts.{Facts}
+use Rattle.certain.specs.Facts.{Told, Impossible, Spent, Facts}
+use Rattle.std.specs.Prelude.{Ok, Err, IsErrAnd}
+use Rattle.std.specs.declared.result.Result.{Result}
+use Rattle.refusal.specs.Refusals.{outcome_of}
+use Rattle.refusal.specs.declared.Refusal.{Refusal}
+use Rattle.refusal.specs.declared.Refusal.TheVariants as refusals
+use Rattle.certain.specs.declared.Facts.{Facts as Known}
+use Rattle.certain.specs.Told.{refused_facts, told_as}
 use Rattle.certain.proofs.FactLaws.{fact_none, no_boards}
 use Rattle.certain.proofs.SearchLaws.{search-Solves}
 use Rattle.certain.proofs.StepLaws.{cells_valid}
@@ -68,7 +74,7 @@ nothing_yet n {facts} h e =
 
 -- ---- on the arrays
 
-module _ (q : Problem) (f : Formed q) (edition : ℕ) {sizes : List Range} (good : GoodSizes (puzzle_of q) sizes) {states : List ℕ} (s : States states) (budget : ℕ) {left : ℕ} {states' before facts : List ℕ} (blank : before ≡ replicate 1024 3)
+module _ (q : Problem) (f : Formed q) (edition : ℕ) {sizes : List Range} (good : GoodSizes (puzzle_of q) sizes) {states : List ℕ} (s : States states) (budget : ℕ) {left : ℕ} {states' before facts : List ℕ}
     (x : Searched (q.height * q.width) budget (search_of (leaf_with edition sizes (puzzle_of q)) (take (q.height * q.width) states)) left states states' before facts) where
   -- how many cells
   abbrev n : ℕ
@@ -96,27 +102,28 @@ module _ (q : Problem) (f : Formed q) (edition : ℕ) {sizes : List Range} (good
     steps_are : budget - rest ≡ r.steps
     steps_are = omega (arith, e, within.0, within.1)
 
-    facts_are : facts ≡ facts_in n r.boards
-    facts_are = x.gathers within.0 [] (nothing_yet n (few q f) blank)
+    module _ (blank : before ≡ replicate 1024 3) where
+      facts_are : facts ≡ facts_in n r.boards
+      facts_are = x.gathers within.0 [] (nothing_yet n (few q f) blank)
 
-    first_is : get_or facts 0 0 ≡ fact_of r.boards 0
-    unfolding facts_in
-    first_is = ap (λ (z : List ℕ). get_or z 0 0) facts_are ∙ filled_at 3 (fact_of r.boards) n 0 some_cells
+      first_is : get_or facts 0 0 ≡ fact_of r.boards 0
+      unfolding facts_in
+      first_is = ap (λ (z : List ℕ). get_or z 0 0) facts_are ∙ filled_at 3 (fact_of r.boards) n 0 some_cells
 
-    low : (b : List ℕ) → Memᴰ b r.boards → get_or b 0 0 ≤ 1
-    low b m = (search-Solves (leaf_with edition sizes (puzzle_of q)) (formed_Valid q f) good (take n states) (cells_valid q f edition sizes s) b m).finished.decided.each 0 (unfold puzzle_of grid_of size in some_cells)
+      low : (b : List ℕ) → Memᴰ b r.boards → get_or b 0 0 ≤ 1
+      low b m = (search-Solves (leaf_with edition sizes (puzzle_of q)) (formed_Valid q f) good (take n states) (cells_valid q f edition sizes s) b m).finished.decided.each 0 (unfold puzzle_of grid_of size in some_cells)
 
-    pub answer_none : get_or facts 0 0 ≡ 3 → ◌≡◌ {A = Facts} (record { answer = Impossible; steps = budget - rest; cells = facts }) (certain_by n budget r)
-    unfolding known
-    answer_none z =
-        rw (steps_are, facts_are, certainty_none r.boards (no_boards r.boards 0 low (sym first_is ∙ z)))
-        (sym (by_known n budget r within.0))
+      pub answer_none : get_or facts 0 0 ≡ 3 → ◌≡◌ {A = Facts} (record { answer = Impossible; steps = budget - rest; cells = facts }) (certain_by n budget r)
+      unfolding known
+      answer_none z =
+          rw (steps_are, facts_are, certainty_none r.boards (no_boards r.boards 0 low (sym first_is ∙ z)))
+          (sym (by_known n budget r within.0))
 
-    pub answer_told : (get_or facts 0 0 ≡ 3 → ⊥) → ◌≡◌ {A = Facts} (record { answer = Told; steps = budget - rest; cells = facts }) (certain_by n budget r)
-    unfolding known
-    answer_told z =
-        rw (steps_are, facts_are, certainty_some r.boards (λ e. z (first_is ∙ ap (λ (bs : List (List ℕ)). fact_of bs 0) e ∙ fact_none 0)))
-        (sym (by_known n budget r within.0))
+      pub answer_told : (get_or facts 0 0 ≡ 3 → ⊥) → ◌≡◌ {A = Facts} (record { answer = Told; steps = budget - rest; cells = facts }) (certain_by n budget r)
+      unfolding known
+      answer_told z =
+          rw (steps_are, facts_are, certainty_some r.boards (λ e. z (first_is ∙ ap (λ (bs : List (List ℕ)). fact_of bs 0) e ∙ fact_none 0)))
+          (sym (by_known n budget r within.0))
 
 -- ---- on a board
 
@@ -139,10 +146,13 @@ board_States b h =
     rw (← e) (Standing-States (whole_Standing b w) (whole_most b w))
 
 -- 6
-pub certain_ill : (b : Board) (budget : ℕ) {cells : List ℕ} → well_formed b ≡ false → cells ≡ replicate 1024 3
-    → ◌≡◌ {A = Facts} (record { answer = Refused 6; steps = 0; cells = cells }) (certain_of b budget)
-unfolding certain_of untold
-certain_ill b budget h e = rw (h, e) refl
+certain_ill : (b : Board) (budget : ℕ) → well_formed b ≡ false → refused_facts 6 ≡ certain_of b budget
+unfolding certain_of
+certain_ill b budget h = rw h refl
+
+pub certain_refused : (b : Board) (budget : ℕ) (r : Result Known Refusal) {e : Refusal} → well_formed b ≡ false → IsErrAnd r (λ y. y ≡ e) → e ≡ refusals.Board → told_as (outcome_of r) ≡ certain_of b budget
+certain_refused b budget (Ok x) h y f = absurd y
+certain_refused b budget (Err x) h y f = rw (y, f) (certain_ill b budget h)
 
 pub certain_well : (b : Board) (budget : ℕ) → well_formed b ≡ true → certain_of b budget ≡ certain_by (size (grid_of b.problem)) budget (search_of (leaf_on b) (cells_on b))
 unfolding certain_of

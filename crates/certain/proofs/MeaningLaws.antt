@@ -30,16 +30,14 @@ use Rattle.board.proofs.BoardForm.{board_leaf}
 use Rattle.board.proofs.CallLaws.{Standing-well, opened_left, after_low}
 use Rattle.literals.specs.Literals.{Found}
 use Rattle.literals.specs.Buffer.{finding_by}
-use Rattle.literals.specs.declared.Finding.TheVariants as finding
+use Rattle.literals.specs.Buffer as finding
 use Rattle.reasons.specs.Find.{leaf_on, cells_on, reason_on, find_of}
 use Rattle.reasons.specs.Demand3.{board_after}
 use Rattle.reasons.proofs.Demand3.{cells_on_lem}
 use Rattle.certain.specs.Tree.{Reached, search_of}
 use Rattle.certain.specs.Facts.{fact_of, facts_in, certainty, untold, known, certain_by, certain_of}
 use Rattle.certain.specs.Meaning.{Solution, Some, TrueOf, CertainCells, RefusedAsFind, Section8}
-use Rattle.certain.specs.declared.Certainty.{Certainty}
-use Rattle.certain.specs.declared.Certainty.TheVariants.{Told, Impossible, Spent, Refused}
-use Rattle.certain.specs.declared.Facts.{Facts}
+use Rattle.certain.specs.Facts.{Certainty, Told, Impossible, Spent, Refused, Facts}
 use Rattle.certain.proofs.FactLaws.{fact_square, fact_empty, fact_open}
 use Rattle.certain.proofs.SearchLaws.{Solves, search-Solves, Solves-search}
 use Rattle.certain.proofs.WayLaws.{search_some}

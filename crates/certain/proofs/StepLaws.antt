@@ -11,22 +11,18 @@ use lib.ListN.{length, get_or, set, take, length-set, get_or-eq_default}
 use lib.Seq.{get_or-take, length-take-le}
 use Rattle.grid.specs.Lists.{all, how_many}
 use Rattle.grid.specs.Grid.{size}
-use Rattle.grid.specs.Side.{sized}
 use Rattle.grid.specs.Cells.{ValidCells}
-use Rattle.record.specs.Record.{Puzzle}
 use Rattle.record.specs.Leaf.{Range, Leaf, leaf_with}
-use Rattle.record.specs.Sizes.{GoodSizes, kept_ranges}
+use Rattle.record.specs.Sizes.{GoodSizes}
 use Rattle.record.specs.Problem.{puzzle_of, grid_of}
 use Rattle.record.specs.declared.Problem.{Problem}
 use Rattle.form.proofs.ProblemForm.{Formed}
 use Rattle.groups.specs.Arrays.{lines_of}
-use Rattle.kinds.specs.Inside.{puzzle_with}
 use Rattle.literals.specs.Literals.{Found}
 use Rattle.literals.specs.Inside.{count_of, FoundAs}
-use Rattle.std.specs.Prelude.{Option, Some, None}
+use Rattle.std.specs.Prelude.{Some, None}
 use Rattle.literals.proofs.Findings.{nothing_found}
 use Rattle.reasons.specs.Reasons.{find_reason}
-use Rattle.reasons.proofs.BoardArrays.{codes_aside}
 use Rattle.finished.specs.Finished.{keeps_all, two_squares, finished_test}
 use Rattle.finished.proofs.VerdictLaws.{few, fails_before, no_reason}
 use Rattle.certain.specs.Tree.{lowest, counted}
@@ -54,11 +50,6 @@ some_found : (f : Found) {b a : List ℕ} {k : ℕ} → FoundAs f b a (Some k) �
 unfolding count_of
 some_found none x e = let z : ◌≡◌ {A = ℕ} 0 1 = cc x.answer in omega arith
 some_found (some r) x e = let z : ◌≡◌ {A = ℕ} 0 1 = cc in omega arith
-
--- what was found, with the sizes that the slices are known to have, and the answer that it is known to be
-pub found_with : (edition : ℕ) (p : Puzzle) (cells : List ℕ) {lows lows' highs highs' b a : List ℕ} {r r' : Option ℕ} → lows ≡ lows' → highs ≡ highs' → r ≡ r'
-    → FoundAs (find_reason (leaf_with edition (kept_ranges lows highs (length lows)) p) cells) b a r → FoundAs (find_reason (leaf_with edition (kept_ranges lows' highs' (length lows')) p) cells) b a r'
-found_with edition p cells e f g x = rw (e, f, g) at x
 
 -- no board is gathered
 pub Gathers-none : (n : ℕ) {before after : List ℕ} → after ≡ before → Gathers n [] before after
@@ -88,22 +79,14 @@ module _ (q : Problem) (f : Formed q) (edition : ℕ) (sizes : List Range) {stat
       go i (yes l) = rw (get_or-take n states i 0 l) (s.three i)
       go i (no l) = rw (get_or-eq_default cells 0 {n = i} (omega (arith, cells_long))) (omega arith)
 
-  -- what the search for a reason on the arrays is about
-  abbrev Found-on : Found
-  Found-on = find_reason (leaf_with edition sizes (puzzle_with (sized q.height q.width) (lines_of q.arrows q.ends q.count))) cells
-
-  same : Found-on ≡ find_reason leaf cells
-  unfolding puzzle_of grid_of
-  same = codes_aside leaf cells
-
   -- back on a reason
-  pub Meets-reason : {b a facts : List ℕ} {k : ℕ} → FoundAs Found-on b a (Some k) → Meets leaf n states facts facts Reason
-  Meets-reason x = reason (λ e. some_found Found-on x (same ∙ e)) refl
+  pub Meets-reason : {b a facts : List ℕ} {k : ℕ} → FoundAs (find_reason leaf cells) b a (Some k) → Meets leaf n states facts facts Reason
+  Meets-reason x = reason (some_found (find_reason leaf cells) x) refl
 
   -- no reason applies
-  module _ (good : GoodSizes (puzzle_of q) sizes) {b a : List ℕ} (x : FoundAs Found-on b a None) where
+  module _ (good : GoodSizes (puzzle_of q) sizes) {b a : List ℕ} (x : FoundAs (find_reason leaf cells) b a None) where
     quiet : find_reason leaf cells ≡ none
-    quiet = sym same ∙ (nothing_found Found-on x).0
+    quiet = (nothing_found (find_reason leaf cells) x).0
 
     -- all that is asked of a finished board but the block rules, by the arrays
     abbrev test : Bool

@@ -178,11 +178,11 @@ module _ (n left : ℕ) (l : Leaf) (cells before : List ℕ) (long : length befo
       search_two = rw (branch 1, branch 0) (search_on l (take n cells) spot.quiet spot.some_left)
 
       -- the budget is exhausted in the first branch
-      pub way_exhausted : {r : ℕ} {cells₁ facts₁ : List ℕ} → r ≡ 0 → Searched n (left - 1) (search_of l (take n (set cells i 1))) r (set cells i 1) cells₁ after facts₁
+      pub way_exhausted : {rest r : ℕ} {cells₁ facts₁ : List ℕ} → left ≤ suc rest → r ≡ 0 → Searched n rest (search_of l (take n (set cells i 1))) r (set cells i 1) cells₁ after facts₁
           → Searched n left (search_of l (take n cells)) 0 cells (set cells₁ i 2) before facts₁
-      way_exhausted e a =
+      way_exhausted {rest} few e a =
           let more : left < suc ((search_of l (take n (set cells i 1))).steps + (search_of l (take n (set cells i 0))).steps) =
-          omega (arith, left_out (search_of l (take n (set cells i 1))).steps (left - 1) a.left_is e) in
+          omega (arith, few, left_out (search_of l (take n (set cells i 1))).steps rest a.left_is e) in
           rw search_two (record {
             same = ap (λ (z : List ℕ). set z i 2) a.same ∙ set_back 1;
             long = a.long;

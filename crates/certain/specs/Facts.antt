@@ -8,9 +8,20 @@ use Rattle.board.specs.Form.{well_formed}
 use Rattle.board.specs.declared.Board.{Board}
 use Rattle.reasons.specs.Find.{leaf_on, cells_on}
 use Rattle.certain.specs.Tree.{Reached, search_of}
-use Rattle.certain.specs.declared.Certainty.{Certainty}
-use Rattle.certain.specs.declared.Certainty.TheVariants.{Told, Impossible, Spent, Refused}
-use Rattle.certain.specs.declared.Facts.{Facts}
+
+-- the cells are told, there is no finished board that agrees with the decisions, the budget is spent, or a refusal by its number
+pub data Certainty : Type 0 where
+  Told : Certainty
+  Impossible : Certainty
+  Spent : Certainty
+  Refused : ℕ → Certainty
+
+-- the answer, the number of steps, and where the cells are told 1 for a cell that is square in every finished board, 0 for one that is empty in every one
+-- and 2 for one that is open. 3 stands behind the grid, and at every place where nothing is told
+pub record Facts : Type 0 where
+  pub answer : Certainty
+  pub steps : ℕ
+  pub cells : List ℕ
 
 -- some board has the value v at cell i
 unfoldable pub seen : ℕ → List (List ℕ) → ℕ → Bool

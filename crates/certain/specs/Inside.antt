@@ -1,60 +1,13 @@
 -- What the functions of the search promise each other.
 -- Assumes nothing.
-use Rattle.std.specs.Prelude.{ℕ, suc, ◌-◌, ◌*◌, ◌≤◌, ◌<◌, ◌≡◌, Bool, true, false, cond, List, ◌++◌, eqb, leb, length, get_or, take, Option, Some, None}
+use Rattle.std.specs.Prelude.{ℕ, suc, ◌-◌, ◌≤◌, ◌<◌, ◌≡◌, Bool, true, false, cond, List, ◌++◌, eqb, leb, length, get_or, take, Option, Some, None}
 use Rattle.std.proofs.Math.Option.{none}
-use Rattle.record.specs.Leaf.{Leaf, leaf_with}
-use Rattle.record.specs.Sizes.{kept_ranges}
-use Rattle.record.specs.Problem.{puzzle_of}
-use Rattle.record.specs.declared.Problem.{Problem}
-use Rattle.form.specs.Form.{problem_formed}
-use Rattle.groups.specs.Arrays.{lines_of}
-use Rattle.sized.specs.Inside.{SizesOn}
+use Rattle.record.specs.Leaf.{Leaf}
 use Rattle.reasons.specs.Reasons.{find_reason}
-use Rattle.finished.specs.Inside.{problem_on}
 use Rattle.certain.specs.Tree.{lowest, Reached, counted}
 use Rattle.certain.specs.Facts.{facts_in}
-use Rattle.certain.specs.declared.Shape.{Shape}
 use Rattle.certain.specs.declared.Met.{Met}
 use Rattle.certain.specs.declared.Met.TheVariants.{Reason, Full, Undecided}
-
--- the leaf in the arrays, with the sizes in the slices
-abbrev pub leaf_in : ℕ → List ℕ → List ℕ → ℕ → ℕ → List ℕ → List ℕ → List ℕ → ℕ → Leaf
-leaf_in edition lows highs h w codes arrows ends number = leaf_with edition (kept_ranges lows highs (length lows)) (puzzle_of (problem_on h w codes arrows ends number))
-
--- what of a leaf is a number and does not change in a search
-abbrev pub edition_by : Shape → ℕ
-edition_by shape = shape.edition
-
-abbrev pub number_by : Shape → ℕ
-number_by shape = shape.number
-
-abbrev pub height_by : Shape → ℕ
-height_by shape = shape.height
-
-abbrev pub width_by : Shape → ℕ
-width_by shape = shape.width
-
-abbrev pub sized_by : Shape → ℕ
-sized_by shape = shape.sized
-
--- how many cells it has
-abbrev pub cells_by : Shape → ℕ
-cells_by shape = height_by shape * width_by shape
-
--- the problem of these numbers and arrays, and the leaf
-abbrev pub problem_by : Shape → List ℕ → List ℕ → List ℕ → Problem
-problem_by shape codes arrows ends = problem_on (height_by shape) (width_by shape) codes arrows ends (number_by shape)
-
-abbrev pub leaf_by : Shape → List ℕ → List ℕ → List ℕ → List ℕ → List ℕ → Leaf
-leaf_by shape lows highs codes arrows ends =
-    leaf_in (edition_by shape) (take (sized_by shape) lows) (take (sized_by shape) highs) (height_by shape) (width_by shape) codes arrows ends (number_by shape)
-
--- they are those of an accepted record in an edition, with sizes that may stand
-pub record Given (shape : Shape) (lows highs codes arrows ends : List ℕ) : Type 0 where
-  pub edition : edition_by shape ≡ 0 → ⊥
-  pub formed : problem_formed (problem_by shape codes arrows ends) ≡ true
-  pub room : sized_by shape ≤ 1024
-  pub sizes : SizesOn (cells_by shape) (lines_of arrows ends (number_by shape)) (take (sized_by shape) lows) (take (sized_by shape) highs)
 
 -- 1,024 states
 pub record States (cells : List ℕ) : Type 0 where

@@ -8,14 +8,12 @@ use Rattle.record.specs.Leaf.{Leaf, leaf_of}
 use Rattle.board.specs.Board.{Call, cells_after}
 use Rattle.board.specs.Calls.{standing}
 use Rattle.board.specs.declared.Board.{Board}
-use Rattle.literals.specs.declared.Finding.TheVariants as finding
+use Rattle.literals.specs.Buffer as finding
 use Rattle.reasons.specs.Find.{find_of}
 use Rattle.reasons.specs.Demand3.{board_after}
 use Rattle.finished.specs.Finished.{Finished}
 use Rattle.certain.specs.Tree.{search_of}
-use Rattle.certain.specs.Facts.{certain_by, certain_of}
-use Rattle.certain.specs.declared.Certainty.TheVariants.{Told, Impossible, Spent, Refused}
-use Rattle.certain.specs.declared.Facts.{Facts}
+use Rattle.certain.specs.Facts.{certain_by, certain_of, Told, Impossible, Spent, Refused, Facts}
 
 -- a finished board that agrees with the decisions ds
 pub record Solution (l : Leaf) (ds : List Literal) (full : List ℕ) : Type 0 where

@@ -9,6 +9,7 @@ ghost use Rattle.std.specs.Result.{ForErr};
 ghost use Rattle.refusal.specs.Refusals.{number_of};
 ghost use Rattle.certificate.specs.Inside.{clause_number, closing_number, refusal_number, end_of};
 
+use grid::UNDECIDED;
 use refusal::Refusal;
 
 // What a step's first word has beyond the number of its literals.
@@ -57,7 +58,7 @@ fn look_step(state: u8, left: Clause, word: usize) -> Clause
     if usize::from(state) == word / 32768 % 2 {
         return Clause::Other;
     }
-    if state != 2 {
+    if state != UNDECIDED {
         return left;
     }
     match left {

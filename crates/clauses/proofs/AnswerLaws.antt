@@ -3,7 +3,7 @@
 use Prim.Native.Nat.{ℕ, ◌≤◌, ◌<◌}
 use native.Mathlib.Omega.{arith}
 use mathlib.Core.Path.{◌≡◌, refl, ap, subst, ◌∙◌}
-use mathlib.Core.List.{List, [], ◌++◌}
+use mathlib.Core.List.{List, ◌++◌}
 use lib.ListN.{length, take, drop}
 use borrow.Author.Tests.{le-leb, lt-leb}
 use Rattle.grid.specs.Lists.{last, member}
@@ -18,7 +18,7 @@ use Rattle.groups.specs.Arrays.{Line}
 use Rattle.exported.specs.Written.{Writes}
 use Rattle.exported.proofs.WrittenLaws.{Writes-refused, Writes-ok}
 use Rattle.clauses.specs.Clauses.{sheet_bytes, sheet_within, sheet_for}
-use Rattle.clauses.specs.Inside.{Appends, sheet_piece}
+use Rattle.clauses.specs.Inside.{Sheeted, sheet_piece}
 use Rattle.clauses.proofs.BytesLaws.{sheeted}
 
 within_13 : (n : ℕ) (p : Puzzle) → n < length (sheet_bytes p) → sheet_within n p ≡ refused 13
@@ -41,20 +41,20 @@ module _ (p : Puzzle) (v : Valid p) (q : Problem) (e : q ≡ problem_of p) (tota
     whole : code ≡ sheet_bytes p
     whole = (sheeted p v q e).piece M (subst (λ n. Marks M (λ i. member i (take n q.arrows))) t K)
 
-    long : {o u : List ℕ} {n : ℕ} → Appends 0 2246656 code o u n → n ≡ length (sheet_bytes p)
-    long a = a.place ∙ omega (arith, ap length whole)
+    long : {o u : List ℕ} {n : ℕ} → Sheeted code o u n → n ≡ length (sheet_bytes p)
+    long a = a.counted ∙ ap length whole
 
     -- too short an output
-    pub Writes-13 : {o u : List ℕ} {n : ℕ} (old : List ℕ) → Appends 0 2246656 code o u n → length old < n → Writes (sheet_within (length old) p) (Err SheetShort) old old
+    pub Writes-13 : {o u : List ℕ} {n : ℕ} (old : List ℕ) → Sheeted code o u n → length old < n → Writes (sheet_within (length old) p) (Err SheetShort) old old
     Writes-13 old a h = Writes-refused (sheet_within (length old) p) old SheetShort (within_13 (length old) p (omega (arith, long a)))
 
     -- an output with room: what was counted before is what is written
-    pub Writes-sheet : {o u : List ℕ} {n m : ℕ} (old new : List ℕ) → Appends 0 2246656 code o u n → n ≤ length old → Appends 0 2246656 code old new m
+    pub Writes-sheet : {o u : List ℕ} {n m : ℕ} (old new : List ℕ) → Sheeted code o u n → n ≤ length old → Sheeted code old new m
         → Writes (sheet_within (length old) p) (Ok m) old new
     Writes-sheet {n = n} {m = m} old new a h b =
         let c = long b in
-        let w = b.wrote old [] refl refl (omega (arith, long a, c)) in
-        Writes-ok (sheet_within (length old) p) old (sheet_bytes p) new m (within_ok (length old) p (omega (arith, long a))) c (omega (arith, b.place, b.most))
+        let w = b.wrote (omega (arith, long a, c)) in
+        Writes-ok (sheet_within (length old) p) old (sheet_bytes p) new m (within_ok (length old) p (omega (arith, long a))) c (omega (arith, b.most))
         (w ∙ ap (λ (l : List ℕ). l ++ drop m old) whole ∙ ap (λ (k : ℕ). sheet_bytes p ++ drop k old) c)
 
 -- the record's refusals, and its puzzle

@@ -2,23 +2,20 @@
 -- Assumes nothing.
 use Prim.Native.Nat.{ℕ, zero, suc, ◌+◌, ◌*◌, ◌/◌, ◌%◌, ◌≤◌, ◌<◌}
 use native.Mathlib.Omega.{arith}
-use mathlib.Core.Path.{◌≡◌, refl, sym, ap, subst, ◌∙◌}
+use mathlib.Core.Path.{◌≡◌, refl, sym, ap, ◌∙◌}
 use mathlib.Core.List.{List, [], ◌∷◌, ◌++◌, map, append-nil}
-use lib.ListN.{length, get_or, set, replicate, length-append, length-set, get_or-append}
-use lib.Seq.{get_or-set_same, get_or-set_other, get_or-append-add}
+use lib.ListN.{length, get_or, length-append}
 use borrow.Author.Tests.{eq-eqb, ne_eqb}
 use Rattle.grid.specs.Lists.{flat_map, filter, upto, range}
 use Rattle.grid.specs.Grid.{Grid, size, row, col, up, down, left, right}
 use Rattle.grid.specs.Side.{sized, towards, beside_of, InPlace}
 use Rattle.std.specs.Prelude.{Option, Some, None}
-use Rattle.grid.specs.declared.Around.{Around}
-use Rattle.grid.proofs.AppendLaws.{filter-append, by_eq, flat_map-append, flat_map_more, flat_map_agree, map_agree}
+use Rattle.grid.proofs.AppendLaws.{filter-append, flat_map-append, flat_map_more}
 use Rattle.grid.proofs.GridLaws.{index}
-use Rattle.grid.proofs.ListLaws.{upto-mem}
 use Rattle.grid.proofs.SideLaws.{beside_at, beside_off, beside_in, in_grid, area}
 use Rattle.exported.specs.Written.{bytes_of}
 use Rattle.clauses.specs.Clauses.{Clause, around, between, pairs_of, between_at, clause_bytes, clauses_bytes}
-use Rattle.clauses.specs.Inside.{word_bytes, marked, turn_at, ArrowSide, Holds, with_piece, between_piece}
+use Rattle.clauses.specs.Inside.{word_bytes, marked, turn_at, ArrowSide, with_piece, between_piece}
 use Rattle.clauses.proofs.PieceLaws.{word_0, clauses_none}
 
 -- a cell's row and column
@@ -64,44 +61,6 @@ pub side_short : {m : List ℕ} {s : Option ℕ} → ArrowSide m s → length m 
 side_short (ArrowSide.one l) = omega arith
 side_short ArrowSide.none = omega arith
 
-pub side_at : {m : List ℕ} {s : Option ℕ} (j : ℕ) → ArrowSide m s → s ≡ Some j → (j ∷ [] ≡ m) × (j < 1024)
-side_at j (ArrowSide.one {j = k} l) e = let z : j ≡ k = cc in (cc, omega (arith, z, l))
-side_at j ArrowSide.none e = absurd (let z : ◌≡◌ {A = ℕ} 0 1 = cc in omega arith)
-
-pub side_gone : {m : List ℕ} {s : Option ℕ} → ArrowSide m s → s ≡ None → [] ≡ m
-side_gone (ArrowSide.one l) e = absurd (let z : ◌≡◌ {A = ℕ} 0 1 = cc in omega arith)
-side_gone ArrowSide.none e = refl
-
--- one more cell
-pub Holds-one : {l : List ℕ} {a : Around} (j : ℕ) → Holds l a → length l < 4 → j < 1024 → Holds (l ++ (j ∷ [])) (record { cells = set a.cells a.count j; count = a.count + 1 })
-Holds-one {l} {a} j H s b = record {
-  long = length-set a.cells a.count j ∙ H.long;
-  number = omega (arith, H.number, length-append l (j ∷ []));
-  few = omega (arith, length-append l (j ∷ []));
-  each = λ k h. by_eq k (length l) (λ e. last k e) (λ n. front k (omega (arith, length-append l (j ∷ []))));
-  low = λ k. by_eq k a.count
-      (λ e. rw (e, get_or-set_same a.cells a.count j 0 (omega (arith, H.long, H.number))) b)
-      (λ n. rw (get_or-set_other a.cells a.count k j 0 n) (H.low k));
-}
-  where
-    last : (k : ℕ) → k ≡ length l → get_or (set a.cells a.count j) k 0 ≡ get_or (l ++ (j ∷ [])) k 0
-    last k e =
-        let f : k ≡ a.count = e ∙ sym H.number in
-        let g : k ≡ length l + 0 = omega arith in
-        ap (λ (q : ℕ). get_or (set a.cells a.count j) q 0) f ∙ get_or-set_same a.cells a.count j 0 (omega (arith, H.long, H.number))
-        ∙ sym (ap (λ (q : ℕ). get_or (l ++ (j ∷ [])) q 0) g ∙ get_or-append-add l (j ∷ []) 0 0)
-
-    front : (k : ℕ) → k < length l → get_or (set a.cells a.count j) k 0 ≡ get_or (l ++ (j ∷ [])) k 0
-    front k h = get_or-set_other a.cells a.count k j 0 (λ e. omega (arith, e, H.number)) ∙ H.each k h ∙ sym (get_or-append l (j ∷ []) 0 k h)
-
-pub add_one_side : {l m : List ℕ} {a : Around} {s : Option ℕ} (j : ℕ) → s ≡ Some j → Holds l a → length l < 4 → ArrowSide m s → Holds (l ++ m) (record { cells = set a.cells a.count j; count = a.count + 1 })
-add_one_side {l} {m} {a} j e H s S =
-    let r = side_at j S e in
-    subst (λ n. Holds (l ++ n) (record { cells = set a.cells a.count j; count = a.count + 1 })) r.0 (Holds-one j H s r.1)
-
-pub add_no_side : {l m : List ℕ} {a : Around} {s : Option ℕ} → s ≡ None → Holds l a → ArrowSide m s → Holds (l ++ m) a
-add_no_side {l} {m} {a} e H S = subst (λ n. Holds (l ++ n) a) (side_gone S e) (rw (append-nil l) H)
-
 -- the first k directions
 abbrev pub toward_list : List ℕ → Grid → ℕ → ℕ → List ℕ
 toward_list marks g i d = filter (marked marks) (towards g i (turn_at d))
@@ -109,23 +68,16 @@ toward_list marks g i d = filter (marked marks) (towards g i (turn_at d))
 unfoldable pub near_from : List ℕ → Grid → ℕ → ℕ → List ℕ
 near_from marks g i k = flat_map (toward_list marks g i) (upto k)
 
-pub near_none : (marks : List ℕ) (g : Grid) (i : ℕ) → Holds (near_from marks g i 0) (record { cells = replicate 4 0; count = 0 }) × (length (near_from marks g i 0) ≤ 0)
+pub near_none : (marks : List ℕ) (g : Grid) (i : ℕ) → ([] ≡ near_from marks g i 0) × (length (near_from marks g i 0) ≤ 0)
 unfolding near_from flat_map upto range
-near_none marks g i = (record { long = refl; number = refl; few = omega arith; each = λ k h. absurd (omega arith); low = low }, omega arith)
-  where
-    low : (k : ℕ) → get_or (0 ∷ 0 ∷ 0 ∷ 0 ∷ []) k 0 < 1024
-    low zero = omega arith
-    low (suc zero) = omega arith
-    low (suc (suc zero)) = omega arith
-    low (suc (suc (suc zero))) = omega arith
-    low (suc (suc (suc (suc k)))) = omega arith
+near_none marks g i = (refl, omega arith)
 
-pub near_more : (marks : List ℕ) (g : Grid) (i k : ℕ) {a : Around} {s : Option ℕ} → ArrowSide (toward_list marks g i k) s → length (near_from marks g i k) ≤ k → Holds (near_from marks g i k ++ toward_list marks g i k) a
-    → Holds (near_from marks g i (k + 1)) a × (length (near_from marks g i (k + 1)) ≤ k + 1)
+pub near_more : (marks : List ℕ) (g : Grid) (i k : ℕ) {l m : List ℕ} {s : Option ℕ} → ArrowSide (toward_list marks g i k) s → (l ≡ near_from marks g i k) × (length (near_from marks g i k) ≤ k) → m ≡ l ++ toward_list marks g i k
+    → (m ≡ near_from marks g i (k + 1)) × (length (near_from marks g i (k + 1)) ≤ k + 1)
 unfolding near_from
-near_more marks g i k {a} S n H =
-    let e = flat_map_more (toward_list marks g i) k in
-    (rw e H, rw e (omega (arith, side_short S, length-append (flat_map (toward_list marks g i) (upto k)) (toward_list marks g i k))))
+near_more marks g i k {l} {m} S n e =
+    let more = flat_map_more (toward_list marks g i) k in
+    (e ∙ ap (λ (r : List ℕ). r ++ toward_list marks g i k) n.0 ∙ sym more, rw more (omega (arith, n.1, side_short S, length-append (flat_map (toward_list marks g i) (upto k)) (toward_list marks g i k))))
 
 pub near_all : (marks : List ℕ) (g : Grid) (i : ℕ) → near_from marks g i 4 ≡ filter (marked marks) (around g i)
 unfolding near_from flat_map upto range turn_at towards around
@@ -152,25 +104,18 @@ unfolding clauses_bytes flat_map
 flat_pieces f [] = refl
 flat_pieces f (x ∷ l) = ap (λ r. flat_map clause_bytes (f x) ++ r) (flat_pieces f l) ∙ sym (flat_map-append clause_bytes (f x) (flat_map f l))
 
-pub pairs_bytes : (i : ℕ) (l : List ℕ) {a : Around} → Holds l a → flat_map (with_piece i a.cells) (upto a.count) ≡ clauses_bytes (pairs_of i l)
+pub pairs_bytes : (i : ℕ) (l : List ℕ) → flat_map (with_piece i l) (upto (length l)) ≡ clauses_bytes (pairs_of i l)
 unfolding pairs_of
-pairs_bytes i l {a} H =
-    ap (λ (n : ℕ). flat_map (with_piece i a.cells) (upto n)) H.number
-    ∙ flat_map_agree (with_piece i a.cells) (with_piece i l) (upto (length l))
-    (λ x m. ap clauses_bytes (map_agree (between i a.cells x) (between i l x) (upto x) (λ y k.
-    let p = H.each x (upto-mem (length l) m) in
-    let q = H.each y (omega (arith, upto-mem (length l) m, upto-mem x k)) in
-    rw (p, q) refl)))
-    ∙ flat_pieces (λ x. map (between i l x) (upto x)) (upto (length l))
+pairs_bytes i l = flat_pieces (λ x. map (between i l x) (upto x)) (upto (length l))
 
 module _ (marks : List ℕ) (g : Grid) (i : ℕ) where
   pub between_on : get_or marks i 0 ≡ 1 → [] ≡ between_piece marks g i
   unfolding between_at
   between_on e = rw (eq-eqb (get_or marks i 0) 1 e) (sym clauses_none)
 
-  pub between_off : (get_or marks i 0 ≡ 1 → ⊥) → {a : Around} → Holds (filter (marked marks) (around g i)) a → flat_map (with_piece i a.cells) (upto a.count) ≡ between_piece marks g i
+  pub between_off : (get_or marks i 0 ≡ 1 → ⊥) → {l : List ℕ} → l ≡ filter (marked marks) (around g i) → flat_map (with_piece i l) (upto (length l)) ≡ between_piece marks g i
   unfolding between_at
-  between_off n H = rw (ne_eqb (get_or marks i 0) 1 n) (pairs_bytes i (filter (marked marks) (around g i)) H)
+  between_off n {l} e = rw (ne_eqb (get_or marks i 0) 1 n, e) (pairs_bytes i (filter (marked marks) (around g i)))
 
 pub same_between : (i : ℕ) (l : List ℕ) (a b x y : ℕ) → x ≡ get_or l a 0 → y ≡ get_or l b 0 → clause_bytes ((x, 0) ∷ (i, 0) ∷ (y, 0) ∷ []) ≡ clause_bytes (between i l a b)
 same_between i l a b x y p q = rw (p, q) refl

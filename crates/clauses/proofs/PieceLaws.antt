@@ -1,21 +1,20 @@
 -- The clauses of each kind as bytes.
 -- Assumes nothing.
-use Prim.Native.Nat.{ℕ, ◌+◌, ◌*◌, ◌/◌, ◌%◌, ◌≤◌, ◌<◌}
+use Prim.Native.Nat.{ℕ, ◌+◌, ◌/◌, ◌%◌}
 use native.Mathlib.Omega.{arith}
 use mathlib.Core.Path.{◌≡◌, refl, sym, ap, ◌∙◌}
 use mathlib.Core.List.{List, [], ◌∷◌, ◌++◌, map, append-nil, map-append}
 use lib.ListN.{length, get_or}
-use borrow.Author.Tests.{eq-eqb, ne_eqb, lt-ltb, le-ltb}
+use borrow.Author.Tests.{eq-eqb, ne_eqb}
 use Rattle.grid.specs.Lists.{flat_map, filter}
-use Rattle.grid.specs.Grid.{Grid, size, col, only, down, right, Beside}
-use Rattle.grid.specs.Side.{sized, InGrid}
-use Rattle.grid.proofs.GridLaws.{on_grid}
-use Rattle.grid.proofs.SideLaws.{area, sized-size}
+use Rattle.grid.specs.Grid.{Grid, down, right}
+use Rattle.grid.specs.Side.{towards}
+use Rattle.std.specs.Prelude.{Option, Some, None}
 use Rattle.grid.specs.Cells.{Literal, word}
 use Rattle.grid.proofs.AppendLaws.{filter-append, flat_map-append}
 use Rattle.exported.specs.Written.{bytes_of}
 use Rattle.clauses.specs.Clauses.{Clause, given_at, apart, onwards, touching_at, clause_bytes, clauses_bytes}
-use Rattle.clauses.specs.Inside.{word_bytes, marked, other_piece}
+use Rattle.clauses.specs.Inside.{word_bytes, marked, other_piece, turn_at, ArrowSide}
 
 -- a clause, literal by literal
 words_bytes : (c : Clause) → bytes_of (map word c) ≡ flat_map (λ (l : Literal). word_bytes (word l)) c
@@ -70,39 +69,19 @@ pub apart_bytes : (i j : ℕ) → word_bytes 2 ++ (word_bytes i ++ word_bytes j)
 unfolding clause_bytes bytes_of flat_map
 apart_bytes i j = sym (rw (word_0 i, word_0 j) refl)
 
-module _ (marks : List ℕ) (i : ℕ) where
-  pub touch_yes : (j : ℕ) → get_or marks j 0 ≡ 1 → clause_bytes (apart i j) ≡ clauses_bytes (map (apart i) (filter (marked marks) (j ∷ [])))
-  unfolding filter
-  touch_yes j e = rw (eq-eqb (get_or marks j 0) 1 e) (sym (clauses_one (apart i j)))
+-- with the arrow cell on one side, or none
+pub touch_bytes : (i : ℕ) {m : List ℕ} {side : Option ℕ} → ArrowSide m side → (j : ℕ) → side ≡ Some j → clause_bytes (apart i j) ≡ clauses_bytes (map (apart i) m)
+touch_bytes i (ArrowSide.one {j = k} l) j e = let z : j ≡ k = cc in rw z (sym (clauses_one (apart i k)))
+touch_bytes i ArrowSide.none j e = absurd (let z : ◌≡◌ {A = ℕ} 0 1 = cc in omega arith)
 
-  pub touch_no : (j : ℕ) → (get_or marks j 0 ≡ 1 → ⊥) → [] ≡ clauses_bytes (map (apart i) (filter (marked marks) (j ∷ [])))
-  unfolding filter
-  touch_no j n = rw (ne_eqb (get_or marks j 0) 1 n) (sym clauses_none)
-
-  pub touch_none : [] ≡ clauses_bytes (map (apart i) (filter (marked marks) []))
-  unfolding filter
-  touch_none = sym clauses_none
-
-pub down_yes : (h w i : ℕ) → i + w < h * w → (i + w) ∷ [] ≡ down (sized h w) i
-unfolding down size only
-down_yes h w i l = rw (lt-ltb (i + w) (h * w) l) refl
-
-pub down_no : (h w i : ℕ) → h * w ≤ i + w → [] ≡ down (sized h w) i
-unfolding down size only
-down_no h w i l = rw (le-ltb (i + w) (h * w) l) refl
-
-pub right_yes : (h w i : ℕ) → i % w + 1 < w → (i + 1) ∷ [] ≡ right (sized h w) i
-unfolding right col only
-right_yes h w i l = rw (lt-ltb (i % w + 1) w l) refl
-
-pub right_no : (h w i : ℕ) → w ≤ i % w + 1 → [] ≡ right (sized h w) i
-unfolding right col only
-right_no h w i l = rw (le-ltb (i % w + 1) w l) refl
+pub touch_none : (i : ℕ) {m : List ℕ} {side : Option ℕ} → ArrowSide m side → side ≡ None → [] ≡ clauses_bytes (map (apart i) m)
+touch_none i (ArrowSide.one l) e = absurd (let z : ◌≡◌ {A = ℕ} 0 1 = cc in omega arith)
+touch_none i ArrowSide.none e = sym clauses_none
 
 module _ (marks : List ℕ) (g : Grid) (i : ℕ) where
   pub touching_on : get_or marks i 0 ≡ 1
-      → clauses_bytes (map (apart i) (filter (marked marks) (down g i))) ++ clauses_bytes (map (apart i) (filter (marked marks) (right g i))) ≡ clauses_bytes (touching_at (marked marks) g i)
-  unfolding touching_at onwards
+      → clauses_bytes (map (apart i) (filter (marked marks) (towards g i (turn_at 2)))) ++ clauses_bytes (map (apart i) (filter (marked marks) (towards g i (turn_at 3)))) ≡ clauses_bytes (touching_at (marked marks) g i)
+  unfolding touching_at onwards towards turn_at
   touching_on e = rw (eq-eqb (get_or marks i 0) 1 e)
       (sym (ap (λ (l : List ℕ). clauses_bytes (map (apart i) l)) (filter-append (marked marks) (down g i) (right g i))
       ∙ ap clauses_bytes (map-append (apart i) (filter (marked marks) (down g i)) (filter (marked marks) (right g i)))
@@ -118,9 +97,3 @@ other_same arrow k t e = rw (eq-eqb t k e) refl
 
 pub other_not : (arrow : List ℕ) (k t : ℕ) → (t ≡ k → ⊥) → word_bytes (32768 + get_or arrow t 0) ≡ other_piece arrow k t
 other_not arrow k t n = rw (ne_eqb t k n) refl
-
--- the cell to the right is one of the grid
-pub next_small : {h w i : ℕ} → InGrid h w i → i % w + 1 < w → i + 1 < 1024
-next_small {h} {w} {i} G l =
-    let n : i + 1 < size (sized h w) = on_grid (sized h w) {i = i} (rw (← sized-size h w) G.within) (Beside.behind l refl) in
-    omega (arith, n, sized-size h w, area h w G.tall G.wide)

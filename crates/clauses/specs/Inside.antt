@@ -4,26 +4,34 @@ use Rattle.std.specs.Prelude.{ℕ, zero, suc, ◌+◌, ◌-◌, ◌*◌, ◌≤�
 use Rattle.grid.specs.Lists.{flat_map, upto}
 use Rattle.grid.specs.Grid.{Grid}
 use Rattle.grid.specs.Side.{sized}
-use Rattle.grid.specs.declared.Around.{Around}
 use Rattle.record.specs.declared.Problem.{Problem}
+use Rattle.clauses.specs.declared.Sheet.{Sheet}
 use Rattle.record.specs.Lines.{start_at}
 use Rattle.exported.specs.Written.{bytes_of}
 use Rattle.clauses.specs.Clauses.{given_at, touching_at, between_at, between, clauses_bytes}
 
--- the bytes c, at most k, are written behind the first `at` bytes, whatever these are, if the output has room for them; `end` is the place behind them, with room or without
-pub record Appends (at k : ℕ) (c entry exit : List ℕ) (end : ℕ) : Type 0 where
-  pub place : end ≡ at + length c
+-- the bytes c, at most k, are written behind those of the sheet so far, whatever these are, if the output has room for them; the sheet ends behind them, with room or without
+pub record Appends (k : ℕ) (c : List ℕ) (old new : Sheet) : Type 0 where
+  pub same : new.out.ghost_name ≡ old.out.ghost_name
+  pub place : new.at ≡ old.at + length c
   pub most : length c ≤ k
-  pub long : length exit ≡ length entry
-  pub wrote : (old b : List ℕ) → length b ≡ at → entry ≡ b ++ drop at old → end ≤ length old → exit ≡ (b ++ c) ++ drop end old
+  pub long : length new.out.now ≡ length old.out.now
+  pub wrote : (rest b : List ℕ) → length b ≡ old.at → old.out.now ≡ b ++ drop old.at rest → new.at ≤ length rest → new.out.now ≡ (b ++ c) ++ drop new.at rest
+
+-- the bytes c of a whole sheet are counted, and written to the front of an output that has room for them
+pub record Sheeted (c before after : List ℕ) (count : ℕ) : Type 0 where
+  pub counted : count ≡ length c
+  pub most : count ≤ 2246656
+  pub long : length after ≡ length before
+  pub wrote : count ≤ length before → after ≡ c ++ drop count before
 
 -- a 16-bit number
 abbrev pub word_bytes : ℕ → List ℕ
 word_bytes w = bytes_of (w ∷ [])
 
 -- k bytes more can be counted
-abbrev pub Counts : ℕ → ℕ → Type 0
-Counts at k = at + k ≤ 4294967296
+abbrev pub Counts : Sheet → ℕ → Type 0
+Counts sheet k = sheet.at + k ≤ 4294967296
 
 -- a mark
 abbrev pub marked : List ℕ → ℕ → Bool
@@ -38,14 +46,6 @@ touching_piece marks g i = clauses_bytes (touching_at (marked marks) g i)
 
 abbrev pub between_piece : List ℕ → Grid → ℕ → List ℕ
 between_piece marks g i = clauses_bytes (between_at (marked marks) g i)
-
--- a list of at most four cells in places
-pub record Holds (l : List ℕ) (a : Around) : Type 0 where
-  pub long : length a.cells ≡ 4
-  pub number : a.count ≡ length l
-  pub few : length l ≤ 4
-  pub each : (k : ℕ) → k < length l → get_or a.cells k 0 ≡ get_or l k 0
-  pub low : (k : ℕ) → get_or a.cells k 0 < 1024
 
 -- the place among up, down, left, right of the k-th of up, left, down, right
 unfoldable pub turn_at : ℕ → ℕ

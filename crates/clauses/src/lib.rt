@@ -1,150 +1,81 @@
-// The clause sheet of a puzzle, for other solvers. A function that writes takes the place to write at and returns the place behind; it
-// writes what has room in the output, and counts all. So the length of a sheet is what is counted on an output that has no room.
+// The clause sheet of a puzzle, for other solvers. What writes goes on where the sheet ends so far; it writes what has room in the output, and
+// counts all. So the length of a sheet is what is counted on an output that has no room.
 #![tactic(auto)]
 
-ghost use Rattle.std.specs.Prelude.{◌≡◌, List, [], ◌∷◌, ◌++◌, map, ℕ, ◌+◌, ◌-◌, ◌*◌, ◌≤◌, ◌<◌, length, get_or};
+ghost use Rattle.std.specs.Prelude.{◌≡◌, List, [], ◌∷◌, ◌++◌, map, ℕ, ◌+◌, ◌-◌, ◌*◌, ◌≤◌, ◌<◌, length, get_or, take};
 ghost use Rattle.grid.specs.Lists.{flat_map, upto, filter};
-ghost use Rattle.grid.specs.Grid.{down, right};
-ghost use Rattle.grid.specs.Side.{sized, towards, InGrid, InPlace};
+ghost use Rattle.grid.specs.Side.{sized, towards};
 ghost use Rattle.record.specs.Record.{Puzzle};
 ghost use Rattle.record.specs.Valid.{Valid};
 ghost use Rattle.record.specs.Problem.{problem_of};
 ghost use Rattle.record.specs.Lines.{Lines};
 ghost use Rattle.exported.specs.Written.{written, output_with, Writes};
 ghost use Rattle.clauses.specs.Clauses.{given_at, apart, around, clause_bytes, clauses_bytes, sheet_within, sheet_for};
-ghost use Rattle.clauses.specs.Inside.{word_bytes, Appends, Counts, marked, given_piece, touching_piece, between_piece, Holds, with_piece, other_piece, clause_piece, arrow_piece, line_piece, IsArrow, sheet_piece, turn_at, ArrowSide};
+ghost use Rattle.clauses.specs.Inside.{word_bytes, Appends, Counts, marked, given_piece, touching_piece, between_piece, with_piece, other_piece, clause_piece, arrow_piece, line_piece, IsArrow, sheet_piece, turn_at, ArrowSide, Sheeted};
 
-use grid::Around;
-use record::Problem;
+use grid::Grid;
+use record::{BLACK, GIVEN, Problem};
 use refusal::Refusal;
+use std::marker::Model;
 
-// Writes a 16-bit number, high byte first.
-fn put(out: &mut [u8], at: usize, word: usize) -> usize
-    requires { (word < 65536) × Counts at 2 }
-    ensures { Appends at 2 (word_bytes word) out.old out.new result }
-{
-    if out.len() < at + 2 {
-        return at + 2;
-    }
-    out[at] = (word / 256) as u8;
-    out[at + 1] = (word % 256) as u8;
-    at + 2
+// Of the directions up, left, down, right, those of the cells behind a cell in row order.
+const BELOW: usize = 2;
+
+const RIGHT: usize = 3;
+
+// The mark of an arrow cell.
+const ON_ARROW: u8 = 1;
+
+// The arrow cells beside a cell, at most four.
+#[derive(Drop)]
+struct NearCells {
+    cells: [u16; 4],
+    count: usize,
 }
 
-// Writes a clause of one literal.
-fn put_unit(out: &mut [u8], at: usize, literal: usize) -> usize
-    requires { (literal < 65536) × Counts at 4 }
-    ensures { Appends at 4 (word_bytes 1 ++ word_bytes literal) out.old out.new result }
-{
-    let end = put(out, at, 1);
-    put(out, end, literal)
+impl Model for NearCells {
+    ghost Value = { List ℕ };
+
+    ghost view = { λ near. take near.count near.cells };
+
+    ghost invariant = { λ near. (near.count ≤ 4) × ((k : ℕ) → get_or near.cells k 0 < 1024) };
 }
 
-// Writes that a black cell is 0, or a given cell 1.
-fn put_given(out: &mut [u8], at: usize, code: u8, i: usize) -> usize
-    requires { (i < 1024) × Counts at 4 }
-    ensures { Appends at 4 (clauses_bytes (given_at code i)) out.old out.new result }
-{
-    if code == 1 {
-        return put_unit(out, at, i);
+impl NearCells {
+    fn new() -> NearCells
+        ensures { result ≡ [] }
+    {
+        NearCells {
+            cells: [0; 4],
+            count: 0,
+        }
     }
-    if code == 2 {
-        return put_unit(out, at, 32768 + i);
-    }
-    at
-}
 
-// Writes the first part. Each part keeps its own loop: one over a closure that writes the lent output would bound `F.step` place by place, in a clause longer than the loop.
-fn write_given(out: &mut [u8], at: usize, codes: &[u8; 1024], n: usize) -> usize
-    requires { (n ≤ 1024) × Counts at 4096 }
-    ensures { Appends at (n * 4) (flat_map (given_piece codes.now) (upto n)) out.old out.new result }
-{
-    let mut end = at;
-    for i in 0..n {
-        end = put_given(out, end, codes[i], i);
+    fn len(&self) -> usize
+        ensures { (result ≡ length self.now) × (result ≤ 4) }
+    {
+        self.count
     }
-    end
-}
 
-// Writes that the cells i and j are not both square.
-fn put_apart(out: &mut [u8], at: usize, i: usize, j: usize) -> usize
-    requires { (i < 1024) × (j < 1024) × Counts at 6 }
-    ensures { Appends at 6 (clause_bytes (apart i j)) out.old out.new result }
-{
-    let a = put(out, at, 2);
-    let b = put(out, a, i);
-    put(out, b, j)
-}
-
-// Writes so of i and j, if j is an arrow cell.
-fn put_touching(out: &mut [u8], at: usize, marks: &[u8; 1024], i: usize, j: usize) -> usize
-    requires { (i < 1024) × (j < 1024) × Counts at 6 }
-    ensures { Appends at 6 (clauses_bytes (map (apart i) (filter (marked marks.now) (j ∷ [])))) out.old out.new result }
-{
-    if marks[j] == 1 {
-        return put_apart(out, at, i, j);
+    // The k-th of them.
+    fn cell(&self, k: usize) -> usize
+        requires { k < length self.now }
+        ensures { (result ≡ get_or self.now k 0) × (result < 1024) }
+    {
+        let cells = &self.cells;
+        usize::from(cells[k])
     }
-    at
-}
 
-// Writes so of i and the cell below it.
-fn touching_below(
-    out: &mut [u8],
-    at: usize,
-    marks: &[u8; 1024],
-    h: usize,
-    w: usize,
-    i: usize,
-) -> usize
-    requires { InGrid h w i × Counts at 6 }
-    ensures { Appends at 6 (clauses_bytes (map (apart i) (filter (marked marks.now) (down (sized h w) i)))) out.old out.new result }
-{
-    if i + w < h * w {
-        return put_touching(out, at, marks, i, i + w);
+    // Adds the cell on one side, if there is one.
+    fn add(&mut self, side: Option<usize>)
+        requires { (m : List ℕ) × ArrowSide m side × (length self.old < 4) }
+        ensures { (m : List ℕ) → ArrowSide m side → self.new ≡ self.old ++ m }
+    {
+        if let Some(j) = side {
+            self.cells[self.count] = j as u16;
+            self.count += 1;
+        }
     }
-    at
-}
-
-// Writes so of i and the cell to its right.
-fn touching_right(
-    out: &mut [u8],
-    at: usize,
-    marks: &[u8; 1024],
-    h: usize,
-    w: usize,
-    i: usize,
-) -> usize
-    requires { InGrid h w i × Counts at 6 }
-    ensures { Appends at 6 (clauses_bytes (map (apart i) (filter (marked marks.now) (right (sized h w) i)))) out.old out.new result }
-{
-    if i % w + 1 < w {
-        return put_touching(out, at, marks, i, i + 1);
-    }
-    at
-}
-
-// Writes so of i and both, if i is an arrow cell.
-fn touching_at(out: &mut [u8], at: usize, marks: &[u8; 1024], h: usize, w: usize, i: usize) -> usize
-    requires { InGrid h w i × Counts at 12 }
-    ensures { Appends at 12 (touching_piece marks.now (sized h w) i) out.old out.new result }
-{
-    if marks[i] != 1 {
-        return at;
-    }
-    let end = touching_below(out, at, marks, h, w, i);
-    touching_right(out, end, marks, h, w, i)
-}
-
-// Writes the second part.
-fn write_touching(out: &mut [u8], at: usize, marks: &[u8; 1024], h: usize, w: usize) -> usize
-    requires { (h ≤ 32) × (w ≤ 32) × Counts at 12288 }
-    ensures { Appends at ((h * w) * 12) (flat_map (touching_piece marks.now (sized h w)) (upto (h * w))) out.old out.new result }
-{
-    let mut end = at;
-    for i in 0..h * w {
-        end = touching_at(out, end, marks, h, w, i);
-    }
-    end
 }
 
 // The place among up, down, left, right of the k-th of up, left, down, right.
@@ -162,21 +93,14 @@ fn direction(k: usize) -> usize
 }
 
 // The arrow cell that the cell at row y, column x has in the k-th direction.
-fn arrow_toward(
-    marks: &[u8; 1024],
-    h: usize,
-    w: usize,
-    y: usize,
-    x: usize,
-    k: usize,
-) -> Option<usize>
-    requires { InPlace h w y x × (k < 4) }
-    ensures { ArrowSide (filter (marked marks.now) (towards (sized h w) (y * w + x) (turn_at k))) result }
+fn arrow_toward(grid: Grid, marks: &[u8; 1024], y: usize, x: usize, k: usize) -> Option<usize>
+    requires { (y < grid.height) × (x < grid.width) × (k < 4) }
+    ensures { ArrowSide (filter (marked marks.now) (towards (sized grid.height grid.width) (y * grid.width + x) (turn_at k))) result }
 {
-    let side = grid::toward(h, w, y, x, direction(k));
+    let side = grid.toward(y, x, direction(k));
     match side {
         Some(j) => {
-            if marks[j] == 1 {
+            if marks[j] == ON_ARROW {
                 return Some(j);
             }
             None
@@ -185,172 +109,233 @@ fn arrow_toward(
     }
 }
 
-// The cells with one more, if there is one.
-fn add(near: Around, side: Option<usize>) -> Around
-    requires { (l m : List ℕ) × Holds l near × (length l < 4) × ArrowSide m side }
-    ensures { (l m : List ℕ) → Holds l near → length l < 4 → ArrowSide m side → Holds (l ++ m) result }
-{
-    match side {
-        Some(j) => {
-            let mut cells = near.cells;
-            let count = near.count;
-            cells[count] = j as u16;
-            Around {
-                cells,
-                count: count + 1,
-            }
-        }
-        None => near,
-    }
-}
-
 // The arrow cells beside the cell at row y, column x: up, left, down, right.
-fn gather(marks: &[u8; 1024], h: usize, w: usize, y: usize, x: usize) -> Around
-    requires { InPlace h w y x }
-    ensures { Holds (filter (marked marks.now) (around (sized h w) (y * w + x))) result }
+fn gather(grid: Grid, marks: &[u8; 1024], y: usize, x: usize) -> NearCells
+    requires { (y < grid.height) × (x < grid.width) }
+    ensures { result ≡ filter (marked marks.now) (around (sized grid.height grid.width) (y * grid.width + x)) }
 {
-    let mut near = Around {
-        cells: [0; 4],
-        count: 0,
-    };
+    let mut near = NearCells::new();
     for k in 0..4 {
-        near = add(near, arrow_toward(marks, h, w, y, x, k));
+        near.add(arrow_toward(grid, marks, y, x, k));
     }
     near
 }
 
-// Writes that the cells x, i and y are not all square.
-fn put_between(out: &mut [u8], at: usize, x: usize, i: usize, y: usize) -> usize
-    requires { (x < 1024) × (i < 1024) × (y < 1024) × Counts at 8 }
-    ensures { Appends at 8 (clause_bytes ((x, 0) ∷ (i, 0) ∷ (y, 0) ∷ [])) out.old out.new result }
-{
-    let a = put(out, at, 3);
-    let b = put(out, a, x);
-    let c = put(out, b, i);
-    put(out, c, y)
+// A sheet that is written: it ends at `at` so far, with room in the output or without.
+#[derive(Drop)]
+struct Sheet<'a> {
+    out: &'a mut [u8],
+    at: usize,
 }
 
-// Writes so of i with the cell at place a and each before it.
-fn write_with(out: &mut [u8], at: usize, i: usize, cells: &[u16; 4], a: usize) -> usize
-    requires { (i < 1024) × (a < 4) × ((k : ℕ) → get_or cells.now k 0 < 1024) × Counts at 32 }
-    ensures { Appends at (a * 8) (with_piece i cells.now a) out.old out.new result }
-{
-    let later = usize::from(cells[a]);
-    let mut end = at;
-    for b in 0..a {
-        end = put_between(out, end, later, i, usize::from(cells[b]));
+impl Sheet<'_> {
+    // Writes a 16-bit number, high byte first.
+    fn put(&mut self, word: usize)
+        requires { (word < 65536) × Counts self.old 2 }
+        ensures { Appends 2 (word_bytes word) self.old self.new }
+    {
+        let at = self.at;
+        self.at = at + 2;
+        if self.out.len() < at + 2 {
+            return;
+        }
+        self.out[at] = (word / 256) as u8;
+        self.out[at + 1] = (word % 256) as u8;
     }
-    end
-}
 
-// Writes so of i with each two of the first `count` cells.
-fn write_pairs(out: &mut [u8], at: usize, i: usize, cells: &[u16; 4], count: usize) -> usize
-    requires { (i < 1024) × (count ≤ 4) × ((k : ℕ) → get_or cells.now k 0 < 1024) × Counts at 128 }
-    ensures { Appends at (count * 32) (flat_map (with_piece i cells.now) (upto count)) out.old out.new result }
-{
-    let mut end = at;
-    for a in 0..count {
-        end = write_with(out, end, i, cells, a);
+    // Writes a clause of one literal.
+    fn put_unit(&mut self, literal: usize)
+        requires { (literal < 65536) × Counts self.old 4 }
+        ensures { Appends 4 (word_bytes 1 ++ word_bytes literal) self.old self.new }
+    {
+        self.put(1);
+        self.put(literal);
     }
-    end
-}
 
-// Writes so of i with each two of its arrow neighbours, if i is not an arrow cell.
-fn between_at(out: &mut [u8], at: usize, marks: &[u8; 1024], h: usize, w: usize, i: usize) -> usize
-    requires { InGrid h w i × Counts at 128 }
-    ensures { Appends at 128 (between_piece marks.now (sized h w) i) out.old out.new result }
-{
-    if marks[i] == 1 {
-        return at;
+    // Writes that a black cell is 0, or a given cell 1.
+    fn put_given(&mut self, code: u8, i: usize)
+        requires { (i < 1024) × Counts self.old 4 }
+        ensures { Appends 4 (clauses_bytes (given_at code i)) self.old self.new }
+    {
+        if code == BLACK {
+            return self.put_unit(i);
+        }
+        if code == GIVEN {
+            return self.put_unit(32768 + i);
+        }
     }
-    let near = gather(marks, h, w, i / w, i % w);
-    let cells = near.cells;
-    let count = near.count;
-    write_pairs(out, at, i, &cells, count)
-}
 
-// Writes the third part.
-fn write_between(out: &mut [u8], at: usize, marks: &[u8; 1024], h: usize, w: usize) -> usize
-    requires { (h ≤ 32) × (w ≤ 32) × Counts at 131072 }
-    ensures { Appends at ((h * w) * 128) (flat_map (between_piece marks.now (sized h w)) (upto (h * w))) out.old out.new result }
-{
-    let mut end = at;
-    for i in 0..h * w {
-        end = between_at(out, end, marks, h, w, i);
+    // Writes the first part. Each part keeps its own loop: one over a closure that writes to the sheet would bound `F.step` place by place, in a clause
+    // longer than the loop.
+    fn write_given(&mut self, codes: &[u8; 1024], n: usize)
+        requires { (n ≤ 1024) × Counts self.old 4096 }
+        ensures { Appends (n * 4) (flat_map (given_piece codes.now) (upto n)) self.old self.new }
+    {
+        for i in 0..n {
+            self.put_given(codes[i], i);
+        }
     }
-    end
-}
 
-// Writes the cell of an arrow at place t as 1, unless it is that at place k.
-fn put_other(out: &mut [u8], at: usize, arrow: &[u16], k: usize, t: usize) -> usize
-    requires { IsArrow arrow.now × (t < length arrow.now) × Counts at 2 }
-    ensures { Appends at 2 (other_piece arrow.now k t) out.old out.new result }
-{
-    if t == k {
-        return at;
+    // Writes that the cells i and j are not both square.
+    fn put_apart(&mut self, i: usize, j: usize)
+        requires { (i < 1024) × (j < 1024) × Counts self.old 6 }
+        ensures { Appends 6 (clause_bytes (apart i j)) self.old self.new }
+    {
+        self.put(2);
+        self.put(i);
+        self.put(j);
     }
-    put(out, at, 32768 + usize::from(arrow[t]))
-}
 
-// Writes the cells of an arrow, but that at place k, as 1.
-fn write_others(out: &mut [u8], at: usize, arrow: &[u16], k: usize) -> usize
-    requires { IsArrow arrow.now × Counts at 2048 }
-    ensures { Appends at (length arrow.now * 2) (flat_map (other_piece arrow.now k) (upto (length arrow.now))) out.old out.new result }
-{
-    let mut end = at;
-    for t in 0..arrow.len() {
-        end = put_other(out, end, arrow, k, t);
+    // Writes so of i and the cell on one side, if there is one.
+    fn put_touching(&mut self, i: usize, side: Option<usize>)
+        requires { (m : List ℕ) × ArrowSide m side × (i < 1024) × Counts self.old 6 }
+        ensures { (m : List ℕ) → ArrowSide m side → Appends 6 (clauses_bytes (map (apart i) m)) self.old self.new }
+    {
+        if let Some(j) = side {
+            self.put_apart(i, j);
+        }
     }
-    end
-}
 
-// Writes that there is a square on this arrow beside its cell at place k.
-fn put_clause(out: &mut [u8], at: usize, arrow: &[u16], k: usize) -> usize
-    requires { IsArrow arrow.now × (0 < length arrow.now) × Counts at 2050 }
-    ensures { Appends at 2050 (clause_piece arrow.now k) out.old out.new result }
-{
-    let end = put(out, at, arrow.len() - 1);
-    write_others(out, end, arrow, k)
-}
-
-// Writes so for each of its cells.
-fn write_arrow(out: &mut [u8], at: usize, arrow: &[u16]) -> usize
-    requires { IsArrow arrow.now × Counts at 2099200 }
-    ensures { Appends at (length arrow.now * 2050) (arrow_piece arrow.now) out.old out.new result }
-{
-    let mut end = at;
-    for k in 0..arrow.len() {
-        end = put_clause(out, end, arrow, k);
+    // Writes so of i and the arrow cells below it and to its right, if i is an arrow cell.
+    fn touching_at(&mut self, grid: Grid, marks: &[u8; 1024], i: usize)
+        requires { (i < grid.height * grid.width) × Counts self.old 12 }
+        ensures { Appends 12 (touching_piece marks.now (sized grid.height grid.width) i) self.old self.new }
+    {
+        if marks[i] != ON_ARROW {
+            return;
+        }
+        let y = i / grid.width;
+        let x = i % grid.width;
+        self.put_touching(i, arrow_toward(grid, marks, y, x, BELOW));
+        self.put_touching(i, arrow_toward(grid, marks, y, x, RIGHT));
     }
-    end
-}
 
-// Writes the fourth part.
-fn write_arrows(out: &mut [u8], at: usize, problem: &Problem) -> usize
-    requires { Lines problem.now.height problem.now.width problem.now.arrows problem.now.ends problem.now.count × Counts at 4198400 }
-    ensures { Appends at 2099200 (flat_map (line_piece problem.now.arrows problem.now.ends) (upto problem.now.count)) out.old out.new result }
-{
-    let mut end = at;
-    let mut from = 0;
-    for k in 0..problem.count {
-        let to = usize::from(problem.ends[k]);
-        end = write_arrow(out, end, &problem.arrows[from..to]);
-        from = to;
+    // Writes the second part.
+    fn write_touching(&mut self, grid: Grid, marks: &[u8; 1024])
+        requires { Counts self.old 12288 }
+        ensures { Appends ((grid.height * grid.width) * 12) (flat_map (touching_piece marks.now (sized grid.height grid.width)) (upto (grid.height * grid.width)))
+            self.old self.new }
+    {
+        for i in 0..grid.size() {
+            self.touching_at(grid, marks, i);
+        }
     }
-    end
+
+    // Writes that the cells x, i and y are not all square.
+    fn put_between(&mut self, x: usize, i: usize, y: usize)
+        requires { (x < 1024) × (i < 1024) × (y < 1024) × Counts self.old 8 }
+        ensures { Appends 8 (clause_bytes ((x, 0) ∷ (i, 0) ∷ (y, 0) ∷ [])) self.old self.new }
+    {
+        self.put(3);
+        self.put(x);
+        self.put(i);
+        self.put(y);
+    }
+
+    // Writes so of i with the near cell at place a and each before it.
+    fn write_with(&mut self, i: usize, near: &NearCells, a: usize)
+        requires { (i < 1024) × (a < 4) × (a < length near.now) × Counts self.old 32 }
+        ensures { Appends (a * 8) (with_piece i near.now a) self.old self.new }
+    {
+        let later = near.cell(a);
+        for b in 0..a {
+            self.put_between(later, i, near.cell(b));
+        }
+    }
+
+    // Writes so of i with each two of its arrow neighbours, if i is not an arrow cell.
+    fn between_at(&mut self, grid: Grid, marks: &[u8; 1024], i: usize)
+        requires { (i < grid.height * grid.width) × Counts self.old 128 }
+        ensures { Appends 128 (between_piece marks.now (sized grid.height grid.width) i) self.old self.new }
+    {
+        if marks[i] == ON_ARROW {
+            return;
+        }
+        let near = gather(grid, marks, i / grid.width, i % grid.width);
+        for a in 0..near.len() {
+            self.write_with(i, &near, a);
+        }
+    }
+
+    // Writes the third part.
+    fn write_between(&mut self, grid: Grid, marks: &[u8; 1024])
+        requires { Counts self.old 131072 }
+        ensures { Appends ((grid.height * grid.width) * 128) (flat_map (between_piece marks.now (sized grid.height grid.width)) (upto (grid.height * grid.width)))
+            self.old self.new }
+    {
+        for i in 0..grid.size() {
+            self.between_at(grid, marks, i);
+        }
+    }
+
+    // Writes the cell of an arrow at place t as 1, unless it is that at place k.
+    fn put_other(&mut self, arrow: &[u16], k: usize, t: usize)
+        requires { IsArrow arrow.now × (t < length arrow.now) × Counts self.old 2 }
+        ensures { Appends 2 (other_piece arrow.now k t) self.old self.new }
+    {
+        if t != k {
+            self.put(32768 + usize::from(arrow[t]));
+        }
+    }
+
+    // Writes that there is a square on this arrow beside its cell at place k: its other cells, as 1.
+    fn put_clause(&mut self, arrow: &[u16], k: usize)
+        requires { IsArrow arrow.now × (0 < length arrow.now) × Counts self.old 2050 }
+        ensures { Appends 2050 (clause_piece arrow.now k) self.old self.new }
+    {
+        self.put(arrow.len() - 1);
+        for t in 0..arrow.len() {
+            self.put_other(arrow, k, t);
+        }
+    }
+
+    // Writes so for each of its cells.
+    fn write_arrow(&mut self, arrow: &[u16])
+        requires { IsArrow arrow.now × Counts self.old 2099200 }
+        ensures { Appends (length arrow.now * 2050) (arrow_piece arrow.now) self.old self.new }
+    {
+        for k in 0..arrow.len() {
+            self.put_clause(arrow, k);
+        }
+    }
+
+    // Writes the fourth part.
+    fn write_arrows(&mut self, problem: &Problem)
+        requires { Lines problem.now.height problem.now.width problem.now.arrows problem.now.ends problem.now.count × Counts self.old 4198400 }
+        ensures { Appends 2099200 (flat_map (line_piece problem.now.arrows problem.now.ends) (upto problem.now.count)) self.old self.new }
+    {
+        let mut from = 0;
+        for k in 0..problem.count {
+            let to = usize::from(problem.ends[k]);
+            self.write_arrow(&problem.arrows[from..to]);
+            from = to;
+        }
+    }
+
+    // Writes the four parts.
+    fn write_parts(&mut self, problem: &Problem, marks: &[u8; 1024])
+        requires { Lines problem.now.height problem.now.width problem.now.arrows problem.now.ends problem.now.count × (self.old.at ≡ 0) }
+        ensures { Appends 2246656 (sheet_piece problem.now marks.now) self.old self.new }
+    {
+        let grid = Grid {
+            height: problem.height,
+            width: problem.width,
+        };
+        self.write_given(&problem.cells, grid.size());
+        self.write_touching(grid, marks);
+        self.write_between(grid, marks);
+        self.write_arrows(problem);
+    }
 }
 
 // Writes the whole sheet, and returns its length.
 fn write_sheet(out: &mut [u8], problem: &Problem, marks: &[u8; 1024]) -> usize
     requires { Lines problem.now.height problem.now.width problem.now.arrows problem.now.ends problem.now.count }
-    ensures { Appends 0 2246656 (sheet_piece problem.now marks.now) out.old out.new result }
+    ensures { Sheeted (sheet_piece problem.now marks.now) out.old out.new result }
 {
-    let h = problem.height;
-    let w = problem.width;
-    let a = write_given(out, 0, &problem.cells, h * w);
-    let b = write_touching(out, a, marks, h, w);
-    let c = write_between(out, b, marks, h, w);
-    write_arrows(out, c, problem)
+    let mut sheet = Sheet { out, at: 0 };
+    sheet.write_parts(problem, marks);
+    sheet.at
 }
 
 // Writes the sheet of a problem; 13 where the output is too short.

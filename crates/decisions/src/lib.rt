@@ -6,14 +6,16 @@ ghost use Rattle.grid.specs.Lists.{all, upto, member};
 ghost use Rattle.grid.specs.Marks.{Marks};
 ghost use Rattle.form.specs.Form.{shown, stated, ordered};
 
+use grid::UNDECIDED;
+
 // Whether the state v is right for a cell with this mark: empty or square where it is marked, else undecided.
 fn right(mark: u8, v: u8) -> bool
     ensures { result ≡ cond (eqb mark 0) (eqb v 2) (leb v 1) }
 {
     if mark == 0 {
-        return v == 2;
+        return v == UNDECIDED;
     }
-    v <= 1
+    v < UNDECIDED
 }
 
 // Whether just the marked cells of the first n are decided.

@@ -1,4 +1,3 @@
-pub mod NegatedLaws
 pub mod BytesLaws
 pub mod OutputLaws
 pub mod WrittenLaws

@@ -1,23 +1,8 @@
-// What an exported call returns, a count or the number of a refusal, negated; and how it writes numbers and bytes to its output.
+// How an exported call writes numbers and bytes to its output.
 #![tactic(auto)]
 
-ghost use Rattle.std.specs.Prelude.{◌≡◌, pos, neg_ℤ, ◌+◌, ◌*◌, ◌≤◌, ◌<◌, ◌++◌, length, take, drop};
+ghost use Rattle.std.specs.Prelude.{◌≡◌, ◌+◌, ◌*◌, ◌≤◌, ◌++◌, length, take, drop};
 ghost use Rattle.exported.specs.Written.{bytes_of};
-
-// The number of a refusal, negated.
-pub fn negated(k: u8) -> i32
-    ensures { result ≡ neg_ℤ (pos k) }
-{
-    -(k as i32)
-}
-
-// A count.
-pub fn counted(n: usize) -> i32
-    requires { n < 2147483648 }
-    ensures { result ≡ pos n }
-{
-    n as i32
-}
 
 // Writes the first `count` numbers to the front of the output, each as two bytes, most significant first.
 pub fn write_numbers(numbers: &[u16], count: usize, output: &mut [u8])
@@ -33,7 +18,7 @@ pub fn write_numbers(numbers: &[u16], count: usize, output: &mut [u8])
 
 // Writes the first n bytes of an array to the output from the place `at` on.
 pub fn write_behind(bytes: &[u8; 1024], n: usize, at: usize, output: &mut [u8])
-    requires { (length bytes.now ≡ 1024) × (n ≤ 1024) × (at + n ≤ length output.old) }
+    requires { (n ≤ 1024) × (at + n ≤ length output.old) }
     ensures { output.new ≡ (take at output.old ++ take n bytes.now) ++ drop (at + n) output.old }
 {
     output[at..at + n].copy_from_slice(&bytes[..n]);

@@ -25,8 +25,7 @@ use Rattle.groups.proofs.MarkLaws.{mask_test}
 use Rattle.kinds.specs.Kinds.{Kind, vacant, barrier, floating, in_block, neighbour, kind_touching, blocks_touched, kind_at, is_in, has, View, view, view_with, in_reach, reach, disturbing, fence_at, fence}
 use Rattle.kinds.specs.Arrays.{kind_code, owner_by, reach_mask}
 use Rattle.kinds.specs.Inside.{puzzle_with, Held}
-use Rattle.fence.specs.Inside.{lit_at, Ordered, in_disturbing, touched, adds, Fenced}
-use Rattle.fence.proofs.Fences.{adds_among}
+use Rattle.fence.specs.Inside.{lit_at, Ordered, in_disturbing, touched, adds, adds_among, Fenced}
 use Rattle.kinds.proofs.BlockArrays.{in_by, kind_get}
 use Rattle.reach.proofs.Reaches.{code_get, owner_get}
 
@@ -226,16 +225,17 @@ length_lit : (K l : List ℕ) → length (map (lit_at K) l) ≡ length l
 length_lit K [] = refl
 length_lit K (x ∷ l) = ap (λ (n : ℕ). suc n) (length_lit K l)
 
--- what the pass leaves
-pub fence_computed : (h w : ℕ) → (values K O marks : List ℕ) (f : ℕ) (before after : List ℕ) (c : ℕ) → Ordered K (h * w) before (adds_among values K O marks (sized h w) f (h * w)) after c
+-- what the pass leaves: `now` is the part as the fence has it, and `after` as it is given back
+pub fence_computed : (h w : ℕ) → (values K O marks : List ℕ) (f : ℕ) (before : List ℕ) {now after : List ℕ} {c : ℕ} → after ≡ now
+    → Ordered K (h * w) before (adds_among values K O marks (sized h w) f (h * w)) now c
     → (arrows : List (List ℕ)) → Held (view (puzzle_with (sized h w) arrows) (take (h * w) values)) K O → marks ≡ reach_mask (view (puzzle_with (sized h w) arrows) (take (h * w) values)) f
     → Fenced (view (puzzle_with (sized h w) arrows) (take (h * w) values)) f before after c
 unfolding size
-fence_computed h w values K O marks f before after c Q arrows H M =
+fence_computed h w values K O marks f before {now} {after} {c} e Q arrows H M =
     let same = fence_list (puzzle_with (sized h w) arrows) Q.small values K O marks f H M in
-    record {
+    rw e (record {
       list = Q.list ∙ same;
       number = Q.number ∙ sym (length_lit K (filter (adds_among values K O marks (sized h w) f (h * w)) (upto (h * w)))) ∙ ap length same ∙ length-map (fence (view (puzzle_with (sized h w) arrows) (take (h * w) values)) f) word;
       rest = Q.rest;
       long = Q.long;
-    }
+    })

@@ -1,6 +1,6 @@
 -- The fence is inserted cell by cell: no code is named here.
 -- Assumes nothing.
-use Prim.Native.Nat.{ℕ, ◌+◌, ◌≤◌, ◌<◌}
+use Prim.Native.Nat.{ℕ, ◌+◌, ◌*◌, ◌≤◌, ◌<◌}
 use native.Mathlib.Decide.{ℕ_discrete, dec_lt}
 use native.Mathlib.Omega.{arith}
 use mathlib.Core.Logic.{◌⊎◌, inl, inr}
@@ -13,10 +13,16 @@ use borrow.Author.Tests.{eqb-true, eq-eqb, ne_eqb, lt-ltb, le-ltb}
 use Rattle.grid.specs.Lists.{range, upto, filter, any}
 use Rattle.kinds.specs.Inside.{of_block}
 use Rattle.grid.specs.Grid.{Grid, neighbours}
+use Rattle.grid.specs.Side.{InGrid}
+use Rattle.grid.specs.declared.Grid.{Grid as Sides}
 use Rattle.grid.proofs.ListLaws.{split, and-true, true-and, So-orl, So-orr, or-So, any-mem, mem-any}
 use Rattle.grid.proofs.AppendLaws.{any-append, any_more, none_more}
-use Rattle.fence.specs.Inside.{key, Place, Inserted, lit_at, Ordered, Whole, in_disturbing, touched, adds}
+use Rattle.fence.specs.Inside.{key, Place, Inserted, lit_at, Ordered, Whole, in_disturbing, touched, adds, adds_among}
 use Rattle.fence.proofs.Ordering.{key_lit, Ordered-same, found, absent, Ordered-insert}
+
+-- a cell of a grid, as the laws of the four neighbours take it
+pub cell_of : (g : Sides) (i : ℕ) → i < g.height * g.width → InGrid g.height g.width i
+cell_of g i h = record { tall = g.tall; wide = g.wide; within = h }
 
 -- nothing is added
 pub none_added : {K base part : List ℕ} {n c : ℕ} (t T : ℕ → Bool) → ((x : ℕ) → T x ≡ false) → Ordered K n base t part c → Ordered K n base (λ x. t x || T x) part c
@@ -209,10 +215,6 @@ module _ (cells K O marks : List ℕ) (g : Grid) (f i : ℕ) where
           rw (ne_eqb (get_or K i 0) 0 k) (true-and r.0 (disturbing_among_whole K O f (neighbours g i) a b r.1 kb o))
 
 -- ---- the cells in row order
-
--- one of the first k cells brings x into the fence
-unfoldable pub adds_among : (cells K O marks : List ℕ) → Grid → ℕ → ℕ → ℕ → Bool
-adds_among cells K O marks g f k x = any (λ i. adds cells K O marks g f i x) (upto k)
 
 module _ (cells K O marks : List ℕ) (g : Grid) (f : ℕ) where
   pub among_Whole : (k : ℕ) → Whole K O (adds_among cells K O marks g f k)

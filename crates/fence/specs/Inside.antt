@@ -50,13 +50,6 @@ pub record Ordered (kinds : List ℕ) (n : ℕ) (base : List ℕ) (test : ℕ �
 abbrev pub Whole : List ℕ → List ℕ → (ℕ → Bool) → Type 0
 Whole kinds owners test = (a b : ℕ) → So (test a) → get_or kinds a 0 ≡ 1 → get_or kinds b 0 ≡ 1 → get_or owners a 0 ≡ get_or owners b 0 → So (test b)
 
--- a part with room for the literals of all cells
-pub record Room (kinds owners : List ℕ) (n : ℕ) (part : List ℕ) (c : ℕ) : Type 0 where
-  pub base : List ℕ
-  pub test : ℕ → Bool
-  pub ordered : Ordered kinds n base test part c
-  pub whole : Whole kinds owners test
-
 module _ (kinds owners : List ℕ) where
   -- cell j is in an arrow block other than f, and x is in the same
   unfoldable pub in_disturbing : ℕ → ℕ → ℕ → Bool
@@ -72,6 +65,10 @@ module _ (cells kinds owners marks : List ℕ) (g : Grid) (f : ℕ) where
   adds i x =
       cond (eqb (get_or kinds i 0) 0) (touched marks g i && eqb i x)
       (eqb (get_or cells i 0) 2 && touched marks g i && any (λ j. in_disturbing kinds owners f j x) (neighbours g i))
+
+-- one of the first k cells brings x into the fence
+unfoldable pub adds_among : (cells kinds owners marks : List ℕ) → Grid → ℕ → ℕ → ℕ → Bool
+adds_among cells kinds owners marks g f k x = any (λ i. adds cells kinds owners marks g f i x) (upto k)
 
 -- the fence of f in the part's first places, the rest as it was
 pub record Fenced (v : View) (f : ℕ) (before after : List ℕ) (r : ℕ) : Type 0 where

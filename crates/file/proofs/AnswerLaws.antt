@@ -29,6 +29,8 @@ use Rattle.record.specs.declared.Problem.{Problem}
 use Rattle.record.proofs.ProblemLaws.{problem_puzzle}
 use Rattle.record.proofs.RecordLaws.{Valid-size}
 use Rattle.record.proofs.HeadLaws.{head_bytes, head_Valid, head_length}
+use Rattle.form.specs.Form.{problem_formed}
+use Rattle.form.proofs.ProblemForm.{is_Formed, valid_Formed}
 use Rattle.exported.specs.Written.{output_with}
 use Rattle.writer.proofs.ArrayLaws.{total, length_in}
 use Rattle.finished.specs.Finished.{Finished, finished_test}
@@ -88,6 +90,12 @@ head_fault s e = head_no (read_head s) e
 pub head_ok : (s : List ℕ) {q : Problem} → ok q ≡ as_problem (puzzle_in (read_head s)) → (h : Head) × (read_head s ≡ ok h) × (q ≡ problem_of h.puzzle)
 head_ok s e = head_yes (read_head s) e
 
+-- it is well formed
+pub head_formed : (s : List ℕ) (q : Problem) → ok q ≡ as_problem (puzzle_in (read_head s)) → problem_formed q ≡ true
+head_formed s q e =
+    let h = head_ok s e in
+    rw h.2 (is_Formed (problem_of h.0.puzzle) (valid_Formed h.0.puzzle (head_Valid s h.1)))
+
 pub player_unread : (n : ℕ) (s : List ℕ) {k : ℕ} → read_head s ≡ refused k → player_within n s ≡ refused k
 unfolding player_within ◌>>=◌
 player_unread n s e = rw e refl
@@ -126,6 +134,23 @@ module _ (s : List ℕ) {h : Head} (r : read_head s ≡ ok h) where
         ∙ array_take 0 (solution_in (tail_of s h) (cells_in h)) in
         t ∙ ap (λ (x : Puzzle). finished_test (in_edition e x) (take (q.height * q.width) cells)) p ∙ ap (finished_test (in_edition e h.puzzle)) l
 
+-- a file whose record is read into arrays: where the record ends, how many cells it has, and whether a tail stands behind it
+pub record Behind (s : List ℕ) (q : Problem) (length : ℕ) (tail : Bool) : Type 0 where
+  pub head : Head
+  pub reads : read_head s ≡ ok head
+  pub is : q ≡ problem_of head.puzzle
+  pub bytes : length ≡ head.bytes
+  pub cells : q.height * q.width ≡ cells_in head
+  pub tailed : tail ≡ tail_test (tail_of s head) (cells_in head)
+
+pub behind : (s : List ℕ) {q : Problem} → ok q ≡ as_problem (puzzle_in (read_head s)) → {n : ℕ} → n ≡ bytes_for (21 + 2 * (q.height * q.width) + 18 * q.count + 2 * total q.ends q.count)
+    → {b : Bool} → b ≡ tail_test (drop n s) (q.height * q.width) → Behind s q n b
+behind s {q} o {n} e {b} t =
+    let h = head_ok s o in
+    let w = length_found s h.1 q h.2 n e in
+    record { head = h.0; reads = h.1; is = h.2; bytes = w; cells = cells_found s h.1 q h.2; tailed = tested s h.1 q h.2 n w b t }
+
+module _ (s : List ℕ) {h : Head} (r : read_head s ≡ ok h) where
   module _ (n : ℕ) where
     pub player_11 : n < 1 → player_within n s ≡ refused 11
     unfolding player_within ◌>>=◌ unless

@@ -4,18 +4,16 @@
 
 ghost use Rattle.std.specs.Prelude.{◌≡◌, [], ◌∷◌, ◌++◌, ◌+◌, ◌*◌, ◌≤◌, length, take, drop};
 ghost use Rattle.grid.specs.Lists.{array_of};
-ghost use Rattle.refusal.specs.Refusals.{outcome_of, ok};
-ghost use Rattle.record.specs.Head.{Head, read_head};
-ghost use Rattle.record.specs.Problem.{problem_of};
+ghost use Rattle.refusal.specs.Refusals.{outcome_of};
 ghost use Rattle.exported.specs.Written.{output_with};
 ghost use Rattle.file.specs.File.{tail_test, grade_in, solution_in, read_player, read_setter};
 ghost use Rattle.file.specs.Answers.{player_of, setter_of, Gives};
 ghost use Rattle.file.specs.Call.{player_within, setter_within, player_given, setter_given, given_length, given_bytes};
 
-use call::edition_of;
 use exported::write_behind;
 use record::Problem;
 use refusal::Refusal;
+use sizes::Edition;
 
 // What the player's reader gives: the record's length in bytes and the grade.
 #[derive(Clone, Copy, Debug, PartialEq, Eq)]
@@ -63,11 +61,11 @@ fn read_solution(file: &[u8], from: usize, n: usize, cells: &mut [u8; 1024])
     }
 }
 
-// The player's reader behind the record of a problem, for an output of `room` bytes: 11, then 20.
-fn player_behind(problem: &Problem, file: &[u8], room: usize) -> Result<Player, Refusal>
-    requires { (h : Head) × (read_head file.now ≡ ok h) × (problem.now ≡ problem_of h.puzzle) }
-    ensures { (h : Head) → read_head file.now ≡ ok h → problem.now ≡ problem_of h.puzzle → outcome_of result ≡ player_of (player_within room file.now) }
+// The player's reader for an output of `room` bytes: 1 to 5, 11, 20.
+fn player_within(file: &[u8], room: usize) -> Result<Player, Refusal>
+    ensures { outcome_of result ≡ player_of (player_within room file.now) }
 {
+    let problem = Problem::read_head(file)?;
     if room < 1 {
         return Err(Refusal::OutputShort);
     }
@@ -81,24 +79,12 @@ fn player_behind(problem: &Problem, file: &[u8], room: usize) -> Result<Player, 
     })
 }
 
-// The player's reader for an output of `room` bytes: 1 to 5, 11, 20.
-fn player_within(file: &[u8], room: usize) -> Result<Player, Refusal>
-    ensures { outcome_of result ≡ player_of (player_within room file.now) }
+// The setter's reader for an output of `room` bytes: 1 to 5, 11, 20, 16, 21.
+#[tactic(auto, using(crate::proofs::AnswerLaws::head_formed))]
+fn setter_within(file: &[u8], edition: u32, room: usize) -> Result<Setter, Refusal>
+    ensures { outcome_of result ≡ setter_of (setter_within room edition file.now) }
 {
     let problem = Problem::read_head(file)?;
-    player_behind(&problem, file, room)
-}
-
-// The setter's reader behind the record of a problem, for an output of `room` bytes: 11, then 20, 16, 21.
-fn setter_behind(
-    problem: &Problem,
-    file: &[u8],
-    edition: u32,
-    room: usize,
-) -> Result<Setter, Refusal>
-    requires { (h : Head) × (read_head file.now ≡ ok h) × (problem.now ≡ problem_of h.puzzle) }
-    ensures { (h : Head) → read_head file.now ≡ ok h → problem.now ≡ problem_of h.puzzle → outcome_of result ≡ setter_of (setter_within room edition file.now) }
-{
     let n = problem.height * problem.width;
     if room < 1 + n {
         return Err(Refusal::OutputShort);
@@ -107,25 +93,10 @@ fn setter_behind(
     if !is_tail(file, length, n) {
         return Err(Refusal::Tail);
     }
-    let e = edition_of(edition);
-    if e == 0 {
-        return Err(Refusal::Edition);
-    }
+    let edition = Edition::try_from(edition)?;
     let mut cells = [0; 1024];
     read_solution(file, length, n, &mut cells);
-    let yes = finished::is_finished(
-        e,
-        &[],
-        &[],
-        &problem.cells,
-        &cells,
-        &problem.arrows,
-        &problem.ends,
-        problem.count,
-        problem.height,
-        problem.width,
-    );
-    if !yes {
+    if !finished::is_finished(&call::bare(&problem, edition), &cells) {
         return Err(Refusal::Unfinished);
     }
     Ok(Setter {
@@ -134,14 +105,6 @@ fn setter_behind(
         count: n,
         cells,
     })
-}
-
-// The setter's reader for an output of `room` bytes: 1 to 5, 11, 20, 16, 21.
-fn setter_within(file: &[u8], edition: u32, room: usize) -> Result<Setter, Refusal>
-    ensures { outcome_of result ≡ setter_of (setter_within room edition file.now) }
-{
-    let heading = Problem::read_head(file)?;
-    setter_behind(&heading, file, edition, room)
 }
 
 // The player's reader: the record's length and the grade. Refused: the record's first fault, 1 to 5, of which 5 counts filler of the record only,

@@ -2,46 +2,41 @@
 -- Assumes nothing.
 use Prim.Native.Nat.{ℕ, ◌≤◌}
 use native.Mathlib.Omega.{arith}
-use mathlib.Core.Bool.{Bool, true, not}
+use mathlib.Core.Bool.{Bool, true, false, not}
 use mathlib.Core.Path.{◌≡◌, refl}
 use mathlib.Core.List.{List, []}
 use lib.Dec.{eqb}
+use mir.Val.{bool_byte}
 use Rattle.record.specs.Problem.{number_of}
 use Rattle.board.specs.Kept.{open_of}
 use Rattle.board.specs.Decide.{decide_all_of}
 use Rattle.board.specs.declared.Board.{Board}
 use Rattle.board.specs.Answers.{told, opened_as, decided_as}
-use Rattle.record.specs.declared.Answer.{Answer}
-use Rattle.record.specs.declared.Answer.TheVariants.{Done, Refused}
+use Rattle.record.specs.Problem.{Answer, Done, Refused}
 use Rattle.refusal.specs.Refusals.{ok, refused}
 use Rattle.refusal.specs.Refusals as refusals
 use Rattle.refusal.specs.declared.Refusal.{Refusal}
 use Rattle.refusal.specs.declared.Refusal.TheVariants as refusals-of
-use Rattle.finished.specs.declared.Verdict.{Verdict}
-use Rattle.finished.specs.declared.Verdict.TheVariants as verdicts
+use Rattle.finished.specs.Verdicts.{Verdict, judged_as}
+use Rattle.finished.specs.Verdicts as verdicts
 use Rattle.replay.specs.Comparisons.{DiffersUnless}
 use Rattle.replay.proofs.ComparisonLaws.{fails, numbers_told}
 use Rattle.find_replay.specs.Entries.{VerdictSo, BoardSo, EntrySo}
 
-module _ {v : Verdict} (n : ℕ) where
-  -- a finished board
-  pub yes_told : v ≡ verdicts.Yes → DiffersUnless (not (eqb n 1)) (VerdictSo v n)
+module _ (n : ℕ) where
+  -- an answer, by the number that is computed of it
+  pub answer_told : (t : Bool) (v : Verdict) → ok t ≡ judged_as v → DiffersUnless (not (eqb n (bool_byte t))) (VerdictSo v n)
   unfolding VerdictSo
-  yes_told e = rw e (numbers_told n 1)
-
-  -- a board that is not finished
-  pub no_told : v ≡ verdicts.No → DiffersUnless (not (eqb n 0)) (VerdictSo v n)
-  unfolding VerdictSo
-  no_told e = rw e (numbers_told n 0)
+  answer_told t verdicts.Yes e = let z : t ≡ true = cc in rw z (numbers_told n 1)
+  answer_told t verdicts.No e = let z : t ≡ false = cc in rw z (numbers_told n 0)
+  answer_told t (verdicts.Refused k) e = let z : ◌≡◌ {A = ℕ} 0 1 = cc in absurd (omega arith)
 
   -- a refusal is never said
-  pub refused_told : (k : ℕ) → v ≡ verdicts.Refused k → DiffersUnless true (VerdictSo v n)
+  pub refused_told : (v : Verdict) {k : ℕ} → refused k ≡ judged_as v → DiffersUnless true (VerdictSo v n)
   unfolding VerdictSo
-  refused_told k e = rw e (fails (λ f. f))
-
--- an answer for the verdict and the number that were computed
-pub verdict_told : {v w : Verdict} {n m : ℕ} {r : Bool} → v ≡ w → n ≡ m → DiffersUnless r (VerdictSo v n) → DiffersUnless r (VerdictSo w m)
-verdict_told e f d = rw (← e, ← f) d
+  refused_told verdicts.Yes e = let z : ◌≡◌ {A = ℕ} 0 1 = cc in absurd (omega arith)
+  refused_told verdicts.No e = let z : ◌≡◌ {A = ℕ} 0 1 = cc in absurd (omega arith)
+  refused_told (verdicts.Refused k) e = fails (λ f. f)
 
 -- the number of a refusal is not 0
 positive : (r : Refusal) → 1 ≤ refusals.number_of r

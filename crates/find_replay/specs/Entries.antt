@@ -5,9 +5,7 @@ use Rattle.record.specs.Problem.{number_of}
 use Rattle.board.specs.Kept.{open_of}
 use Rattle.board.specs.Decide.{decide_all_of}
 use Rattle.board.specs.declared.Board.{Board}
-use Rattle.finished.specs.declared.Verdict.{Verdict}
-use Rattle.finished.specs.declared.Verdict.TheVariants.{Yes, No, Refused}
-use Rattle.finished.specs.Verdicts.{finished_of}
+use Rattle.finished.specs.Verdicts.{Verdict, Yes, No, Refused, finished_of}
 use Rattle.replay.specs.Lists.{number_in}
 use Rattle.finds.specs.Finds.{FindsSo}
 

@@ -8,51 +8,52 @@
 // and a byte, 1 for a finished board and 0 for another. A u16 has its high byte first.
 #![tactic(auto)]
 
-ghost use Rattle.std.specs.Prelude.{◌+◌, ◌*◌, ◌<◌, length};
+ghost use Rattle.std.specs.Prelude.{◌≡◌, ◌+◌, ◌*◌, ◌<◌, length};
+ghost use Rattle.refusal.specs.Refusals.{outcome_of};
+ghost use Rattle.finished.specs.Verdicts.{Verdict, judged_as};
 ghost use Rattle.replay.specs.Comparisons.{DiffersUnless};
 ghost use Rattle.find_replay.specs.Entries.{VerdictSo, BoardSo, EntrySo};
 
 use board::Board;
-use finds::Way;
-use finished::Verdict;
+use finds::{Find, Literals, Way};
+use refusal::Refusal;
 use replay::{Cursor, Entries, Run};
 use std::io;
 
-// Whether a verdict is not the one for this number: 1 for a finished board, 0 for another.
-fn verdict_differs(verdict: Verdict, number: usize) -> bool
-    ensures { DiffersUnless result (VerdictSo verdict number) }
+// Whether an answer of `finished` is not the one for this number: 1 for a finished board, 0 for another.
+fn verdict_differs(answer: Result<bool, Refusal>, number: usize) -> bool
+    ensures { (v : Verdict) → outcome_of answer ≡ judged_as v → DiffersUnless result (VerdictSo v number) }
 {
-    match verdict {
-        Verdict::Yes => number != 1,
-        Verdict::No => number != 0,
-        Verdict::Refused(_) => true,
+    match answer {
+        Ok(finished) => number != usize::from(finished),
+        Err(_) => true,
     }
 }
 
-// Whether find or finished on the board differs from the list from `at` on. Player 0 finds, and the whole buffer is lent.
-fn board_differs(list: &[u8], rounds: usize, at: usize, count: usize, board: Board) -> bool
-    requires { at + 2 * count < length list.now }
-    ensures { DiffersUnless result (BoardSo board list.now at count) }
+// Whether find on the board differs from these literals, or finished from the byte behind them. Player 0 finds, and the whole buffer is lent.
+fn board_differs(board: Board, rounds: usize, literals: Literals<'_>) -> bool
+    requires { literals.at + 2 * literals.count < length literals.list.now }
+    ensures { DiffersUnless result (BoardSo board literals.entry.list.now literals.entry.at literals.entry.count) }
 {
-    finds::find_differs(list, at, count, board, 0, 4096, 0, Way::Value(rounds)).differs
-        || verdict_differs(
-            finished::finished(board),
-            replay::byte_at(list, at + 2 * count),
-        )
+    let find = Find {
+        player: 0,
+        size: 4096,
+    };
+    let verdict = replay::byte_at(literals.list, literals.at + 2 * literals.count);
+    finds::find_differs(board, find, Way::Value(rounds), 0, literals).differs
+        || verdict_differs(finished::finished(board), verdict)
 }
 
-// Whether the board of a record in an edition, without sizes, with these decisions is refused, or differs from the list from `at` on.
+// Whether the board of a record in an edition, without sizes, with these decisions is refused, or differs from what the list says from the literals on.
 fn entry_differs(
-    list: &[u8],
-    rounds: usize,
     record: &[u8],
     edition: u8,
     decisions: &[u8],
-    at: usize,
-    count: usize,
+    rounds: usize,
+    literals: Literals<'_>,
 ) -> bool
-    requires { at + 2 * count < length list.now }
-    ensures { DiffersUnless result (EntrySo «record».now edition decisions.now list.now at count) }
+    requires { literals.at + 2 * literals.count < length literals.list.now }
+    ensures { DiffersUnless result (EntrySo «record».now edition decisions.now literals.entry.list.now literals.entry.at literals.entry.count) }
 {
     let Ok(fresh) = Board::open(record, edition, &[]) else {
         return true;
@@ -60,7 +61,7 @@ fn entry_differs(
     let Ok(board) = fresh.decide_all(decisions) else {
         return true;
     };
-    board_differs(list, rounds, at, count, board)
+    board_differs(board, rounds, literals)
 }
 
 // Boards, each with a find and a verdict, and how often find is called on each.
@@ -87,10 +88,13 @@ impl Entries for Boards {
         let decisions = cursor.number()?;
         let decisions = cursor.take(2 * decisions)?;
         let count = cursor.number()?;
-        let literals = cursor.at;
+        let literals = Literals {
+            list,
+            at: cursor.at,
+            count,
+        };
         cursor.take(2 * count + 1)?;
-        let rounds = self.rounds;
-        let differs = entry_differs(list, rounds, bytes, edition, decisions, literals, count);
+        let differs = entry_differs(bytes, edition, decisions, self.rounds, literals);
         Some(Run::of(differs, cursor.at))
     }
 }

@@ -3,7 +3,7 @@
 use Prim.Native.Nat.{ℕ, zero, suc, ◌≤◌}
 use native.Mathlib.Omega.{arith}
 use mathlib.Core.Bool.{Bool, true, false, not, ◌||◌}
-use mathlib.Core.Path.{◌≡◌, refl, sym, ap, ◌∙◌}
+use mathlib.Core.Path.{◌≡◌, refl, ap, ◌∙◌}
 use mathlib.Core.List.{List, ◌++◌, map}
 use mathlib.Core.Option.{none, some}
 use lib.Dec.{eqb}
@@ -13,13 +13,12 @@ use borrow.Author.Tests.{eqb-true, eqb-false, not-true, not-false, ne_eqb}
 use Rattle.grid.specs.Cells.{word}
 use Rattle.board.specs.Hints.{find_refusal, after_find}
 use Rattle.board.specs.declared.Board.{Board}
-use Rattle.literals.specs.declared.Finding.{Finding}
-use Rattle.literals.specs.declared.Finding.TheVariants.{Nothing, Reason, Refused}
+use Rattle.literals.specs.Buffer.{Finding, Nothing, Reason, Refused}
 use Rattle.literals.specs.Literals.{Found}
 use Rattle.literals.specs.Buffer.{buffer_by}
 use Rattle.replay.specs.Comparisons.{DiffersUnless}
 use Rattle.replay.specs.Lists.{differs}
-use Rattle.replay.proofs.ComparisonLaws.{holds, fails, then_differs, same_differs, test_told}
+use Rattle.replay.proofs.ComparisonLaws.{holds, fails, then_differs, test_told}
 use Rattle.std.specs.Prelude.{Option, Some, None}
 use Rattle.refusal.specs.Refusals.{ok, refused}
 use Rattle.reasons.specs.Find.{reason_on, find_of, found_as, buffer_after}

@@ -2,8 +2,7 @@
 -- Assumes nothing.
 use Rattle.std.specs.Prelude.{ℕ, zero, suc, false, ◌≡◌, List, ◌++◌, take, drop, replicate}
 use Rattle.board.specs.declared.Board.{Board}
-use Rattle.literals.specs.declared.Finding.{Finding}
-use Rattle.literals.specs.declared.Finding.TheVariants.{Nothing, Reason, Refused}
+use Rattle.literals.specs.Buffer.{Finding, Nothing, Reason, Refused}
 use Rattle.replay.specs.Lists.{differs}
 use Rattle.reasons.specs.Find.{find_of, buffer_after}
 

@@ -5,7 +5,7 @@
 ghost use Rattle.std.specs.Prelude.{◌≡◌, ◌≤◌, length};
 ghost use Rattle.board.specs.Hints.{after_find};
 ghost use Rattle.refusal.specs.Refusals.{outcome_of};
-ghost use Rattle.literals.specs.declared.Finding.{Finding};
+ghost use Rattle.literals.specs.Buffer.{Finding};
 ghost use Rattle.reasons.specs.Find.{find_of, found_as, buffer_after};
 ghost use Rattle.replay.specs.Comparisons.{DiffersUnless};
 ghost use Rattle.replay.specs.Lists.{number_in};
@@ -67,7 +67,7 @@ pub enum Way {
 }
 
 // Finds in this way.
-fn find(way: Way, board: Board, player: u8, buffer: &mut [u16]) -> Asked
+fn make(way: Way, board: Board, player: u8, buffer: &mut [u16]) -> Asked
     ensures { (outcome_of result.finding ≡ found_as (find_of board player buffer.old)) × (result.board ≡ after_find board player (length buffer.old))
         × (buffer.new ≡ buffer_after board player buffer.old) }
 {
@@ -77,6 +77,23 @@ fn find(way: Way, board: Board, player: u8, buffer: &mut [u16]) -> Asked
     }
 }
 
+// A find of a player that is lent so many first places of a fresh buffer.
+#[derive(Clone, Copy)]
+pub struct Find {
+    pub player: u8,
+    pub size: usize,
+    ghost room: { size ≤ 4096 },
+}
+
+// The literals that a list says of a find: so many, from a place on, none for no reason.
+#[derive(Clone, Copy)]
+pub struct Literals<'a> {
+    pub list: &'a [u8],
+    pub at: usize,
+    pub count: usize,
+    ghost inside: { at ≤ length list.now },
+}
+
 // A find that was made: whether it differs from what a list says of it, and the board that it left.
 #[derive(Clone, Copy)]
 pub struct Made {
@@ -84,34 +101,25 @@ pub struct Made {
     pub board: Board,
 }
 
-// Makes a find of the player on the board, with `size` places lent: whether it differs from this refusal and the literals of the list from `at` on, and
-// the board that it leaves.
+// Makes the find on the board in this way: whether it differs from this refusal, or, where that is 0, from these literals, and the board that it leaves.
 pub fn find_differs(
-    list: &[u8],
-    at: usize,
-    count: usize,
     board: Board,
-    player: u8,
-    size: usize,
-    refusal: usize,
+    find: Find,
     way: Way,
+    refusal: usize,
+    literals: Literals<'_>,
 ) -> Made
-    requires { (at ≤ length list.now) × (size ≤ 4096) }
-    ensures { (result.board ≡ after_find board player size)
-        × DiffersUnless result.differs (FindsSo board player size refusal count (number_in list.now at count 65535)) }
+    ensures left { result.board ≡ after_find board find.player find.size }
+    ensures told { DiffersUnless result.differs (FindsSo board find.player find.size refusal literals.entry.count
+        (number_in literals.entry.list.now literals.entry.at literals.entry.count 65535)) }
 {
     let mut buffer = replay::fresh_buffer();
-    let asked = find(way, board, player, &mut buffer[..size]);
-    let found = asked.finding;
-    let left = asked.board;
-    if finding_differs(found, refusal, count) {
-        return Made {
-            differs: true,
-            board: left,
-        };
-    }
+    let asked = make(way, board, find.player, &mut buffer[..find.size]);
+    let Literals { list, at, count } = literals;
+    let differs = finding_differs(asked.finding, refusal, count)
+        || replay::literals_differ(list, at, count, &buffer);
     Made {
-        differs: replay::literals_differ(list, at, count, &buffer),
-        board: left,
+        differs,
+        board: asked.board,
     }
 }

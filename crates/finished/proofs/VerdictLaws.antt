@@ -13,7 +13,6 @@ use lib.Seq.{get_or-take, length-take-le}
 use borrow.Author.Tests.{eqb-true}
 use Rattle.grid.specs.Lists.{upto, all, filter}
 use Rattle.grid.specs.Grid.{size}
-use Rattle.grid.specs.Side.{sized}
 use Rattle.grid.specs.Cells.{square, undecided}
 use Rattle.grid.proofs.ListLaws.{and-true, all-mem, mem-upto, upto-mem, So-false}
 use Rattle.grid.proofs.AppendLaws.{all_agree, filter_agree}
@@ -32,18 +31,18 @@ use Rattle.board.proofs.BoardForm.{Whole-is}
 use Rattle.groups.specs.Arrays.{lines_of}
 use Rattle.groups.specs.Rules.{BlockRules, rules_test}
 use Rattle.groups.proofs.RulesLaws.{rules_test_lem, test_rules}
-use Rattle.kinds.specs.Inside.{puzzle_with}
 use Rattle.kinds.specs.Meaning.{Setting}
 use Rattle.literals.specs.Literals.{Found}
 use Rattle.literals.specs.Inside.{count_of, FoundAs}
 use Rattle.std.specs.Prelude.{Option, None, is_none}
 use Rattle.reasons.specs.Reasons.{find_reason}
 use Rattle.reasons.specs.Find.{leaf_on, cells_on}
-use Rattle.reasons.proofs.BoardArrays.{problem_arrays, codes_aside}
+use Rattle.board.proofs.BoardArrays.{problem_arrays}
 use Rattle.reasons.proofs.Sound.{complete}
 use Rattle.finished.specs.Finished.{Finished, keeps, keeps_all, two_squares, all_but_rules, finished_test}
-use Rattle.finished.specs.Verdicts.{verdict, finished_of}
-use Rattle.finished.specs.declared.Verdict.TheVariants as verdicts
+use Rattle.refusal.specs.Refusals.{ok, refused}
+use Rattle.finished.specs.Verdicts.{verdict, judged_as, finished_of}
+use Rattle.finished.specs.Verdicts as verdicts
 use Rattle.finished.proofs.FinishedLaws.{kept, Finished-means}
 
 module _ (q : Problem) (f : Formed q) where
@@ -138,31 +137,29 @@ module _ (q : Problem) (f : Formed q) where
           clash : find_reason leaf cells ≡ none → ⊥
           clash n = let z : ◌≡◌ {A = ℕ} 0 1 = cc in omega arith
 
-      -- the reason is looked for by the grid and the arrows alone
-      same : find_reason (leaf_with edition sizes (puzzle_with (sized q.height q.width) (lines_of q.arrows q.ends q.count))) cells ≡ find_reason leaf cells
-      unfolding puzzle_of grid_of
-      same = codes_aside leaf cells
+      -- what the search for it tells
+      pub reason_tells : {before after : List ℕ} {r : Option ℕ} → FoundAs (find_reason leaf cells) before after r → is_none r ≡ finished_test leaf cells
+      reason_tells x = rw x.answer (by_reason (find_reason leaf cells) refl)
 
-      -- what the search for it on the arrays tells
-      pub reason_tells : {before after : List ℕ} {r : Option ℕ} → FoundAs (find_reason (leaf_with edition sizes (puzzle_with (sized q.height q.width) (lines_of q.arrows q.ends q.count))) cells) before after r
-          → is_none r ≡ finished_test leaf cells
-      reason_tells x = rw (x.answer, same) (by_reason (find_reason leaf cells) refl)
-
-      pub no_reason : {before after : List ℕ} → FoundAs (find_reason (leaf_with edition sizes (puzzle_with (sized q.height q.width) (lines_of q.arrows q.ends q.count))) cells) before after None
-          → true ≡ finished_test leaf cells
+      pub no_reason : {before after : List ℕ} → FoundAs (find_reason leaf cells) before after None → true ≡ finished_test leaf cells
       no_reason x = reason_tells x
 
 -- ---- of a board
 
 -- 6
-pub finished_ill : (b : Board) → well_formed b ≡ false → verdicts.Refused 6 ≡ finished_of b
+pub finished_ill : (b : Board) → well_formed b ≡ false → refused 6 ≡ judged_as (finished_of b)
 unfolding finished_of
 finished_ill b h = rw h refl
 
--- what its arrays say
-pub finished_by : (b : Board) → well_formed b ≡ true → (t : Bool) → t ≡ finished_test (leaf_on b) (take (b.problem.height * b.problem.width) b.cells) → verdict t ≡ finished_of b
-unfolding finished_of cells_on grid_of size
-finished_by b h t e = rw (h, ← e) refl
+-- what the test of the leaf that it lends says
+pub finished_told : (b : Board) {lent : Leaf} {q : Problem} → well_formed b ≡ true → lent ≡ leaf_on b → q ≡ b.problem
+    → (t : Bool) → t ≡ finished_test lent (take (q.height * q.width) b.cells) → ok t ≡ judged_as (finished_of b)
+unfolding finished_of verdict cells_on grid_of size
+finished_told b h l s t e = rw (h, ← rw (l, s) at e) (go t)
+  where
+    go : (u : Bool) → ok u ≡ judged_as (verdict u)
+    go true = refl
+    go false = refl
 
 -- `finished` says yes of a well-formed board exactly when it is finished
 pub Finished-exact : (b : Board) → well_formed b ≡ true → (finished_of b ≡ verdicts.Yes) ↔ Finished (leaf_on b) (cells_on b)

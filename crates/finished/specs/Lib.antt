@@ -1,3 +1,3 @@
+pub mod Counting
 pub mod Finished
-pub mod Inside
 pub mod Verdicts

@@ -1,12 +1,23 @@
 -- What `finished` answers.
 -- Assumes nothing.
-use Rattle.std.specs.Prelude.{Bool, true, false, cond}
+use Rattle.std.specs.Prelude.{ℕ, Bool, true, false, cond}
 use Rattle.board.specs.Form.{well_formed}
 use Rattle.board.specs.declared.Board.{Board}
 use Rattle.reasons.specs.Find.{leaf_on, cells_on}
-use Rattle.finished.specs.declared.Verdict.{Verdict}
-use Rattle.finished.specs.declared.Verdict.TheVariants.{Yes, No, Refused}
+use Rattle.refusal.specs.Refusals.{Outcome, ok, refused}
 use Rattle.finished.specs.Finished.{finished_test}
+
+-- yes, no, or a refusal by its number
+pub data Verdict : Type 0 where
+  Yes : Verdict
+  No : Verdict
+  Refused : ℕ → Verdict
+
+-- the same as an outcome
+abbrev pub judged_as : Verdict → Outcome Bool
+judged_as Yes = ok true
+judged_as No = ok false
+judged_as (Refused k) = refused k
 
 -- yes where the test passes
 unfoldable pub verdict : Bool → Verdict

@@ -1,31 +1,15 @@
--- The neighbours of a cell in four places: gathered direction by direction, and read by callers.
+-- The neighbours of a cell, gathered direction by direction.
 -- Assumes nothing.
-use Prim.Native.Nat.{ℕ, zero, suc, ◌+◌, ◌-◌, ◌*◌, ◌/◌, ◌%◌, ◌≤◌, ◌<◌}
+use Prim.Native.Nat.{ℕ, zero, suc, ◌+◌, ◌*◌, ◌/◌, ◌%◌, ◌≤◌}
 use native.Mathlib.Omega.{arith}
 use native.Mathlib.Nat.{div-add-mod'}
 use native.Mathlib.Numerals.{add-one}
 use mathlib.Core.Path.{◌≡◌, refl, sym, ◌∙◌, subst}
-use mathlib.Core.Bool.{Bool, true, false}
-use mathlib.Core.List.{List, [], ◌∷◌, ◌++◌, append_assoc, append-nil, Memᴰ}
-use lib.ListN.{length, get_or, set, replicate, length-append, get_or-append}
-use lib.Seq.{set_at}
+use mathlib.Core.List.{List, [], ◌∷◌, ◌++◌, append_assoc, append-nil}
 use Rattle.std.specs.Prelude.{Option, Some, None}
-use Rattle.grid.specs.Grid.{Grid, size, only, up, down, left, right, neighbours, Adjacent}
-use Rattle.grid.specs.Side.{sized, towards, beside_of, around_of, InGrid}
-use Rattle.grid.proofs.GridLaws.{beside, on_grid}
-use Rattle.grid.proofs.ListLaws.{at_mem}
+use Rattle.grid.specs.Grid.{Grid, size, neighbours, Adjacent}
+use Rattle.grid.specs.Side.{sized, towards, beside_of, InGrid}
 use Rattle.grid.proofs.SideLaws.{beside_at, beside_off, beside_Adjacent, beside_in}
-
--- a list in four places, 0 behind it
-abbrev pub four : List ℕ → List ℕ
-four l = l ++ replicate (4 - length l) 0
-
--- one more
-pub four_more : (l : List ℕ) (j : ℕ) → length l < 4 → set (four l) (length l) j ≡ four (l ++ (j ∷ []))
-four_more l j h = go (4 - length l) (4 - length (l ++ (j ∷ []))) (omega (arith, length-append l (j ∷ [])))
-  where
-    go : (m n : ℕ) → m ≡ suc n → set (l ++ replicate m 0) (length l) j ≡ (l ++ (j ∷ [])) ++ replicate n 0
-    go m n e = rw e (set_at l 0 (replicate n 0) j (length l) refl ∙ sym (append_assoc l (j ∷ []) (replicate n 0)))
 
 -- the neighbours in the first k directions
 unfoldable pub gathered : Grid → ℕ → ℕ → List ℕ
@@ -47,78 +31,6 @@ module _ (g : Grid) (i : ℕ) where
   pub gathered_all : gathered g i 4 ≡ neighbours g i
   unfolding gathered towards neighbours
   gathered_all = simp append_assoc
-
--- the neighbours in the first k directions, as they stand in the places
-pub record Gathered (g : Grid) (i k : ℕ) (cells : List ℕ) (count : ℕ) : Type 0 where
-  pub places : cells ≡ four (gathered g i k)
-  pub number : count ≡ length (gathered g i k)
-  pub few : length (gathered g i k) ≤ k
-
-module _ (g : Grid) (i : ℕ) where
-  -- none yet
-  pub Gathered-none : Gathered g i 0 (four []) 0
-  unfolding gathered
-  Gathered-none = record { places = refl; number = refl; few = omega arith }
-
-  -- a direction with a neighbour
-  pub Gathered-at : (k j : ℕ) (cells : List ℕ) (count : ℕ) → k < 4 → Gathered g i k cells count → Some j ≡ beside_of g i k → Gathered g i (k + 1) (set cells count j) (count + 1)
-  Gathered-at k j cells count h G e =
-      let next = gathered_next g i k j e in
-      let long = length-append (gathered g i k) (j ∷ []) in
-      record {
-        places = rw (G.places, G.number, next) (four_more (gathered g i k) j (omega (arith, G.few)));
-        number = rw next (omega (arith, G.number, long));
-        few = rw next (omega (arith, G.few, long));
-      }
-
-  -- a direction without a neighbour
-  pub Gathered-off : (k : ℕ) (cells : List ℕ) (count : ℕ) → Gathered g i k cells count → None ≡ beside_of g i k → Gathered g i (k + 1) cells count
-  Gathered-off k cells count G e =
-      let same = gathered_same g i k e in
-      record { places = rw same G.places; number = rw same G.number; few = rw same (omega (arith, G.few)) }
-
-  -- after the fourth direction
-  pub Gathered-done : (cells : List ℕ) (count : ℕ) → Gathered g i 4 cells count → record { cells = cells; count = count } ≡ around_of g i
-  unfolding around_of
-  Gathered-done cells count G = rw (← gathered_all g i, G.places, G.number) refl
-
--- ---- for callers
-
-only_few : (b : Bool) (j : ℕ) → length (only b j) ≤ 1
-unfolding only
-only_few true j = omega arith
-only_few false j = omega arith
-
-four_few : (a b c d : Bool) (j k l m : ℕ) → length (only a j ++ (only b k ++ (only c l ++ only d m))) ≤ 4
-four_few a b c d j k l m = simp length-append (omega (arith, only_few a j, only_few b k, only_few c l, only_few d m))
-
-module _ (g : Grid) (i : ℕ) where
-  -- at most four neighbours
-  pub neighbours_few : length (neighbours g i) ≤ 4
-  unfolding neighbours up down left right
-  neighbours_few = four_few _ _ _ _ _ _ _ _
-
-  pub around_few : (around_of g i).count ≤ 4
-  unfolding around_of
-  around_few = neighbours_few
-
-  -- the count is theirs
-  pub around_count : (around_of g i).count ≡ length (neighbours g i)
-  unfolding around_of
-  around_count = refl
-
-  -- each in its place
-  pub around_at : (k : ℕ) → k < (around_of g i).count → get_or (around_of g i).cells k 0 ≡ get_or (neighbours g i) k 0
-  unfolding around_of
-  around_at k h = get_or-append (neighbours g i) _ 0 k h
-
-  -- each of the places counted holds a neighbour
-  pub around_mem : (k : ℕ) → k < (around_of g i).count → Memᴰ (get_or (around_of g i).cells k 0) (neighbours g i)
-  around_mem k h = rw (around_at k h) (at_mem (neighbours g i) k (omega (arith, around_count)))
-
-  -- each of the places counted holds a cell of the grid
-  pub around_in : i < size g → (k : ℕ) → k < (around_of g i).count → get_or (around_of g i).cells k 0 < size g
-  around_in l k h = on_grid g l (beside g i (around_mem k h))
 
 -- ---- for callers that look in the four directions in turn. r is what `toward` answers in direction k, with the row and the column of cell i
 

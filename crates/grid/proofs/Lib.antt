@@ -15,5 +15,4 @@ pub mod Signed
 pub mod SideLaws
 pub mod ShiftLaws
 pub mod AroundLaws
-pub mod Turns
 pub mod CellLaws

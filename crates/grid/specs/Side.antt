@@ -1,8 +1,7 @@
--- Signed moves on the grid, and the four neighbours one by one and together.
+-- Signed moves on the grid, and the four neighbours one by one.
 -- Assumes nothing.
-use Rattle.std.specs.Prelude.{ℕ, zero, suc, ◌+◌, ◌-◌, ◌*◌, ◌≤◌, ◌<◌, ◌≡◌, Bool, cond, ◌&&◌, List, [], ◌∷◌, ◌++◌, eqb, ltb, ℤ, pos, negsuc, ◌-ℤ◌, length, replicate, Option, Some, None}
-use Rattle.grid.specs.Grid.{Grid, size, row, col, up, down, left, right, neighbours}
-use Rattle.grid.specs.declared.Around.{Around}
+use Rattle.std.specs.Prelude.{ℕ, zero, suc, ◌+◌, ◌-◌, ◌*◌, ◌≤◌, ◌<◌, ◌≡◌, Bool, cond, ◌&&◌, List, [], ◌∷◌, eqb, ltb, ℤ, pos, negsuc, ◌-ℤ◌, Option, Some, None}
+use Rattle.grid.specs.Grid.{Grid, size, row, col, up, down, left, right}
 
 -- the grid of h rows and w columns
 abbrev pub sized : ℕ → ℕ → Grid
@@ -52,10 +51,6 @@ side_of (j ∷ js) = Some j
 -- the neighbour in direction k
 unfoldable pub beside_of : Grid → ℕ → ℕ → Option ℕ
 beside_of g i k = side_of (towards g i k)
-
--- all neighbours in four places, 0 behind them
-unfoldable pub around_of : Grid → ℕ → Around
-around_of g i = record { cells = neighbours g i ++ replicate (4 - length (neighbours g i)) 0; count = length (neighbours g i) }
 
 -- a cell of a grid of at most 32 by 32
 pub record InGrid (h w i : ℕ) : Type 0 where

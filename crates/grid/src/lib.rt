@@ -1,9 +1,9 @@
 // A grid's cells, their four neighbours, and signed moves that stop at the edges.
 #![tactic(auto)]
 
-ghost use Rattle.std.specs.Prelude.{◌≡◌, cond, ◌+◌, ◌*◌, ◌<◌, pos, ◌-ℤ◌, set};
+ghost use Rattle.std.specs.Prelude.{◌≡◌, cond, ◌+◌, ◌*◌, ◌≤◌, ◌<◌, pos, ◌-ℤ◌};
 ghost use Rattle.std.specs.Int.Signed.{mag};
-ghost use Rattle.grid.specs.Side.{sized, moved_of, shifted_of, beside_of, around_of, InGrid, InPlace};
+ghost use Rattle.grid.specs.Side.{sized, moved_of, shifted_of, beside_of};
 
 // The states of a cell.
 pub const EMPTY: u8 = 0;
@@ -12,29 +12,20 @@ pub const SQUARE: u8 = 1;
 
 pub const UNDECIDED: u8 = 2;
 
-// The neighbours of a cell, in the first `count` places.
-#[derive(Clone, Copy)]
-pub struct Around {
-    pub cells: [u16; 4],
-    pub count: usize,
+// Marks of cells and of names are bytes, 1 where something is marked and 0 elsewhere, and no bools: the definitions speak of them as numbers (grid/specs/Marks),
+// and an array of them is compared and copied as one of states is.
+
+// A grid of at most 32 by 32 cells.
+#[derive(Clone, Copy, Debug, PartialEq, Eq)]
+pub struct Grid {
+    pub height: usize,
+    pub width: usize,
+    pub ghost tall: { height ≤ 32 },
+    pub ghost wide: { width ≤ 32 },
 }
 
 // Up, down, left, right, each as a row and a column offset.
 const OFFSETS: [[i32; 2]; 4] = [[-1, 0], [1, 0], [0, -1], [0, 1]];
-
-// A number of an array, as an index or a count.
-pub fn wide(x: u16) -> usize
-    ensures { (result ≡ x) × (result < 65536) }
-{
-    x as usize
-}
-
-// A byte, as a number.
-pub fn byte(b: u8) -> usize
-    ensures { (result ≡ b) × (result < 256) }
-{
-    b as usize
-}
 
 // One of two numbers. A function of its own, so that it can be compiled without a branch: the choice is hard to predict where it is used.
 pub fn pick(first: bool, a: u16, b: u16) -> u16
@@ -64,71 +55,34 @@ pub fn offset(from: usize, to: usize) -> i32
     to as i32 - from as i32
 }
 
-// The cell that the one at row y, column x comes to by a signed row and column offset.
-pub fn shifted(h: usize, w: usize, y: usize, x: usize, dy: i32, dx: i32) -> Option<usize>
-    requires { InPlace h w y x × (mag dy < 1024) × (mag dx < 1024) }
-    ensures { result ≡ shifted_of h w y x dy dx }
-{
-    let to_y = moved(y, dy, h)?;
-    let to_x = moved(x, dx, w)?;
-    Some(to_y * w + to_x)
-}
-
-// The neighbour in direction k of the cell at row y, column x. A pass over many cells is quickest by this: it divides
-// nothing and keeps nothing in memory.
-pub fn toward(h: usize, w: usize, y: usize, x: usize, k: usize) -> Option<usize>
-    requires { InPlace h w y x × (k < 4) }
-    ensures { result ≡ beside_of (sized h w) (y * w + x) k }
-{
-    let d = OFFSETS[k];
-    shifted(h, w, y, x, d[0], d[1])
-}
-
-// The four places with j in place `count`. Each place stands by its own number, and none by a variable, so that the
-// compiler can keep the four in registers.
-fn put(cells: [u16; 4], count: usize, j: u16) -> [u16; 4]
-    requires { count < 4 }
-    ensures { result ≡ set cells count j }
-{
-    let mut places = cells;
-    match count {
-        0 => {
-            places[0] = j;
-        }
-        1 => {
-            places[1] = j;
-        }
-        2 => {
-            places[2] = j;
-        }
-        _ => {
-            places[3] = j;
-        }
+impl Grid {
+    // How many cells it has.
+    pub fn size(self) -> usize
+        ensures value { result ≡ self.height * self.width }
+        ensures small { result ≤ 1024 }
+    {
+        self.height * self.width
     }
-    places
-}
 
-// The neighbours of the cell at row y, column x.
-fn neighbours_at(h: usize, w: usize, y: usize, x: usize) -> Around
-    requires { InPlace h w y x }
-    ensures { result ≡ around_of (sized h w) (y * w + x) }
-{
-    let mut cells = [0u16; 4];
-    let mut count = 0;
-    for k in 0..4 {
-        if let Some(j) = toward(h, w, y, x, k) {
-            let more = put(cells, count, j as u16);
-            cells = more;
-            count += 1;
-        }
+    // The cell that the one at row y, column x comes to by a signed row and column offset.
+    pub fn shifted(self, y: usize, x: usize, dy: i32, dx: i32) -> Option<usize>
+        requires place { (y < self.height) × (x < self.width) }
+        requires offsets { (mag dy < 1024) × (mag dx < 1024) }
+        ensures { result ≡ shifted_of self.height self.width y x dy dx }
+    {
+        let to_y = moved(y, dy, self.height)?;
+        let to_x = moved(x, dx, self.width)?;
+        Some(to_y * self.width + to_x)
     }
-    Around { cells, count }
-}
 
-// The neighbours of cell i.
-pub fn neighbours(h: usize, w: usize, i: usize) -> Around
-    requires { InGrid h w i }
-    ensures { result ≡ around_of (sized h w) i }
-{
-    neighbours_at(h, w, i / w, i % w)
+    // The neighbour in direction k of the cell at row y, column x. A pass over many cells is quickest by this: it divides
+    // nothing and keeps nothing in memory.
+    pub fn toward(self, y: usize, x: usize, k: usize) -> Option<usize>
+        requires place { (y < self.height) × (x < self.width) }
+        requires direction { k < 4 }
+        ensures { result ≡ beside_of (sized self.height self.width) (y * self.width + x) k }
+    {
+        let d = OFFSETS[k];
+        self.shifted(y, x, d[0], d[1])
+    }
 }

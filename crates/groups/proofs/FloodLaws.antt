@@ -182,16 +182,16 @@ module _ {g : Grid} {p : ℕ → Bool} {s : ℕ} {L₀ : List ℕ} (fits : size 
       near j m o = step (F.waiting (c - 1) (omega arith)) (on, m) o
 
 -- the cell on top of the stack has its row and column
-pub top : {h w s : ℕ} {L st : List ℕ} {c i : ℕ} → Ready h w s L st c → i ≡ get_or st (c - 1) 0 → InPlace h w (i / w) (i % w)
-top r e = in_place (record { tall = r.tall; wide = r.wide; within = rw e r.top })
+pub top : {h w s : ℕ} {L st : List ℕ} {c i : ℕ} → h ≤ 32 → w ≤ 32 → Ready (h * w) s L st c → i ≡ get_or st (c - 1) 0 → InPlace h w (i / w) (i % w)
+top tall wide r e = in_place (record { tall = tall; wide = wide; within = rw e r.top })
 
 -- what is done when the neighbours in all four directions have been offered
 pub Spread-does :
-    {h w s : ℕ} {p : ℕ → Bool} {L st L' st' : List ℕ} {c i r : ℕ} → Ready h w s L st c → i ≡ get_or st (c - 1) 0
+    {h w s : ℕ} {p : ℕ → Bool} {L st L' st' : List ℕ} {c i r : ℕ} → h ≤ 32 → w ≤ 32 → Ready (h * w) s L st c → i ≡ get_or st (c - 1) 0
     → Offers (sized h w) p s (i / w * w + i % w) 4 L st (c - 1) L' st' r → Spread (sized h w) p s L st c L' st' r
 unfolding size
-Spread-does {h} {w} {i = i} ready at_top O = record {
-  keeps = λ L₀ F. spread_keeps (area h w ready.tall ready.wide) ready.count ready.top (rw (div-add-mod' i w, at_top) at O) F;
+Spread-does {h} {w} {i = i} tall wide ready at_top O = record {
+  keeps = λ L₀ F. spread_keeps (area h w tall wide) ready.count ready.top (rw (div-add-mod' i w, at_top) at O) F;
   stays = O.stays;
   falls = omega (arith, ready.count, O.falls);
   counts = O.counts;

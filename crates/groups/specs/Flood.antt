@@ -105,11 +105,9 @@ module _ (g : Grid) (p : ℕ → Bool) where
     pub falls : 2 * free L' + r < 2 * free L + c
     pub counts : (t : ℕ → Bool) (x : ℕ) → Counting s t L st (c - 1) x → Counting s t L' st' r x
 
--- what a turn asks
-pub record Ready (h w s : ℕ) (L st : List ℕ) (c : ℕ) : Type 0 where
-  pub tall : h ≤ 32
-  pub wide : w ≤ 32
+-- what a turn asks, on a grid of n cells
+pub record Ready (n s : ℕ) (L st : List ℕ) (c : ℕ) : Type 0 where
   pub seed : s < 1024
   pub count : 0 < c
   pub room : c + free L ≤ 1024
-  pub top : get_or st (c - 1) 0 < h * w
+  pub top : get_or st (c - 1) 0 < n

@@ -1,6 +1,5 @@
 // Groups: blocks, potential groups and arrow cells of a grid of at most 32 by 32 cells. A group is
-// named by its first cell in row order; cells are 0 empty, 1 square, 2 undecided. The arrays are
-// lent by the caller.
+// named by its first cell in row order; cells are 0 empty, 1 square, 2 undecided.
 #![tactic(auto)]
 
 ghost use Rattle.std.specs.Prelude.{◌≡◌, ℕ, ◌+◌, ◌*◌, ◌≤◌, ◌<◌, Bool, cond, eqb, length, get_or, set, take, replicate};
@@ -12,7 +11,7 @@ ghost use Rattle.groups.specs.Arrays.{Line, no_group, counts, marked, GroupTable
 ghost use Rattle.groups.specs.Table.{Unused, labelled};
 ghost use Rattle.groups.specs.Flood.{unlabelled, free, Only, Walked, Offerable, Marked, Offered, Spread, Ready};
 
-use grid::{EMPTY, SQUARE};
+use grid::{EMPTY, Grid, SQUARE};
 
 // The label of a cell that is in no group.
 const NO_GROUP: u16 = 1024;
@@ -83,109 +82,127 @@ fn spread(
     labels: &mut [u16; 1024],
     stack: &mut [u16; 1025],
     count: usize,
-    h: usize,
-    w: usize,
+    grid: Grid,
     s: u16,
 ) -> usize
-    requires { Ready h w s labels.old stack.old count }
-    ensures { (p : ℕ → Bool) → Spread (sized h w) p s labels.old stack.old count labels.new stack.new result }
+    requires { Ready (grid.height * grid.width) s labels.old stack.old count }
+    ensures { (p : ℕ → Bool) → Spread (sized grid.height grid.width) p s labels.old stack.old count labels.new stack.new result }
 {
     let mut waiting = count - 1;
     let i = usize::from(stack[waiting]);
-    let y = i / w;
-    let x = i % w;
+    let y = i / grid.width;
+    let x = i % grid.width;
     for k in 0..4 {
-        if let Some(q) = grid::toward(h, w, y, x, k) {
+        if let Some(q) = grid.toward(y, x, k) {
             waiting = offer(labels, stack, waiting, q, s);
         }
     }
     waiting
 }
 
-// Labels the group of cell s with s, unless s is in no group or has a label, and counts its squares and its arrow cells as they leave the stack. The counts
-// are written at s: 0 where s is not the first cell of a group.
-fn flood(
-    cells: &[u8; 1024],
-    onarrow: &[u8; 1024],
-    labels: &mut [u16; 1024],
-    stack: &mut [u16; 1025],
-    h: usize,
-    w: usize,
-    s: usize,
-    squares: &mut [u16; 1024],
-    arrowed: &mut [u16; 1024],
-)
-    requires in_grid { InGrid h w s × Unused s labels.old }
-    requires lengths { (length labels.old ≡ 1024) × (length stack.old ≡ 1025) }
-    ensures walked { (p : ℕ → Bool) → Only p labels.old → Walked (sized h w) p s s labels.old labels.new }
-    ensures counted { (length stack.new ≡ 1025)
-        × (squares.new ≡ set squares.old s (length (labelled labels.new (marked cells.now) s)))
-        × (arrowed.new ≡ set arrowed.old s (length (labelled labels.new (marked onarrow.now) s))) }
-{
-    if labels[s] != UNLABELLED {
-        squares[s] = 0;
-        arrowed[s] = 0;
-        return;
-    }
-    let seed = s as u16;
-    let mut count = offer(labels, stack, 0, s, seed);
-    let mut ones = 0;
-    let mut crossed = 0;
-    // A `while`: the cells that wait are a stack, so no range tells how many turns there are.
-    while count > 0 {
-        let i = usize::from(stack[count - 1]);
-        ones += usize::from(cells[i] == SQUARE);
-        crossed += usize::from(onarrow[i] == 1);
-        count = spread(labels, stack, count, h, w, seed);
-    }
-    squares[s] = ones as u16;
-    arrowed[s] = crossed as u16;
+// The groups of a board's cells: the label of each cell's group, which is its first cell in row order, and 1024 where there is none; the first cells by
+// themselves, rising, in the first `count` places; and by first cell how many squares and how many arrow cells each group has.
+#[derive(Clone, Copy)]
+pub struct Groups {
+    pub labels: [u16; 1024],
+    pub firsts: [u16; 1024],
+    pub squares: [u16; 1024],
+    pub arrowed: [u16; 1024],
+    pub count: usize,
 }
 
-// Lists cell s behind the first cells found so far if it is to be in a group and has no label yet: it is the first of its group then. It is written
-// there in any case, and only counted if it is one. Their new number.
-fn keep_first(labels: &[u16; 1024], s: usize, firsts: &mut [u16; 1024], number: usize) -> usize
-    requires { (s < 1024) × (number ≤ s) }
-    ensures { (firsts.new ≡ set firsts.old number s) × (result ≡ cond (eqb (get_or labels.now s 0) unlabelled) (number + 1) number) }
-{
-    firsts[number] = s as u16;
-    number + usize::from(labels[s] == UNLABELLED)
-}
-
-// The name of each cell's group: its first cell in row order, and NO_GROUP where there is none. The first cells by themselves, rising, with their
-// number, which is returned; and by first cell how many squares and how many arrow cells each group has. The groups are the potential groups or the blocks.
-pub fn compute_connected_components(
-    cells: &[u8; 1024],
-    onarrow: &[u8; 1024],
-    members: Members,
-    h: usize,
-    w: usize,
-    labels: &mut [u16; 1024],
-    firsts: &mut [u16; 1024],
-    squares: &mut [u16; 1024],
-    arrowed: &mut [u16; 1024],
-) -> usize
-    requires { (h ≤ 32) × (w ≤ 32) × (length firsts.old ≡ 1024) × (length squares.old ≡ 1024) × (length arrowed.old ≡ 1024) }
-    ensures { GroupTable (sized h w) (counts members (take (h * w) cells.now)) (square (take (h * w) cells.now)) (marked onarrow.now)
-        labels.new firsts.new squares.new arrowed.new result }
-{
-    let n = h * w;
-    let mut stack = [0u16; 1025];
-    *labels = [NO_GROUP; 1024];
-    mark_check_cells(cells, members, n, labels);
-    let mut number = 0;
-    for s in 0..n {
-        number = keep_first(&*labels, s, firsts, number);
-        flood(
-            cells, onarrow, labels, &mut stack, h, w, s, squares, arrowed,
-        );
+impl Groups {
+    // Room for groups.
+    pub fn new() -> Groups
+        ensures { let none = replicate 1024 0 in result ≡ record { labels = none; firsts = none; squares = none; arrowed = none; count = 0 } }
+    {
+        Groups {
+            labels: [0; 1024],
+            firsts: [0; 1024],
+            squares: [0; 1024],
+            arrowed: [0; 1024],
+            count: 0,
+        }
     }
-    number
+
+    // Labels the group of cell s with s, unless s is in no group or has a label, and counts its squares and its arrow cells as they leave the stack. The
+    // counts are written at s: 0 where s is not the first cell of a group.
+    fn flood(
+        &mut self,
+        grid: Grid,
+        cells: &[u8; 1024],
+        onarrow: &[u8; 1024],
+        stack: &mut [u16; 1025],
+        s: usize,
+    )
+        requires cell { s < grid.height * grid.width }
+        requires unused { Unused s self.old.labels }
+        ensures walked { (p : ℕ → Bool) → Only p self.old.labels → Walked (sized grid.height grid.width) p s s self.old.labels self.new.labels }
+        ensures counted { self.new ≡ record self.old {
+          labels = self.new.labels;
+          squares = set self.old.squares s (length (labelled self.new.labels (marked cells.now) s));
+          arrowed = set self.old.arrowed s (length (labelled self.new.labels (marked onarrow.now) s));
+        } }
+    {
+        if self.labels[s] != UNLABELLED {
+            self.squares[s] = 0;
+            self.arrowed[s] = 0;
+            return;
+        }
+        let seed = s as u16;
+        let mut count = offer(&mut self.labels, stack, 0, s, seed);
+        let mut ones = 0;
+        let mut crossed = 0;
+        // A `while`: the cells that wait are a stack, so no range tells how many turns there are.
+        while count > 0 {
+            let i = usize::from(stack[count - 1]);
+            ones += usize::from(cells[i] == SQUARE);
+            crossed += usize::from(onarrow[i] == 1);
+            count = spread(&mut self.labels, stack, count, grid, seed);
+        }
+        self.squares[s] = ones as u16;
+        self.arrowed[s] = crossed as u16;
+    }
+
+    // Lists cell s behind the first cells found so far if it is to be in a group and has no label yet: it is the first of its group then. It is written
+    // there in any case, and only counted if it is one. Their new number.
+    fn keep_first(&mut self, s: usize, number: usize) -> usize
+        requires { (s < 1024) × (number ≤ s) }
+        ensures listed { self.new ≡ record self.old { firsts = set self.old.firsts number s } }
+        ensures counted { result ≡ cond (eqb (get_or self.old.labels s 0) unlabelled) (number + 1) number }
+    {
+        self.firsts[number] = s as u16;
+        number + usize::from(self.labels[s] == UNLABELLED)
+    }
+
+    // Computes the groups of the cells of a grid that are members.
+    pub fn compute_connected_components(
+        &mut self,
+        grid: Grid,
+        cells: &[u8; 1024],
+        onarrow: &[u8; 1024],
+        members: Members,
+    )
+        ensures { GroupTable (sized grid.height grid.width) (counts members (take (grid.height * grid.width) cells.now))
+            (square (take (grid.height * grid.width) cells.now)) (marked onarrow.now)
+            self.new.labels self.new.firsts self.new.squares self.new.arrowed self.new.count }
+    {
+        let n = grid.size();
+        let mut stack = [0u16; 1025];
+        self.labels = [NO_GROUP; 1024];
+        mark_check_cells(cells, members, n, &mut self.labels);
+        let mut number = 0;
+        for s in 0..n {
+            number = self.keep_first(s, number);
+            self.flood(grid, cells, onarrow, &mut stack, s);
+        }
+        self.count = number;
+    }
 }
 
 // Marks the cells of all arrows, which stand one after another in the first `total` places.
 pub fn mark_arrow_cells(arrows: &[u16; 1024], total: usize, marks: &mut [u8; 1024])
-    requires { Line arrows.now total }
+    requires line { Line arrows.now total }
     ensures { Marks marks.new (λ i. member i (take total arrows.now)) }
 {
     *marks = [0u8; 1024];

@@ -1,25 +1,25 @@
 -- Laws of holding the groups of a board, and the reach and the fence of a block, against what a list says of them.
 -- Assumes nothing.
-use Prim.Native.Nat.{ℕ, ◌*◌, ◌≤◌, ◌<◌}
+use Prim.Native.Nat.{ℕ, ◌≤◌, ◌<◌}
 use native.Mathlib.Omega.{arith}
-use mathlib.Core.Bool.{Bool, true, false, cond}
-use mathlib.Core.Path.{◌≡◌, sym, ap, subst, ◌∙◌}
+use mathlib.Core.Bool.{Bool, false}
+use mathlib.Core.Path.{◌≡◌, refl, sym, ap, subst, ◌∙◌}
 use mathlib.Core.List.{List, ◌++◌, map}
-use lib.Dec.{ltb}
 use lib.ListN.{length, get_or, take, drop, replicate, take-append-drop}
 use lib.Seq.{ext_get_or, get_or-take, length-take-le}
 use Rattle.grid.specs.Lists.{upto}
 use Rattle.grid.specs.Grid.{Grid, size}
 use Rattle.grid.specs.Cells.{word}
 use Rattle.grid.proofs.ListLaws.{length-map-upto, map-upto_at}
-use Rattle.groups.specs.Arrays.{label_array, tally_of, Counted}
+use Rattle.groups.specs.Arrays.{label_array, tally_of, Counted, GroupTable}
 use Rattle.kinds.specs.Kinds.{View, reach, fence}
 use Rattle.kinds.specs.Arrays.{reach_mask}
 use Rattle.reach.specs.Inside.{Reach}
 use Rattle.fence.specs.Inside.{Fenced}
-use Rattle.replay.specs.Lists.{area_of}
+use Rattle.replay.specs.Lists.{number_at}
 use Rattle.replay.specs.Comparisons.{DiffersUnless}
-use Rattle.groups_replay.specs.Blocks.{ReachSo, FenceSo, left, GroupsSo, Computed}
+use Rattle.replay.proofs.ComparisonLaws.{then_differs}
+use Rattle.groups_replay.specs.Blocks.{ReachSo, FenceSo, left, BlockSo, fence_at, GroupsSo}
 
 -- the counts of the first n cells
 pub counts_taken : (g : Grid) (p t : ℕ → Bool) (n : ℕ) {counts : List ℕ} → n ≤ size g → n ≤ 1024 → Counted g p t counts → take n counts ≡ map (tally_of g p t) (upto n)
@@ -33,20 +33,10 @@ counts_taken g p t n {counts} on fits C =
     at f h = get_or-take n counts f 0 h ∙ C.at f (omega arith) ∙ sym (map-upto_at (tally_of g p t) n f 0 h)
 
 -- a comparison with the groups that were computed
-pub groups_told : (g : Grid) (p sq arrow : ℕ → Bool) (list : List ℕ) (at n : ℕ) {names squares arrowed : List ℕ} → n ≤ size g → n ≤ 1024 → Computed g p sq arrow names squares arrowed
+pub groups_told : (g : Grid) (p sq arrow : ℕ → Bool) (list : List ℕ) (at n : ℕ) {names firsts squares arrowed : List ℕ} {count : ℕ} → n ≤ size g → n ≤ 1024 → GroupTable g p sq arrow names firsts squares arrowed count
     → (t : Bool) → DiffersUnless t (GroupsSo list at n names (take n squares) (take n arrowed))
     → DiffersUnless t (GroupsSo list at n (label_array g p) (map (tally_of g p sq) (upto n)) (map (tally_of g p arrow) (upto n)))
-groups_told g p sq arrow list at n on fits C t d = rw (← C.groups_are, ← (counts_taken g p sq n on fits C.squares_are), ← (counts_taken g p arrow n on fits C.arrowed_are)) d
-
--- the area of a board is at most height × width
-pub area_low : (h w : ℕ) → area_of h w ≤ h * w
-unfolding area_of
-area_low h w = go (ltb 32 h) (ltb 32 w)
-  where
-    go : (a b : Bool) → cond a 0 (cond b 0 (h * w)) ≤ h * w
-    go true b = omega arith
-    go false true = omega arith
-    go false false = omega arith
+groups_told g p sq arrow list at n on fits T t d = rw (← T.groups_are, ← (counts_taken g p sq n on fits T.squares_are), ← (counts_taken g p arrow n on fits T.arrowed_are)) d
 
 module _ (v : View) (f : ℕ) (list : List ℕ) where
   -- a comparison with the reach that was computed
@@ -63,3 +53,10 @@ module _ (v : View) (f : ℕ) (list : List ℕ) where
   -- a comparison with the fence that was computed
   pub fence_told : (at count : ℕ) (fresh after : List ℕ) (size : ℕ) → fresh ≡ replicate 4096 65535 → Fenced v f fresh after size → (t : Bool) → DiffersUnless t (FenceSo list at count size after) → DiffersUnless t (FenceSo list at count (length (fence v f)) (left v f))
   fence_told at count fresh after size e w t d = rw (← w.number, ← (fence_left fresh after size e w)) d
+
+  -- a comparison with both, the fence behind a reach that does not differ
+  pub Block-told : (at n m count : ℕ) → n ≡ m → count ≡ number_at list (fence_at at n) → {near marks fresh after : List ℕ} {size written : ℕ} → Reach v f near marks size → fresh ≡ replicate 4096 65535 → Fenced v f fresh after written
+      → (t u : Bool) → DiffersUnless t (ReachSo list at n size marks) → t ≡ false → DiffersUnless u (FenceSo list (fence_at at n) count written after)
+      → DiffersUnless u (BlockSo v f list at m (fence_at at m) (number_at list (fence_at at m)))
+  Block-told at n m count e q {near} {marks} {fresh} {after} {size} {written} r fr w t u d z g =
+      rw (← e, ← q) (then_differs ((Reach-told at n n refl near marks size r t d).0 z) u (fence_told (fence_at at n) count fresh after written fr w u g))

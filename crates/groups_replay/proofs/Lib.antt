@@ -1,1 +1,4 @@
 mod BlockLaws
+mod RunLaws
+mod BoardLaws
+mod RecordLaws

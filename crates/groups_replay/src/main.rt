@@ -10,38 +10,39 @@
 // no group, the name is 1024, and the counts are 0.
 #![tactic(auto)]
 
-mod arrays;
-mod arrows;
 mod blocks;
 mod rounds;
 
-ghost use Rattle.std.specs.Prelude.{◌+◌, ◌*◌, ◌≤◌, ◌<◌, length, take};
+ghost use Rattle.std.specs.Prelude.{◌≡◌, true, ◌+◌, ◌*◌, ◌≤◌, ◌<◌, ℕ, List, length, take, MatchOption};
 ghost use Rattle.grid.specs.Side.{sized};
-ghost use Rattle.groups.specs.Arrays.{marked, Names};
+ghost use Rattle.record.specs.Problem.{puzzle_of};
+ghost use Rattle.groups.specs.Arrows.{on_arrow};
+ghost use Rattle.groups.specs.Arrays.{Names, mask_of};
+ghost use Rattle.kinds.specs.Inside.{puzzle_with, Given};
+ghost use Rattle.board.specs.Form.{well_formed};
+ghost use Rattle.board.specs.Kept.{cells_on};
+ghost use Rattle.board.specs.Decide.{area};
 ghost use Rattle.replay.specs.Comparisons.{DiffersUnless};
-ghost use Rattle.groups_replay.specs.Blocks.{KindsSo, GroupsSo, PotentialSo};
+ghost use Rattle.groups_replay.specs.Blocks.{KindsSo, GroupsSo, PotentialSo, arrowed_names};
+ghost use Rattle.groups_replay.specs.Entries.{KindsRun, ArrowsRun, BoardRun, board_end, RecordRun, EntrySo};
 
 use board::Board;
-use groups::Members;
+use grid::Grid;
+use groups::{Groups, Members};
+use kinds::BoardInfo;
 use replay::{Cursor, Entries, Run};
 use rounds::Rounds;
 use std::io;
 
-// Whether the names of groups or their counts differ from those that the list has at `at`.
-fn groups_differ(
-    list: &[u8],
-    at: usize,
-    n: usize,
-    names: &[u16; 1024],
-    squares: &[u16],
-    arrowed: &[u16],
-) -> bool
-    requires { (at + 6 * n ≤ length list.now) × (n ≤ 1024) }
-    ensures { DiffersUnless result (GroupsSo list.now at n names.now squares.now arrowed.now) }
+// Whether groups differ from those that the list has at `at`, with a name for each of n cells and the two counts of each name.
+fn groups_differ(list: &[u8], at: usize, n: usize, groups: &Groups) -> bool
+    requires place { at + 6 * n ≤ length list.now }
+    requires cells { n ≤ 1024 }
+    ensures { DiffersUnless result (GroupsSo list.now at n groups.now.labels (take n groups.now.squares) (take n groups.now.arrowed)) }
 {
-    replay::names_differ(list, at, n, names)
-        || replay::numbers_differ(list, at + 2 * n, n, squares, 0)
-        || replay::numbers_differ(list, at + 4 * n, n, arrowed, 0)
+    replay::names_differ(list, at, n, &groups.labels)
+        || replay::numbers_differ(list, at + 2 * n, n, &groups.squares[..n], 0)
+        || replay::numbers_differ(list, at + 4 * n, n, &groups.arrowed[..n], 0)
 }
 
 // Whether the potential groups differ from those that the list has at `at`. A list that says no rounds differs: nothing would be computed.
@@ -49,43 +50,31 @@ fn potential_groups_differ(
     list: &[u8],
     rounds: Rounds,
     at: usize,
-    n: usize,
+    grid: Grid,
     cells: &[u8; 1024],
     onarrow: &[u8; 1024],
-    h: usize,
-    w: usize,
 ) -> bool
-    requires { (at + 6 * n ≤ length list.now) × (n ≤ h * w) × (h ≤ 32) × (w ≤ 32) }
-    ensures { DiffersUnless result (PotentialSo rounds.labels rounds.kinds (sized h w) (take (h * w) cells.now) (marked onarrow.now) list.now at n) }
+    requires place { at + 6 * (grid.height * grid.width) ≤ length list.now }
+    ensures { let g = sized grid.height grid.width in let n = grid.height * grid.width in
+        (arrows : List (List ℕ)) → onarrow.now ≡ mask_of g (on_arrow arrows)
+        → DiffersUnless result (PotentialSo rounds.labels rounds.kinds g (take n cells.now) (on_arrow arrows) list.now at n) }
 {
     if rounds.labels == 0 || rounds.kinds == 0 {
         return true;
     }
-    let mut names = arrays::no_names();
-    let mut firsts = arrays::no_names();
-    let mut squares = arrays::no_names();
-    let mut arrowed = arrays::no_names();
-    rounds::label_in_rounds(
-        rounds.labels,
-        cells,
-        onarrow,
-        Members::Potential,
-        h,
-        w,
-        &mut names,
-        &mut firsts,
-        &mut squares,
-        &mut arrowed,
-    );
-    groups_differ(list, at, n, &names, &squares[..n], &arrowed[..n])
+    let mut groups = Groups::new();
+    rounds.label(grid, cells, onarrow, Members::Potential, &mut groups);
+    groups_differ(list, at, grid.size(), &groups)
 }
 
 // Whether the kinds or the owners differ from those that the list has at `at`.
-fn kinds_differ(list: &[u8], at: usize, n: usize, kinds: &[u8; 1024], owners: &[u16; 1024]) -> bool
-    requires { (at + 3 * n ≤ length list.now) × (n ≤ 1024) }
-    ensures { DiffersUnless result (KindsSo list.now at n kinds.now owners.now) }
+fn kinds_differ(list: &[u8], at: usize, info: &BoardInfo<'_>) -> bool
+    requires place { at + 3 * (info.now.grid.height * info.now.grid.width) ≤ length list.now }
+    ensures { DiffersUnless result (KindsSo list.now at (info.now.grid.height * info.now.grid.width) info.now.kinds.now info.now.owners.now) }
 {
-    replay::cells_differ(list, at, n, kinds, 0) || replay::names_differ(list, at + n, n, owners)
+    let n = info.grid.size();
+    replay::cells_differ(list, at, n, info.kinds, 0)
+        || replay::names_differ(list, at + n, n, info.owners)
 }
 
 // Computes kinds and owners, and compares them and the arrow blocks with those that the list has at `at`.
@@ -93,43 +82,28 @@ fn run_kinds(
     list: &[u8],
     rounds: Rounds,
     at: usize,
-    n: usize,
+    grid: Grid,
     cells: &[u8; 1024],
-    blocks: &[u16; 1024],
-    firsts: &[u16; 1024],
-    number: usize,
-    arrowed: &[u16; 1024],
-    h: usize,
-    w: usize,
+    blocks: &Groups,
 ) -> Run
-    requires { (at + 3 * n + 2 ≤ length list.now) × (n ≤ 1024) × (h ≤ 32) × (w ≤ 32) × Names firsts.now number }
+    requires place { at + 3 * (grid.height * grid.width) + 2 ≤ length list.now }
+    requires names { Names blocks.now.firsts blocks.now.count }
+    ensures { let n = grid.height * grid.width in
+        (arrows : List (List ℕ)) → 0 < rounds.kinds → let p = puzzle_with (sized grid.height grid.width) arrows in
+        Given p (take n cells.now) blocks.now.labels blocks.now.arrowed
+        → KindsRun p (take n cells.now) n (arrowed_names blocks.now) list.now at result }
 {
-    let mut kinds = arrays::no_marks();
-    let mut owners = arrays::no_names();
-    rounds::kinds_in_rounds(
-        rounds.kinds,
+    let mut kinds = [0; 1024];
+    let mut owners = [0; 1024];
+    rounds.compute_kinds(grid, cells, blocks, &mut kinds, &mut owners);
+    let info = BoardInfo {
+        grid,
         cells,
-        blocks,
-        arrowed,
-        h,
-        w,
-        &mut kinds,
-        &mut owners,
-    );
-    let differs = kinds_differ(list, at, n, &kinds, &owners);
-    let found = blocks::run_blocks(
-        list,
-        at + 3 * n,
-        cells,
-        &kinds,
-        &owners,
-        firsts,
-        number,
-        arrowed,
-        h,
-        w,
-    );
-    found.also(differs)
+        kinds: &kinds,
+        owners: &owners,
+    };
+    let differs = kinds_differ(list, at, &info);
+    blocks::run_blocks(list, at + 3 * grid.size(), &info, blocks).also(differs)
 }
 
 // Computes the blocks, and compares them, the kinds and the arrow blocks with those that the list has at `at`.
@@ -137,70 +111,43 @@ fn run_arrows(
     list: &[u8],
     rounds: Rounds,
     at: usize,
-    n: usize,
+    grid: Grid,
     cells: &[u8; 1024],
     onarrow: &[u8; 1024],
-    h: usize,
-    w: usize,
 ) -> Run
-    requires { (at + 9 * n + 2 ≤ length list.now) × (n ≤ 1024) × (h ≤ 32) × (w ≤ 32) }
+    requires place { at + 9 * (grid.height * grid.width) + 2 ≤ length list.now }
+    ensures { let g = sized grid.height grid.width in let n = grid.height * grid.width in
+        (arrows : List (List ℕ)) → onarrow.now ≡ mask_of g (on_arrow arrows) → 0 < rounds.labels → 0 < rounds.kinds
+        → ArrowsRun (puzzle_with g arrows) (take n cells.now) n list.now at result }
 {
-    let mut blocks = arrays::no_names();
-    let mut firsts = arrays::no_names();
-    let mut squares = arrays::no_names();
-    let mut arrowed = arrays::no_names();
-    let number = rounds::label_in_rounds(
-        rounds.labels,
-        cells,
-        onarrow,
-        Members::Squares,
-        h,
-        w,
-        &mut blocks,
-        &mut firsts,
-        &mut squares,
-        &mut arrowed,
-    );
-    let differs = groups_differ(list, at, n, &blocks, &squares[..n], &arrowed[..n]);
-    let found = run_kinds(
-        list,
-        rounds,
-        at + 6 * n,
-        n,
-        cells,
-        &blocks,
-        &firsts,
-        number,
-        &arrowed,
-        h,
-        w,
-    );
-    found.also(differs)
+    let n = grid.size();
+    let mut blocks = Groups::new();
+    rounds.label(grid, cells, onarrow, Members::Squares, &mut blocks);
+    let differs = groups_differ(list, at, n, &blocks);
+    run_kinds(list, rounds, at + 6 * n, grid, cells, &blocks).also(differs)
 }
 
-// Computes the groups and kinds of a board, and compares them with those that the list has at `at`.
-fn run_board(list: &[u8], rounds: Rounds, at: usize, b: Board) -> Option<Run>
-    requires { at ≤ length list.now }
+// Computes the groups and kinds of a board, and compares them with those that the list has at `at`; none where the list ends before them.
+fn run_board(list: &[u8], rounds: Rounds, at: usize, board: &Board) -> Option<Run>
+    requires place { at ≤ length list.now }
+    ensures { let n = area board.now in
+        MatchOption result (well_formed board.now ≡ true → length list.now < board_end n at)
+        (λ run. (board_end n at ≤ length list.now) × BoardRun rounds (puzzle_of board.now.problem) (cells_on board.now) n list.now at run) }
 {
-    let h = b.problem.height;
-    let w = b.problem.width;
-    if 32 < h || 32 < w {
-        return None;
-    }
-    let n = replay::area(h, w);
+    let leaf = board.leaf().ok()?;
+    let grid = leaf.grid();
+    let n = grid.size();
     if list.len() < at + 15 * n + 2 {
         return None;
     }
-    let arrows = b.problem.arrows;
-    let ends = b.problem.ends;
-    let total = arrows::arrow_total(&ends, b.problem.count);
-    let cells = b.cells;
-    let mut onarrow = arrays::no_marks();
-    if !arrows::mark_arrows(&arrows, total, &mut onarrow) {
-        return None;
-    }
-    let differs = potential_groups_differ(list, rounds, at, n, &cells, &onarrow, h, w);
-    let found = run_arrows(list, rounds, at + 6 * n, n, &cells, &onarrow, h, w);
+    let mut onarrow = [0; 1024];
+    groups::mark_arrow_cells(
+        &leaf.problem.arrows,
+        leaf.problem.arrow_total(),
+        &mut onarrow,
+    );
+    let differs = potential_groups_differ(list, rounds, at, grid, &board.cells, &onarrow);
+    let found = run_arrows(list, rounds, at + 6 * n, grid, &board.cells, &onarrow);
     Some(found.also(differs))
 }
 
@@ -212,16 +159,19 @@ fn run_record(
     decisions: &[u8],
     at: usize,
 ) -> Option<Run>
-    requires { at ≤ length list.now }
+    requires place { at ≤ length list.now }
+    ensures { RecordRun rounds «record».now decisions.now list.now at result }
 {
     let board = Board::open(record, 1, &[])
         .ok()?
         .decide_all(decisions)
         .ok()?;
-    run_board(list, rounds, at, board)
+    run_board(list, rounds, at, &board)
 }
 
 impl Entries for Rounds {
+    ghost counts = { EntrySo };
+
     ghost BEFORE = { 4 };
 
     const BEFORE: usize = 4;

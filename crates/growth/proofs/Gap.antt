@@ -6,8 +6,8 @@ use native.Mathlib.Decide.{dec_le}
 use native.Mathlib.Omega.{arith}
 use mathlib.Core.Bool.{Bool, true, false, So, cond, false≢true}
 use mathlib.Core.List.{List, [], ◌∷◌}
-use lib.ListN.{length, get_or, take, drop, length-take, drop_of_length-le}
-use lib.Seq.{slice, slice-cons, drop-drop}
+use lib.ListN.{length, get_or, drop}
+use Rattle.std.proofs.lemmas.List.{drop_more, drop_all}
 use borrow.Author.Tests.{eq-eqb, ne_eqb}
 use Rattle.grid.specs.Count.{count}
 use Rattle.grid.proofs.Count.{bump_yes, bump_no, count_front}
@@ -145,8 +145,8 @@ module _ (cells : List ℕ) where
       go true = omega (arith, apart_le l)
       go false = omega arith
 
-  -- an undecided cell may always be taken
-  pub apart_cons : (i : ℕ) (l : List ℕ) → most_apart cells false (i ∷ l) ≡ cond (undecided cells i) (suc (most_apart cells true l)) (most_apart cells false l)
+  -- an undecided cell may always be taken where the one before it was not
+  apart_cons : (i : ℕ) (l : List ℕ) → most_apart cells false (i ∷ l) ≡ cond (undecided cells i) (suc (most_apart cells true l)) (most_apart cells false l)
   unfolding most_apart
   apart_cons i l = go (undecided cells i)
     where
@@ -154,30 +154,23 @@ module _ (cells : List ℕ) where
       go true = omega (arith, apart_suc l)
       go false = refl
 
-  -- the cell behind one that is taken is passed over
-  apart_next : (l : List ℕ) → most_apart cells true l ≡ most_apart cells false (drop 1 l)
-  unfolding most_apart
-  apart_next [] = refl
-  apart_next (i ∷ l) = refl
-
-  module _ (a : List ℕ) (k to : ℕ) where
-    -- the count over a part of a list, from k on: nothing is left
-    pub part_done : to ≤ k → most_apart cells false (slice k to a) ≡ 0
+  module _ (gap : List ℕ) (k : ℕ) (within : k < length gap) where
+    -- the cell behind one that is counted is passed over
+    pub apart_behind : most_apart cells true (drop k gap) ≡ most_apart cells false (drop (k + 1) gap)
     unfolding most_apart
-    part_done h =
-        let e : slice k to a ≡ [] = drop_of_length-le (take to a) {i = k} (simp length-take (omega arith)) in
-        rw e refl
+    apart_behind = rw (drop_more gap k 0 within) refl
 
-    -- the first cell is undecided: it is taken, and the next one passed over
-    pub part_taken : k < to → to ≤ length a → get_or cells (get_or a k 0) 0 ≡ 2 → most_apart cells false (slice k to a) ≡ suc (most_apart cells false (slice (k + 2) to a))
+    -- an undecided cell is counted where the one before it was not
+    pub apart_counted : get_or cells (get_or gap k 0) 0 ≡ 2 → most_apart cells false (drop k gap) ≡ most_apart cells true (drop (k + 1) gap) + 1
     unfolding undecided
-    part_taken h l u =
-        let e : suc k + 1 ≡ k + 2 = omega arith in
-        rw (slice-cons k to a 0 h l, apart_cons (get_or a k 0) (slice (suc k) to a), eq-eqb (get_or cells (get_or a k 0) 0) 2 u)
-        (ap suc (apart_next (slice (suc k) to a) ∙ rw (drop-drop 1 (suc k) (take to a), e) refl))
+    apart_counted u = rw (drop_more gap k 0 within, apart_cons (get_or gap k 0) (drop (k + 1) gap), eq-eqb (get_or cells (get_or gap k 0) 0) 2 u) (omega arith)
 
-    -- it is decided: it is passed over
-    pub part_passed : k < to → to ≤ length a → (get_or cells (get_or a k 0) 0 ≡ 2 → ⊥) → most_apart cells false (slice k to a) ≡ most_apart cells false (slice (suc k) to a)
+    -- a decided cell is passed over
+    pub apart_passed : (get_or cells (get_or gap k 0) 0 ≡ 2 → ⊥) → most_apart cells false (drop k gap) ≡ most_apart cells false (drop (k + 1) gap)
     unfolding undecided
-    part_passed h l u =
-        rw (slice-cons k to a 0 h l, apart_cons (get_or a k 0) (slice (suc k) to a), ne_eqb (get_or cells (get_or a k 0) 0) 2 u) refl
+    apart_passed u = rw (drop_more gap k 0 within, apart_cons (get_or gap k 0) (drop (k + 1) gap), ne_eqb (get_or cells (get_or gap k 0) 0) 2 u) refl
+
+  -- behind the last cell nothing is left to count
+  pub apart_end : (counted : Bool) (gap : List ℕ) (k : ℕ) → length gap ≤ k → most_apart cells counted (drop k gap) ≡ 0
+  unfolding most_apart
+  apart_end counted gap k h = rw (drop_all k gap h) refl

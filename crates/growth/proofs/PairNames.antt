@@ -22,7 +22,7 @@ use Rattle.groups.proofs.GroupLaws.{linked_size, label_own, label_linked}
 use Rattle.kinds.specs.Kinds.{view, view_with, vacant, in_block, arrow_block, kind_at, kinds_of}
 use Rattle.kinds.specs.Arrays.{kind_code, owner_by, kind_array, owner_array}
 use Rattle.kinds.specs.Inside.{puzzle_with}
-use Rattle.growth.specs.Pairs.{NextSquare, view_on, Scene, Squares}
+use Rattle.growth.specs.Pairs.{NextSquare, view_on, Stretch, Squares}
 use Rattle.kinds.proofs.BlockArrays.{kind_get}
 
 -- the next square, in an array and among the grid's cells
@@ -89,10 +89,10 @@ module _ (p : Puzzle) (cells : List ℕ) (i : ℕ) (on : i < size p.grid) (sq : 
   name_code = filled_at 0 (λ j. kind_code (get_or (kinds_of p cells blocks) j vacant)) (size g) (get_or blocks i 0) name_on ∙ rw name_kind refl
 
 -- the same by a scene
-module _ {h w : ℕ} {lines : List (List ℕ)} {cells arrows kinds owners : List ℕ} {from to : ℕ} (s : Scene h w lines cells arrows kinds owners from to) where
+module _ {h w : ℕ} {lines : List (List ℕ)} {cells arrows kinds owners : List ℕ} {from to : ℕ} (s : Stretch h w lines cells arrows kinds owners from to) where
   -- a part of it
-  pub Scene-part : {a b : ℕ} → from ≤ a → b ≤ to → Scene h w lines cells arrows kinds owners a b
-  Scene-part p q = record {
+  pub Stretch-part : {a b : ℕ} → from ≤ a → b ≤ to → Stretch h w lines cells arrows kinds owners a b
+  Stretch-part p q = record {
     held = s.held;
     few = omega (arith, s.few);
     inside = λ k l u. s.inside k (omega arith) (omega arith);
@@ -119,16 +119,17 @@ module _ {h w : ℕ} {lines : List (List ℕ)} {cells arrows kinds owners : List
         rw (scene_owner, s.held.kind)
         (name_code (puzzle_with (sized h w) lines) (take (h * w) cells) (get_or arrows k 0) (s.inside k p q) (square_taken cells (h * w) (get_or arrows k 0) (s.inside k p q) ∙ sq) (s.are_on_arrow k p q))
 
--- two squares of an arrow: their places hold cells, and the names of their blocks are cells of the grid
+-- two squares of an arrow: the names of their blocks are cells of the grid
 module _ {h w : ℕ} {cells arrows kinds owners : List ℕ} {last cur : ℕ} (s : Squares h w cells arrows kinds owners last cur) where
-  pub last_cell : get_or arrows last 0 < 1024
-  last_cell = s.line.places.cells last
-
-  pub cur_cell : get_or arrows cur 0 < 1024
-  cur_cell = s.line.places.cells cur
-
   pub last_name : get_or owners (get_or arrows last 0) 0 < h * w
-  last_name = scene_name s.line.scene last (omega arith) (omega (arith, s.order)) s.first
+  last_name = scene_name s.line.stretch last (omega arith) (omega (arith, s.order)) s.first
 
   pub cur_name : get_or owners (get_or arrows cur 0) 0 < h * w
-  cur_name = scene_name s.line.scene cur (omega (arith, s.order)) (omega arith) s.second
+  cur_name = scene_name s.line.stretch cur (omega (arith, s.order)) (omega arith) s.second
+
+  -- the names are those of arrow blocks
+  pub last_kind : get_or kinds (get_or owners (get_or arrows last 0) 0) 0 ≡ 1
+  last_kind = scene_kind s.line.stretch last (omega arith) (omega (arith, s.order)) s.first
+
+  pub cur_kind : get_or kinds (get_or owners (get_or arrows cur 0) 0) 0 ≡ 1
+  cur_kind = scene_kind s.line.stretch cur (omega (arith, s.order)) (omega arith) s.second

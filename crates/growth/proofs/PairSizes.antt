@@ -1,18 +1,16 @@
 -- How many cells and literals the parts of reasons 3 and 4 have, at most.
 -- Assumes nothing.
-use Prim.Native.Nat.{ℕ, suc, ◌+◌, ◌*◌, ◌≤◌, max}
+use Prim.Native.Nat.{ℕ, ◌+◌, ◌*◌, ◌≤◌}
 use native.Mathlib.Omega.{arith}
 use mathlib.Core.Path.{◌≡◌, refl}
-use mathlib.Core.Bool.{Bool, true, false, cond}
-use mathlib.Core.List.{List, [], ◌∷◌}
+use mathlib.Core.List.{List}
 use lib.ListN.{length, length-append}
 use Rattle.grid.specs.Grid.{size, cells_of}
 use Rattle.grid.proofs.ListLaws.{filter-length}
 use Rattle.grid.proofs.GridLaws.{cells_length}
-use Rattle.grid.specs.Cells.{undecided}
 use Rattle.kinds.specs.Kinds.{view, view_with, block, in_reach, reach, fence}
 use Rattle.growth.specs.Pairs.{view_on}
-use Rattle.growth.specs.Growth.{most_apart, cell_fence, block_cell_fence}
+use Rattle.growth.specs.Growth.{cell_fence}
 use Rattle.literals.proofs.Pass.{each-length}
 use Rattle.kinds.proofs.Lengths.{block-length, fence-length}
 
@@ -35,21 +33,3 @@ module _ (h w : ℕ) (lines : List (List ℕ)) (cells : List ℕ) where
   -- an arrow cell and a fence
   pub cell_few : (i f : ℕ) → length (cell_fence (view_on h w lines cells) i f) ≤ h * w + 1
   cell_few i f = simp (length-append, each-length) (omega (arith, fence_few f))
-
-  -- a block, an arrow cell and a fence
-  pub parts_few : (b i f : ℕ) → length (block_cell_fence (view_on h w lines cells) b i f) ≤ 2 * (h * w) + 1
-  parts_few b i f = simp (length-append, each-length) (omega (arith, block_few b, fence_few f))
-
--- the counted cells of a gap
-most_few : (cells : List ℕ) (t : Bool) (l : List ℕ) → most_apart cells t l ≤ length l
-unfolding most_apart
-most_few cells t [] = omega arith
-most_few cells true (i ∷ l) = omega (arith, most_few cells false l)
-most_few cells false (i ∷ l) = go (undecided cells i) (most_few cells true l) (most_few cells false l)
-  where
-    go : (u : Bool) → most_apart cells true l ≤ length l → most_apart cells false l ≤ length l → cond u (max (suc (most_apart cells true l)) (most_apart cells false l)) (most_apart cells false l) ≤ suc (length l)
-    go true p q = omega arith
-    go false p q = omega arith
-
-pub most_low : (cells l : List ℕ) → length l ≤ 1024 → most_apart cells false l ≤ 1024
-most_low cells l h = omega (arith, most_few cells false l)

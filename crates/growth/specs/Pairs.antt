@@ -1,14 +1,13 @@
 -- The search along the arrows for reasons 3 and 4, on arrays.
 -- Assumes nothing.
-use Rattle.std.specs.Prelude.{ℕ, ◌+◌, ◌*◌, ◌≤◌, ◌<◌, ◌≡◌, true, false, cond, List, eqb, get_or, take}
+use Rattle.std.specs.Prelude.{ℕ, ◌+◌, ◌*◌, ◌≤◌, ◌<◌, ◌≡◌, true, false, List, get_or, take}
 use Rattle.std.proofs.Math.Seq.{slice}
 use Rattle.grid.specs.Side.{sized}
 use Rattle.grid.specs.Cells.{square}
 use Rattle.groups.specs.Arrows.{on_arrow, Pair}
 use Rattle.groups.specs.Arrays.{CellArray, lines_of, Drawn}
 use Rattle.kinds.specs.Kinds.{View, view}
-use Rattle.reach.specs.Chains.{Chains}
-use Rattle.reach.specs.Near.{Sizes, SquaresOf}
+use Rattle.reach.specs.Near.{SquaresOf}
 use Rattle.kinds.specs.Inside.{puzzle_with, Held}
 
 -- the pair of the squares at two places of the arrows
@@ -27,7 +26,7 @@ abbrev pub view_on : ℕ → ℕ → List (List ℕ) → List ℕ → View
 view_on h w lines cells = view (puzzle_with (sized h w) lines) (take (h * w) cells)
 
 -- the arrays hold the kinds of that board, and the places from `from` up to `to` hold arrow cells, no more than the grid has
-pub record Scene (h w : ℕ) (lines : List (List ℕ)) (cells arrows kinds owners : List ℕ) (from to : ℕ) : Type 0 where
+pub record Stretch (h w : ℕ) (lines : List (List ℕ)) (cells arrows kinds owners : List ℕ) (from to : ℕ) : Type 0 where
   pub held : Held (view_on h w lines cells) kinds owners
   pub few : to ≤ from + h * w
   pub inside : (k : ℕ) → from ≤ k → k < to → get_or arrows k 0 < h * w
@@ -42,16 +41,10 @@ pub record Shown (h w : ℕ) (cells kinds owners : List ℕ) : Type 0 where
 abbrev pub Blocks : List ℕ → List ℕ → ℕ → List ℕ → Type 0
 Blocks kinds owners n squares = (f : ℕ) → f < 1024 → get_or kinds f 0 ≡ 1 → SquaresOf kinds owners n squares f
 
--- the cells of each owner are linked and counted, and the sizes of the arrow blocks are known
-pub record Grouped (kinds owners head next sizes squares : List ℕ) (n : ℕ) : Type 0 where
-  pub chains : Chains owners head next n
-  pub counts : Sizes kinds owners n sizes
-  pub blocks : Blocks kinds owners n squares
-
 -- the kinds are those of some board, and the places from `from` up to `to` hold arrow cells of it
 pub record Line (h w : ℕ) (cells arrows kinds owners : List ℕ) (from to : ℕ) : Type 0 where
   pub lines : List (List ℕ)
-  pub scene : Scene h w lines cells arrows kinds owners from to
+  pub stretch : Stretch h w lines cells arrows kinds owners from to
   pub places : CellArray arrows
   pub order : from ≤ to
   pub short : to ≤ 1024

@@ -21,16 +21,16 @@ use Rattle.board.specs.Kept.{opening, open_of}
 use Rattle.board.specs.Decide.{area, decide_refusal, undo_refusal, answered, decide_of, undo_of}
 use Rattle.board.specs.Hints.{count_of, find_refusal}
 use Rattle.board.proofs.BoardForm.{Whole-is}
-use Rattle.literals.specs.declared.Finding.TheVariants as findings
+use Rattle.literals.specs.Buffer as findings
 use Rattle.literals.specs.Literals.{Found}
 use Rattle.literals.specs.Buffer.{finding_by}
 use Rattle.reasons.specs.Find.{reason_on, find_of, leaf_on, cells_on}
-use Rattle.finished.specs.declared.Verdict.TheVariants as verdicts
+use Rattle.finished.specs.Verdicts as verdicts
 use Rattle.finished.specs.Finished.{finished_test}
 use Rattle.finished.specs.Verdicts.{verdict, finished_of}
 use Rattle.certain.specs.Tree.{search_of}
-use Rattle.certain.specs.declared.Facts.{Facts}
-use Rattle.certain.specs.declared.Certainty.TheVariants as certainties
+use Rattle.certain.specs.Facts.{Facts}
+use Rattle.certain.specs.Facts as certainties
 use Rattle.certain.specs.Facts.{untold, certain_by, certain_of}
 use Rattle.host_certain.specs.Told.{Said, said_of, said_number}
 use Rattle.host_board.specs.Lent.{answer_number, finding_number, verdict_number, board_certain, hints_of, count_number}

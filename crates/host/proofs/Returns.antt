@@ -38,9 +38,7 @@ use Rattle.clauses.proofs.LengthLaws.{sheet_most}
 use Rattle.shades.specs.Shades.{shades_on}
 use Rattle.shades.proofs.ShadeLaws.{shades_length}
 use Rattle.certain.specs.Tree.{Reached, search_of}
-use Rattle.certain.specs.Facts.{certainty, untold, known, certain_by}
-use Rattle.certain.specs.declared.Certainty.TheVariants.{Spent}
-use Rattle.certain.specs.declared.Facts.{Facts}
+use Rattle.certain.specs.Facts.{certainty, untold, known, certain_by, Spent, Facts}
 use Rattle.file.specs.File.{tail_of, cells_in, tail_test, solution_in, Graded, Solved, graded_in, solved_in, player_behind, setter_behind}
 use Rattle.file.specs.Call.{Given, to_player, to_setter, player_within, setter_within, player_given, setter_given}
 use Rattle.file.proofs.TailLaws.{solution_length}

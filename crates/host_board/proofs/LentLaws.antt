@@ -6,27 +6,27 @@ use native.Mathlib.Omega.{arith}
 use mathlib.Core.Logic.{◌⊎◌, inl, inr}
 use mathlib.Core.Path.{◌≡◌, refl, sym, ap, ◌∙◌}
 use mathlib.Core.Bool.{Bool, true, false, cond}
-use mathlib.Core.List.{List}
+use mathlib.Core.List.{List, [], ◌∷◌}
 use mathlib.Core.Option.{none, some}
 use lib.Dec.{leb}
 use lib.IntN.{pos, neg_ℤ}
 use lib.ListN.{length}
-use borrow.Author.Tests.{le-leb, lt-leb}
+use mir.Val.{bool_byte}
+use borrow.Author.Tests.{le-leb, lt-leb, ne_eqb}
 use Rattle.grid.specs.Grid.{size}
 use Rattle.grid.proofs.SideLaws.{area as area_most}
 use Rattle.grid.proofs.ListLaws.{split}
-use Rattle.std.specs.Prelude.{Option, Some, None, Ok, Err}
-use Rattle.std.specs.Prelude.{⊤}
+use Rattle.std.specs.Prelude.{Option, Some, None, Ok, Err, ⊤}
 use Rattle.std.specs.Option.{unwrap_or}
-use Rattle.std.specs.Result.{result_and}
+use Rattle.std.specs.Result.{OkIff, IsOkAnd, MatchResult, result_and, result_unwrap_or}
 use Rattle.std.specs.declared.result.Result.{Result}
-use Rattle.refusal.specs.Refusals.{number_of, outcome_of, returned_of}
+use Rattle.refusal.specs.Refusals.{outcome_of, returned_of}
 use Rattle.refusal.specs.declared.Refusal.{Refusal}
 use Rattle.record.specs.Record.{Outcome, ok, refused, ◌>>=◌, unless, Puzzle, read_record}
 use Rattle.record.specs.Problem.{grid_of, puzzle_of}
 use Rattle.record.specs.Leaf.{leaf_with, is_edition, sizes_of, leaf_of}
-use Rattle.record.specs.declared.Answer.{Answer}
-use Rattle.record.specs.declared.Answer.TheVariants as answers
+use Rattle.record.specs.Problem.{Answer}
+use Rattle.record.specs.Problem as answers
 use Rattle.board.specs.declared.Board.{Board}
 use Rattle.board.specs.Answers.{Opened, told, opened_as, done_as}
 use Rattle.board.specs.Form.{well_formed}
@@ -35,54 +35,54 @@ use Rattle.board.specs.Decide.{area, decide_of, undo_of}
 use Rattle.board.specs.Hints.{count_of, find_refusal, after_find, hinted_by}
 use Rattle.board.proofs.Unchanged.{decide_unchanged, undo_unchanged}
 use Rattle.literals.specs.Literals.{Found}
-use Rattle.literals.specs.Buffer.{finding_by, buffer_by}
-use Rattle.literals.specs.declared.Finding.{Finding}
-use Rattle.literals.specs.declared.Finding.TheVariants as findings
+use Rattle.literals.specs.Buffer.{finding_by, buffer_by, Finding}
+use Rattle.literals.specs.Buffer as findings
 use Rattle.reasons.specs.Find.{reason_on, find_of, found_as, buffer_after}
-use Rattle.reasons.proofs.BoardArrays.{board_sizes, board_arrays}
+use Rattle.board.proofs.BoardArrays.{board_sizes, board_arrays}
 use Rattle.reasons.proofs.ReasonLaws.{reason_length}
-use Rattle.call.specs.Inside.{edition_of}
-use Rattle.certain.specs.Facts.{certain_of}
-use Rattle.certain.specs.declared.Facts.{Facts}
-use Rattle.certain.specs.declared.Certainty.{Certainty}
-use Rattle.certain.specs.declared.Certainty.TheVariants as certainties
+use Rattle.finished.specs.Verdicts.{Verdict, judged_as}
+use Rattle.finished.specs.Verdicts as verdicts
+use Rattle.certain.specs.Tree.{Reached, search_of}
+use Rattle.certain.specs.Facts.{Certainty, Facts, certainty, known, untold, certain_by, certain_of}
+use Rattle.certain.specs.Facts as certainties
+use Rattle.certain.specs.Told.{refused_facts}
 use Rattle.exported.specs.Written.{output_with}
 use Rattle.host_certain.specs.Told.{certainty_number, certain_bytes, said_of, said_number, said_bytes}
-use Rattle.host_board.specs.Lent.{answer_number, finding_number, count_number, opened_over, after_open, board_certain, hints_of}
+use Rattle.host_board.specs.Lent.{answer_number, finding_number, verdict_number, count_number, opened_over, after_open, board_certain, hints_of}
 
 -- ---- open
 
--- an edition as the code keeps it opens the same leaf: 0 is refused as every other number is
-pub narrowed : (s : List ℕ) (e : ℕ) (ns : List ℕ) → open_of s (edition_of e) ns ≡ open_of s e ns
-unfolding open_of edition_of leaf_of ◌>>=◌ unless
-narrowed s e ns = go (split (is_edition e))
+-- a number that is no edition is refused as every other is
+no_edition : (s : List ℕ) (e : ℕ) (ns : List ℕ) → is_edition e ≡ false → open_of s e ns ≡ opening (read_record s >>= λ p. refused 16)
+unfolding open_of leaf_of ◌>>=◌ unless
+no_edition s e ns f = ap opening (go (read_record s))
   where
-    none_such : (e' : ℕ) → is_edition e' ≡ false → (o : Outcome Puzzle)
-        → (o >>= λ p. unless (is_edition e') 16 >>= λ _. sizes_of p ns >>= λ rs. ok (leaf_with e' rs p)) ≡ (o >>= λ p. refused 16)
-    none_such e' f (refused k) = refl
-    none_such e' f (ok p) = rw f refl
+    go : (o : Outcome Puzzle) → (o >>= λ p. unless (is_edition e) 16 >>= λ _. sizes_of p ns >>= λ rs. ok (leaf_with e rs p)) ≡ (o >>= λ p. refused 16)
+    go (refused k) = refl
+    go (ok p) = rw f refl
 
-    go : (is_edition e ≡ true) ⊎ (is_edition e ≡ false) → open_of s (cond (is_edition e) e 0) ns ≡ open_of s e ns
-    go (inl t) =
-        let q : cond (is_edition e) e 0 ≡ e = rw t refl in
-        ap (λ (k : ℕ). open_of s k ns) q
-    go (inr f) =
-        let q : cond (is_edition e) e 0 ≡ 0 = rw f refl in
-        ap (λ (k : ℕ). open_of s k ns) q ∙ ap opening (none_such 0 (unfold is_edition in refl) (read_record s) ∙ sym (none_such e f (read_record s)))
+-- so where an edition is too large for a byte, 0 opens the same leaf
+pub narrowed : {E : Type 0} (r : Result ℕ E) (s : List ℕ) (e : ℕ) (ns : List ℕ) → OkIff r (e < 256) e → open_of s (result_unwrap_or r 0) ns ≡ open_of s e ns
+unfolding is_edition
+narrowed (Ok k) s e ns o = ap (λ (j : ℕ). open_of s j ns) o.1
+narrowed (Err x) s e ns o =
+    let one : e ≡ 1 → ⊥ = λ q. omega (arith, o, q) in
+    let two : e ≡ 2 → ⊥ = λ q. omega (arith, o, q) in
+    no_edition s 0 ns refl ∙ sym (no_edition s e ns (rw (ne_eqb e 1 one, ne_eqb e 2 two) refl))
 
 -- what is opened over a board, by the outcome
 module _ (was : Board) (s : List ℕ) (e : ℕ) (ns : List ℕ) where
-  pub opened_done : {b : Board} → ok b ≡ opened_as (open_of s (edition_of e) ns) → (ok tt ≡ done_as (open_of s e ns).answer) × (b ≡ after_open was (open_of s e ns))
+  pub opened_done : {b : Board} → ok b ≡ opened_as (open_of s e ns) → (ok tt ≡ done_as (open_of s e ns).answer) × (b ≡ after_open was (open_of s e ns))
   unfolding after_open opened_over
-  opened_done {b} h = let x = rw (narrowed s e ns) at h in go (open_of s e ns).answer (open_of s e ns).board x
+  opened_done {b} h = go (open_of s e ns).answer (open_of s e ns).board h
     where
       go : (a : Answer) (o : Board) → ok b ≡ told a o → (ok tt ≡ done_as a) × (b ≡ opened_over a was o)
       go answers.Done o x = (refl, cc)
       go (answers.Refused k) o x = let z : ◌≡◌ {A = ℕ} 0 1 = cc in absurd (omega arith)
 
-  pub opened_refused : {k : ℕ} → refused k ≡ opened_as (open_of s (edition_of e) ns) → (refused k ≡ done_as (open_of s e ns).answer) × (was ≡ after_open was (open_of s e ns))
+  pub opened_refused : {k : ℕ} → refused k ≡ opened_as (open_of s e ns) → (refused k ≡ done_as (open_of s e ns).answer) × (was ≡ after_open was (open_of s e ns))
   unfolding after_open opened_over
-  opened_refused {k} h = let x = rw (narrowed s e ns) at h in go (open_of s e ns).answer (open_of s e ns).board x
+  opened_refused {k} h = go (open_of s e ns).answer (open_of s e ns).board h
     where
       go : (a : Answer) (o : Board) → refused k ≡ told a o → (refused k ≡ done_as a) × (was ≡ opened_over a was o)
       go answers.Done o x = let z : ◌≡◌ {A = ℕ} 0 1 = cc in absurd (omega arith)
@@ -104,9 +104,9 @@ pub answer_returned : (r : Result ⊤ Refusal) (s : Result ℕ Refusal) (a : Ans
 answer_returned (Ok u) s a e h = rw e (answer_done a h)
 answer_returned (Err k) s a e h = rw e (answer_refused a h)
 
-pub few_found : (o : Option ℕ) → ((k : ℕ) → o ≡ Some k → k < 2147483648) → unwrap_or o 0 < 2147483648
-few_found None h = omega arith
-few_found (Some k) h = h k refl
+pub few_found : (o : Option ℕ) (d : ℕ) → d < 2147483648 → ((k : ℕ) → o ≡ Some k → k < 2147483648) → unwrap_or o d < 2147483648
+few_found None d l h = l
+few_found (Some k) d l h = h k refl
 
 pub finding_found : (f : Finding) (o : Option ℕ) → ok o ≡ found_as f → pos (unwrap_or o 0) ≡ finding_number f
 unfolding finding_number
@@ -124,6 +124,23 @@ pub count_returned : (r : Result ℕ Refusal) (o : Outcome ℕ) → outcome_of r
 unfolding count_number
 count_returned (Ok n) o e = rw (← e) refl
 count_returned (Err r) o e = rw (← e) refl
+
+verdict_yes : (t : Bool) (v : Verdict) → ok t ≡ judged_as v → pos (bool_byte t) ≡ verdict_number v
+unfolding verdict_number
+verdict_yes t verdicts.Yes e = let z : t ≡ true = cc in rw z refl
+verdict_yes t verdicts.No e = let z : t ≡ false = cc in rw z refl
+verdict_yes t (verdicts.Refused k) e = let z : ◌≡◌ {A = ℕ} 0 1 = cc in absurd (omega arith)
+
+verdict_refused : (v : Verdict) {k : ℕ} → refused k ≡ judged_as v → neg_ℤ (pos k) ≡ verdict_number v
+unfolding verdict_number
+verdict_refused verdicts.Yes e = let z : ◌≡◌ {A = ℕ} 0 1 = cc in absurd (omega arith)
+verdict_refused verdicts.No e = let z : ◌≡◌ {A = ℕ} 0 1 = cc in absurd (omega arith)
+verdict_refused (verdicts.Refused j) {k} e = let z : j ≡ k = cc in rw z refl
+
+pub verdict_returned : (r : Result Bool Refusal) (s : Result ℕ Refusal) (v : Verdict) → MatchResult r (λ t. IsOkAnd s (λ n. n ≡ bool_byte t)) (λ e. s ≡ Err e) → outcome_of r ≡ judged_as v → returned_of s ≡ verdict_number v
+verdict_returned (Ok t) (Ok n) v m e = rw m (verdict_yes t v e)
+verdict_returned (Ok t) (Err x) v m e = absurd m
+verdict_returned (Err x) s v m e = rw m (verdict_refused v e)
 
 -- ---- find
 
@@ -173,6 +190,19 @@ module _ (b : Board) (budget k : ℕ) where
   pub certain_said : well_formed b ≡ true → 8 + b.problem.height * b.problem.width ≤ k → board_certain b budget k ≡ ok (said_of (b.problem.height * b.problem.width) (certain_of b budget))
   unfolding board_certain unless ◌>>=◌ area grid_of size
   certain_said w l = rw (w, le-leb (8 + b.problem.height * b.problem.width) k l) refl
+
+  -- which is no refusal
+  pub certain_made : (j : ℕ) → well_formed b ≡ true → refused_facts j ≡ certain_of b budget → ⊥
+  unfolding certain_of certain_by known untold certainty
+  certain_made j w e = go (leb (search_of (leaf_on b) (cells_on b)).steps budget) (search_of (leaf_on b) (cells_on b)) (ap (λ (f : Facts). f.answer) (rw w at e))
+    where
+      none_told : (boards : List (List ℕ)) → certainties.Refused j ≡ certainty boards → ⊥
+      none_told [] q = let z : ◌≡◌ {A = ℕ} 0 1 = cc in omega arith
+      none_told (x ∷ xs) q = let z : ◌≡◌ {A = ℕ} 0 1 = cc in omega arith
+
+      go : (t : Bool) (r : Reached) → certainties.Refused j ≡ (cond t (known (size (grid_of b.problem)) r) (untold certainties.Spent budget)).answer → ⊥
+      go true r q = none_told r.boards q
+      go false r q = let z : ◌≡◌ {A = ℕ} 0 1 = cc in omega arith
 
 -- ---- hints
 

@@ -3,17 +3,17 @@
 -- Assumes nothing.
 use Rattle.std.specs.Prelude.{ℕ, ◌+◌, leb, ℤ, pos, neg_ℤ}
 use Rattle.record.specs.Record.{Outcome, ok, refused, ◌>>=◌, unless}
-use Rattle.record.specs.declared.Answer.{Answer}
-use Rattle.record.specs.declared.Answer.TheVariants as answers
+use Rattle.record.specs.Problem.{Answer}
+use Rattle.record.specs.Problem as answers
 use Rattle.board.specs.declared.Board.{Board}
 use Rattle.board.specs.Answers.{Opened}
 use Rattle.board.specs.Form.{well_formed}
 use Rattle.board.specs.Decide.{area}
 use Rattle.board.specs.Hints.{count_of}
-use Rattle.literals.specs.declared.Finding.{Finding}
-use Rattle.literals.specs.declared.Finding.TheVariants as findings
-use Rattle.finished.specs.declared.Verdict.{Verdict}
-use Rattle.finished.specs.declared.Verdict.TheVariants as verdicts
+use Rattle.literals.specs.Buffer.{Finding}
+use Rattle.literals.specs.Buffer as findings
+use Rattle.finished.specs.Verdicts.{Verdict}
+use Rattle.finished.specs.Verdicts as verdicts
 use Rattle.certain.specs.Facts.{certain_of}
 use Rattle.host_certain.specs.Told.{Said, said_of}
 

@@ -4,20 +4,18 @@
 
 ghost use Rattle.std.specs.Prelude.{◌≡◌, ℕ, ◌<◌, ◌^◌, length, Some};
 ghost use Rattle.std.specs.Result.{ForOk};
-ghost use Rattle.refusal.specs.Refusals.{ok, outcome_of};
+ghost use Rattle.refusal.specs.Refusals.{ok, outcome_of, returned_of};
 ghost use Rattle.exported.specs.Written.{output_with};
-ghost use Rattle.record.specs.declared.Answer.{Answer};
+ghost use Rattle.record.specs.Problem.{Answer};
 ghost use Rattle.board.specs.Answers.{done_as};
 ghost use Rattle.board.specs.Kept.{open_of};
-ghost use Rattle.literals.specs.declared.Finding.{Finding};
+ghost use Rattle.literals.specs.Buffer.{Finding};
 ghost use Rattle.reasons.specs.Find.{found_as};
 ghost use Rattle.finished.specs.Verdicts.{finished_of};
 ghost use Rattle.host_certain.specs.Told.{said_number, said_bytes};
 ghost use Rattle.host_board.specs.Lent.{answer_number, finding_number, verdict_number, after_open, board_certain, hints_of, count_number};
 
 use board::Board;
-use exported::negated;
-use finished::Verdict;
 use refusal::{Refusal, returned};
 
 // What a call returns that has nothing to tell: 0, or the negated number of a refusal.
@@ -44,7 +42,9 @@ pub fn open_in(board: &mut Board, record: &[u8], edition: u32, sizes: &[u16]) ->
     ensures { (outcome_of result ≡ done_as (open_of «record».now edition sizes.now).answer)
         × (board.new ≡ after_open board.old (open_of «record».now edition sizes.now)) }
 {
-    let fresh = Board::open(record, call::edition_of(edition), sizes)?;
+    // 0 is no edition either
+    let edition = u8::try_from(edition).unwrap_or(0);
+    let fresh = Board::open(record, edition, sizes)?;
     *board = fresh;
     Ok(())
 }
@@ -53,28 +53,31 @@ pub fn open_in(board: &mut Board, record: &[u8], edition: u32, sizes: &[u16]) ->
 pub fn finished_number(board: &Board) -> i32
     ensures { result ≡ verdict_number (finished_of board.now) }
 {
-    let verdict = finished::finished(*board);
-    match verdict {
-        Verdict::Yes => 1,
-        Verdict::No => 0,
-        Verdict::Refused(k) => negated(k),
-    }
+    returned(finished::finished(*board).map(usize::from))
 }
 
-// `certain`, its answer written to the output as `host_certain` writes it: 6, then 11 for an output below 8 + H × W bytes.
+// Writes to the output which cells are certain, as `host_certain` does, and tells the answer's number. Refused: 6, then 11 for an output below 8 + H × W
+// bytes.
+fn tell_certain(board: &Board, budget: u64, output: &mut [u8]) -> Result<usize, Refusal>
+    ensures told { (returned_of result ≡ said_number (board_certain board.now budget (length output.old)))
+        × (output.new ≡ output_with (said_bytes (board_certain board.now budget (length output.old))) output.old) }
+    ensures few { ForOk result (λ n. n < 2 ^ 31) }
+{
+    let n = board.leaf()?.grid().size();
+    if output.len() < 8 + n {
+        return Err(Refusal::OutputShort);
+    }
+    let facts = certain::certain(*board, budget)?;
+    Ok(host_certain::write_certain(&facts, n, output))
+}
+
+// The same as a number: 0 where the cells are told, 1 where no finished board agrees with the decisions, 2 where the budget is spent, or the negated number
+// of the refusal, which leaves the output as it was.
 pub fn certain_number(board: &Board, budget: u64, output: &mut [u8]) -> i32
     ensures { (result ≡ said_number (board_certain board.now budget (length output.old)))
         × (output.new ≡ output_with (said_bytes (board_certain board.now budget (length output.old))) output.old) }
 {
-    if !board.is_formed() {
-        return negated(6);
-    }
-    let n = board.problem.height * board.problem.width;
-    if output.len() < 8 + n {
-        return negated(11);
-    }
-    let facts = certain::certain(*board, budget);
-    host_certain::write_certain(facts, n, output)
+    returned(tell_certain(board, budget, output))
 }
 
 // How many hints the player has taken. Refused: 6, then 17 for a player above 3.

@@ -1,34 +1,34 @@
 -- The call for the cells that are certain, step by step, and the bytes that it writes.
 -- Assumes nothing.
-use Prim.Native.Nat.{ℕ, ◌+◌, ◌*◌, ◌≤◌, ◌<◌}
+use Prim.Native.Nat.{ℕ, ◌+◌, ◌≤◌, ◌<◌}
 use native.Mathlib.Omega.{arith}
 use mathlib.Core.Path.{◌≡◌, refl, sym, ap, ◌∙◌}
 use mathlib.Core.List.{List, [], ◌++◌}
 use lib.IntN.{ℤ, pos, neg_ℤ}
 use lib.ListN.{length, take, drop, length-append}
 use lib.Seq.{take_at, drop_at, drop-drop, length-take-le}
+use Rattle.std.specs.declared.result.Result.{Result}
 use Rattle.grid.specs.Grid.{Grid, size}
 use Rattle.grid.specs.Cells.{Literal}
 use Rattle.grid.specs.Lists.{flat_map, array_of}
-use Rattle.record.specs.Record.{Outcome, ok, refused}
+use Rattle.refusal.specs.declared.Refusal.{Refusal}
+use Rattle.refusal.specs.Refusals.{returned_of}
+use Rattle.record.specs.Record.{Outcome, ok, refused, ◌>>=◌}
 use Rattle.record.specs.Leaf.{Leaf}
-use Rattle.record.specs.declared.Answer.{Answer}
-use Rattle.record.specs.declared.Answer.TheVariants.{Done, Refused}
 use Rattle.board.specs.Board.{cells_after}
-use Rattle.board.proofs.Standing.{Standing, none}
+use Rattle.board.proofs.Standing.{none}
 use Rattle.certain.specs.Tree.{search_of}
-use Rattle.certain.specs.Facts.{certain_by}
+use Rattle.certain.specs.Facts.{Certainty, Facts, certain_by}
+use Rattle.certain.specs.Facts as certainties
 use Rattle.certain.specs.Inside.{States}
-use Rattle.certain.specs.declared.Certainty.{Certainty}
-use Rattle.certain.specs.declared.Certainty.TheVariants as certainties
-use Rattle.certain.specs.declared.Facts.{Facts}
 use Rattle.certain.proofs.AnswerLaws.{Standing-States}
 use Rattle.exported.specs.Written.{bytes_of, output_with}
+use Rattle.call.specs.Call.{decide_bytes}
+use Rattle.call.specs.Inside.{Told}
+use Rattle.call.proofs.Opening.{returned_refused}
+use Rattle.call.proofs.Steps.{Made, bytes_Standing, call_short, call_refused, call_done, call_plain}
 use Rattle.host_certain.specs.Told.{certainty_number, step_bytes, certain_bytes, Said, said_of, certain_on, host_certain, host_certain_with, said_number, said_bytes}
 use Rattle.host_certain.specs.Inside.{leaf_certain}
-use Rattle.call.specs.Inside.{Decides, Holds}
-use Rattle.call.proofs.Steps.{bytes_Standing, states_taken, call_short, call_refused, call_done, call_plain}
-use Rattle.call.proofs.Holding.{holds_size, holds_few}
 
 -- ---- what is said
 
@@ -69,11 +69,6 @@ module _ (n : ℕ) (f : Facts) (out : List ℕ) where
   unfolding certainty_number certain_bytes
   Says-spent e q = said_as certainties.Spent e refl (steps_only q)
 
-  -- a refusal
-  pub Says-refused : {r : ℤ} (k : ℕ) → f.answer ≡ certainties.Refused k → r ≡ neg_ℤ (pos k) → Says r out
-  unfolding certainty_number certain_bytes
-  Says-refused k e p = said_as (certainties.Refused k) e p refl
-
 -- ---- the call
 
 -- the number returned and the output after it
@@ -85,13 +80,21 @@ pub Tells-refused : (o : Outcome Said) (k : ℕ) (r : ℤ) (old : List ℕ) → 
 unfolding said_number said_bytes output_with
 Tells-refused o k r old e f = rw e (f, refl)
 
+-- what is told of an outcome is told of its equal
+pub Tells-as : {o p : Outcome Said} {r : ℤ} (old : List ℕ) {new : List ℕ} → o ≡ p → Tells p r old new → Tells o r old new
+Tells-as old e t = rw e t
+
 -- what was written for an answer is told of the call that says it
 pub Tells-said : (n : ℕ) (f g : Facts) {o : Outcome Said} → f ≡ g → (old : List ℕ) {r : ℤ} {new : List ℕ} → o ≡ ok (said_of n g) → Tells (ok (said_of n f)) r old new → Tells o r old new
 Tells-said n f g e old q t = rw (q, ← e) t
 
--- what is told of an outcome is told of its equal
-pub Tells-as : {o p : Outcome Said} {r : ℤ} (old : List ℕ) {new : List ℕ} → o ≡ p → Tells p r old new → Tells o r old new
-Tells-as old e t = rw e t
+-- what the call tells, by what is told of the leaf that is opened
+pub Tells-opened : (o : Outcome Leaf) (decisions : List ℕ) (budget : ℕ) (before after : List ℕ) (answer : Result ℕ Refusal)
+    → Told o (λ l before after answer. Tells (leaf_certain decisions budget (length before) l) (returned_of answer) before after) before after answer
+    → Tells (o >>= leaf_certain decisions budget (length before)) (returned_of answer) before after
+unfolding said_number said_bytes output_with ◌>>=◌
+Tells-opened (refused k) decisions budget before after answer t = (returned_refused answer t.0, t.1)
+Tells-opened (ok l) decisions budget before after answer t = t
 
 -- the call is that in edition 1 without sizes
 pub certain_plain : (s decisions : List ℕ) (budget n : ℕ) → host_certain s decisions budget n ≡ host_certain_with s 1 [] decisions budget n
@@ -102,30 +105,23 @@ certain_plain s decisions budget n = call_plain (λ g. 8 + size g) (certain_on b
 abbrev need : Grid → ℕ
 need g = 8 + size g
 
-module _ {l : Leaf} {e : ℕ} {lows highs : List ℕ} {h w : ℕ} {arrows ends : List ℕ} {number : ℕ} (x : Holds l e lows highs h w arrows ends number) (decisions : List ℕ) where
+-- decisions that are accepted leave states
+pub left_States : (g : Grid) (decisions : List ℕ) {cells : List ℕ} → size g ≤ 1024 → (ds : List Literal) × (decide_bytes g [] decisions ≡ ok ds) × (cells ≡ array_of 2 (cells_after g ds)) → States cells
+left_States g decisions few d = rw d.2 (Standing-States (bytes_Standing g decisions none d.1) few)
+
+module _ (l : Leaf) (decisions : List ℕ) (budget n : ℕ) where
   -- an output that is too short
-  pub certain_short : (budget n : ℕ) → n < 8 + h * w → leaf_certain decisions budget n l ≡ refused 11
-  certain_short budget n k = call_short need (certain_on budget) l decisions n (rw (holds_size x) at k)
+  pub certain_short : n < 8 + size l.puzzle.grid → leaf_certain decisions budget n l ≡ refused 11
+  certain_short k = call_short need (certain_on budget) l decisions n k
 
-  -- what deciding in order answers, and the states that it leaves
-  module _ {a : Answer} {cells : List ℕ} (d : Decides l.puzzle.grid decisions a cells) where
-    -- all are accepted: they are states
-    pub left_States : a ≡ Done → States cells
-    left_States f =
-        let y = d.done f in
-        rw y.2 (Standing-States (bytes_Standing l.puzzle.grid decisions none y.1) (omega (arith, holds_size x, holds_few x)))
+  module _ (k : 8 + size l.puzzle.grid ≤ n) where
+    -- a decision is refused
+    pub certain_refused : {m : ℕ} → decide_bytes l.puzzle.grid [] decisions ≡ refused m → leaf_certain decisions budget n l ≡ refused m
+    certain_refused f = call_refused need (certain_on budget) l decisions n k f
 
-    -- where the output is long enough
-    module _ (budget n : ℕ) (k : 8 + h * w ≤ n) where
-      -- a decision is refused
-      pub certain_refused : {m : ℕ} → a ≡ Refused m → leaf_certain decisions budget n l ≡ refused m
-      certain_refused f = call_refused need (certain_on budget) l decisions n d (rw (holds_size x) at k) f
-
-      -- all are accepted
-      pub certain_done : a ≡ Done → leaf_certain decisions budget n l ≡ ok (said_of (h * w) (certain_by (h * w) budget (search_of l (take (h * w) cells))))
-      certain_done f = call_done need (certain_on budget) l decisions n d (rw (holds_size x) at k) f (said_of (h * w) (certain_by (h * w) budget (search_of l (take (h * w) cells)))) said
-        where
-          said : (ds : List Literal) → Standing l.puzzle.grid ds → cells ≡ array_of 2 (cells_after l.puzzle.grid ds) → certain_on budget l ds ≡ said_of (h * w) (certain_by (h * w) budget (search_of l (take (h * w) cells)))
-          said ds t q =
-              let z : take (h * w) cells ≡ cells_after l.puzzle.grid ds = rw (holds_size x, q) (states_taken t) in
-              rw (z, holds_size x) refl
+    -- all are accepted: the search begins at the states that are left
+    pub certain_done : {cells : List ℕ} → Made l decisions cells
+        → leaf_certain decisions budget n l ≡ ok (said_of (size l.puzzle.grid) (certain_by (size l.puzzle.grid) budget (search_of l (take (size l.puzzle.grid) cells))))
+    certain_done m =
+        call_done need (certain_on budget) l decisions n k m.accepted
+        ∙ ap (λ (states : List ℕ). ok (said_of (size l.puzzle.grid) (certain_by (size l.puzzle.grid) budget (search_of l states)))) (sym m.left)

@@ -8,10 +8,8 @@ use Rattle.record.specs.Leaf.{Leaf}
 use Rattle.board.specs.Board.{cells_after}
 use Rattle.exported.specs.Written.{bytes_of}
 use Rattle.certain.specs.Tree.{search_of}
-use Rattle.certain.specs.Facts.{certain_by}
-use Rattle.certain.specs.declared.Certainty.{Certainty}
-use Rattle.certain.specs.declared.Certainty.TheVariants as certainties
-use Rattle.certain.specs.declared.Facts.{Facts}
+use Rattle.certain.specs.Facts.{certain_by, Certainty, Facts}
+use Rattle.certain.specs.Facts as certainties
 use Rattle.call.specs.Call.{host_call, host_call_with}
 
 -- the kind of an answer as a number: 0 the cells are told, 1 no such board, 2 spent, or the negated refusal number

@@ -8,22 +8,27 @@ use mathlib.Core.Option.{none, some}
 use lib.IntN.{ℤ, pos, neg_ℤ}
 use lib.ListN.{length, take, drop, length-map, length-append}
 use lib.Seq.{take_at}
+use Rattle.std.specs.declared.result.Result.{Result}
 use Rattle.grid.specs.Grid.{size}
-use Rattle.grid.specs.Side.{sized}
-use Rattle.record.specs.Record.{Outcome, ok, refused}
 use Rattle.grid.specs.Cells.{Literal, word}
-use Rattle.record.specs.Leaf.{Range, leaf_with}
-use Rattle.kinds.specs.Inside.{puzzle_with}
+use Rattle.refusal.specs.declared.Refusal.{Refusal}
+use Rattle.refusal.specs.Refusals.{returned_of}
+use Rattle.record.specs.Record.{Outcome, ok, refused, ◌>>=◌}
+use Rattle.record.specs.Problem.{puzzle_of, grid_of}
+use Rattle.record.specs.Leaf.{Leaf}
 use Rattle.literals.specs.Literals.{Found}
 use Rattle.reasons.specs.Reasons.{find_reason}
-use Rattle.groups.specs.Arrays.{lines_of}
-use Rattle.inconsistency.specs.Arrays.{ArrowArrays}
+use Rattle.sizes.specs.LeafOf.{leaf_of}
+use Rattle.sizes.specs.declared.LentLeaf.{LentLeaf}
 use Rattle.literals.specs.Buffer.{buffer_by}
 use Rattle.literals.specs.Inside.{count_of, FoundAs}
 use Rattle.std.specs.Prelude.{Some}
 use Rattle.reasons.proofs.ReasonLaws.{reason_length}
 use Rattle.exported.specs.Written.{bytes_of}
+use Rattle.call.specs.Inside.{Told}
+use Rattle.call.proofs.Opening.{returned_refused}
 use Rattle.host_find.specs.Host.{returned, output_after}
+use Rattle.host_find.specs.Inside.{leaf_finds}
 
 -- k literals of the reason found stand in a buffer's first places
 pub record Literals (found : Found) (k : ℕ) (buffer : List ℕ) : Type 0 where
@@ -34,7 +39,7 @@ pub record Literals (found : Found) (k : ℕ) (buffer : List ℕ) : Type 0 where
   pub first : take k buffer ≡ map word reason
 
 -- so an answer of k literals says
-pub found_Literals : (f : Found) {before after : List ℕ} {k : ℕ} → FoundAs f before after (Some k) → Literals f k after
+found_Literals : (f : Found) {before after : List ℕ} {k : ℕ} → FoundAs f before after (Some k) → Literals f k after
 unfolding count_of buffer_by
 found_Literals none x = let z : ◌≡◌ {A = ℕ} 0 1 = cc x.answer in absurd (omega arith)
 found_Literals (some r) {before} {after} {k} x =
@@ -48,11 +53,13 @@ found_Literals (some r) {before} {after} {k} x =
       first = rw (x.buffer, n) (take_at (map word r) (drop (length r) before) (length r) l);
     }
 
--- and they are no more than an output has to have room for
-pub few_Literals : (e : ℕ) (sizes : List Range) (h w : ℕ) {arrows ends : List ℕ} {number total : ℕ} (cells : List ℕ) {k : ℕ} {buffer : List ℕ} → ArrowArrays (h * w) arrows ends number total
-    → Literals (find_reason (leaf_with e sizes (puzzle_with (sized h w) (lines_of arrows ends number))) cells) k buffer → k ≤ 3 * (h * w) + 1
-unfolding size
-few_Literals e sizes h w {arrows} {ends} {number} cells d l = rw l.many (reason_length (leaf_with e sizes (puzzle_with (sized h w) (lines_of arrows ends number))) cells d.drawn.few l.reason l.is)
+-- and of a leaf that is lent they are no more than an output has to have room for
+pub some_Literals : (leaf : LentLeaf) (cells : List ℕ) {before after : List ℕ} {k : ℕ} → FoundAs (find_reason (leaf_of leaf) cells) before after (Some k)
+    → Literals (find_reason (leaf_of leaf) cells) k after × (k ≤ 3 * (leaf.problem.now.height * leaf.problem.now.width) + 1)
+unfolding puzzle_of grid_of size
+some_Literals leaf cells x =
+    let l = found_Literals (find_reason (leaf_of leaf) cells) x in
+    (l, rw l.many (reason_length (leaf_of leaf) cells leaf.arrows.drawn.few l.reason l.is))
 
 -- none, as the host has it
 pub none_told : {f : Found} (output : List ℕ) → f ≡ none → (pos 0 ≡ returned (ok f)) × (output ≡ output_after (ok f) output)
@@ -73,3 +80,11 @@ refused_told output e = rw e (refl, refl)
 -- what is returned and left for an outcome is so for its equal
 pub told_as : {o p : Outcome Found} {r : ℤ} {left : List ℕ} (output : List ℕ) → o ≡ p → (r ≡ returned p) × (left ≡ output_after p output) → (r ≡ returned o) × (left ≡ output_after o output)
 told_as output e t = rw e t
+
+-- what the call returns and leaves, by what is told of the leaf that is opened
+pub told_found : (o : Outcome Leaf) (decisions before after : List ℕ) (answer : Result ℕ Refusal)
+    → Told o (λ l before after answer. (returned_of answer ≡ returned (leaf_finds decisions (length before) l)) × (after ≡ output_after (leaf_finds decisions (length before) l) before)) before after answer
+    → (returned_of answer ≡ returned (o >>= leaf_finds decisions (length before))) × (after ≡ output_after (o >>= leaf_finds decisions (length before)) before)
+unfolding returned output_after ◌>>=◌
+told_found (refused k) decisions before after answer t = (returned_refused answer t.0, t.1)
+told_found (ok l) decisions before after answer t = t

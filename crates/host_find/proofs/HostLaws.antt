@@ -5,34 +5,25 @@ use native.Mathlib.Omega.{arith}
 use mathlib.Core.Path.{◌≡◌, refl, sym, ap, ◌∙◌}
 use mathlib.Core.List.{List, []}
 use lib.ListN.{length, take}
-use Rattle.grid.specs.Grid.{Grid}
-use Rattle.grid.specs.Side.{sized}
-use Rattle.grid.specs.Lists.{array_of}
+use Rattle.grid.specs.Grid.{Grid, size}
 use Rattle.grid.specs.Cells.{Literal}
 use Rattle.record.specs.Record.{Outcome, ok, refused, Puzzle, read_record, ◌>>=◌}
-use Rattle.record.specs.Leaf.{Leaf, leaf_with, in_edition}
-use Rattle.record.specs.Sizes.{kept_ranges}
-use Rattle.record.specs.declared.Answer.{Answer}
-use Rattle.record.specs.declared.Answer.TheVariants.{Done, Refused}
+use Rattle.record.specs.Leaf.{Leaf, in_edition}
+use Rattle.record.specs.Problem.{Done}
 use Rattle.record.proofs.RecordLaws.{record_Valid}
 use Rattle.record.proofs.LeafLaws.{ValidLeaf}
-use Rattle.board.specs.Board.{cells_after, enough}
+use Rattle.board.specs.Board.{enough}
 use Rattle.board.specs.Kept.{no_hints, board_of}
 use Rattle.board.specs.Decide.{refused_with, decide_all_of}
 use Rattle.board.specs.declared.Board.{Board}
 use Rattle.board.proofs.HintLaws.{no_hints_lem}
-use Rattle.board.proofs.Standing.{Standing, none}
-use Rattle.kinds.specs.Inside.{puzzle_with}
-use Rattle.literals.specs.Literals.{Found}
+use Rattle.board.proofs.Standing.{none}
 use Rattle.reasons.specs.Reasons.{find_reason, find_on}
-use Rattle.groups.specs.Arrays.{lines_of}
 use Rattle.reasons.specs.Find.{answer_on}
 use Rattle.reasons.proofs.Demand3.{long_answer}
 use Rattle.call.specs.Call.{decide_bytes, leaf_from}
-use Rattle.call.specs.Inside.{Decides, Holds}
 use Rattle.call.proofs.Opened.{from_valid}
-use Rattle.call.proofs.Steps.{decided_by, bytes_Standing, first_leaf, fresh_well, all_decided, states_taken, call_short, call_long, call_refused, call_done, call_plain}
-use Rattle.call.proofs.Holding.{holds_size, holds_reason}
+use Rattle.call.proofs.Steps.{decided_by, bytes_Standing, first_leaf, fresh_well, all_decided, Made, call_short, call_long, call_refused, call_done, call_plain}
 use Rattle.host_find.specs.Host.{host_finds, host_finds_with}
 use Rattle.host_find.specs.Inside.{leaf_finds}
 
@@ -45,33 +36,22 @@ finds_plain s decisions n = call_plain (λ g. 2 * enough g) find_on s decisions 
 abbrev need : Grid → ℕ
 need g = 2 * enough g
 
-module _ {l : Leaf} {e : ℕ} {lows highs : List ℕ} {h w : ℕ} {arrows ends : List ℕ} {number : ℕ} (x : Holds l e lows highs h w arrows ends number) where
-  -- the first reason by the arrays and slices and the states of the cells
-  abbrev pub reason_in : List ℕ → Found
-  reason_in cells = find_reason (leaf_with e (kept_ranges lows highs (length lows)) (puzzle_with (sized h w) (lines_of arrows ends number))) (take (h * w) cells)
+module _ (l : Leaf) (decisions : List ℕ) (n : ℕ) where
+  -- an output that is too short
+  pub output_short : n < 2 * (3 * size l.puzzle.grid + 1) → leaf_finds decisions n l ≡ refused 11
+  unfolding enough
+  output_short k = call_short need find_on l decisions n k
 
-  module _ (decisions : List ℕ) (n : ℕ) where
-    -- an output that is too short
-    pub output_short : n < 2 * (3 * (h * w) + 1) → leaf_finds decisions n l ≡ refused 11
+  module _ (k : 2 * (3 * size l.puzzle.grid + 1) ≤ n) where
+    -- a decision is refused
+    pub decisions_refused : {m : ℕ} → decide_bytes l.puzzle.grid [] decisions ≡ refused m → leaf_finds decisions n l ≡ refused m
     unfolding enough
-    output_short k = call_short need find_on l decisions n (rw (holds_size x) at k)
+    decisions_refused f = call_refused need find_on l decisions n k f
 
-    -- what deciding in order answers, and the states that it leaves, where it is long enough
-    module _ {a : Answer} {cells : List ℕ} (d : Decides l.puzzle.grid decisions a cells) (k : 2 * (3 * (h * w) + 1) ≤ n) where
-      -- a decision is refused
-      pub decisions_refused : {m : ℕ} → a ≡ Refused m → leaf_finds decisions n l ≡ refused m
-      unfolding enough
-      decisions_refused f = call_refused need find_on l decisions n d (rw (holds_size x) at k) f
-
-      -- all are accepted
-      pub decisions_done : a ≡ Done → leaf_finds decisions n l ≡ ok (reason_in cells)
-      unfolding enough find_on
-      decisions_done f = call_done need find_on l decisions n d (rw (holds_size x) at k) f (reason_in cells) said
-        where
-          said : (ds : List Literal) → Standing l.puzzle.grid ds → cells ≡ array_of 2 (cells_after l.puzzle.grid ds) → find_on l ds ≡ reason_in cells
-          said ds t q =
-              let z : take (h * w) cells ≡ cells_after l.puzzle.grid ds = rw (holds_size x, q) (states_taken t) in
-              sym (holds_reason x (take (h * w) cells) ∙ ap (find_reason l) z)
+    -- all are accepted: the first reason by the states that are left
+    pub decisions_done : {cells : List ℕ} → Made l decisions cells → leaf_finds decisions n l ≡ ok (find_reason l (take (size l.puzzle.grid) cells))
+    unfolding enough find_on
+    decisions_done m = call_done need find_on l decisions n k m.accepted ∙ ap (λ (states : List ℕ). ok (find_reason l states)) (sym m.left)
 
 -- the call finds as player 0: with its decisions accepted it says what find answers that player on the board that is left
 module _ (l : Leaf) (v : ValidLeaf l) {b : Board} (fresh : b ≡ board_of l [] no_hints) (decisions : List ℕ) (n : ℕ) (buffer : List ℕ) (k : enough l.puzzle.grid ≤ length buffer) (h : 2 * enough l.puzzle.grid ≤ n) where

@@ -1,30 +1,33 @@
 -- The steps of the call that tells whether a leaf is finished, and what it returns: 1 exactly for an accepted record with accepted decisions whose
 -- board is finished.
 -- Assumes nothing.
-use Prim.Native.Nat.{ℕ, zero, suc, ◌*◌}
+use Prim.Native.Nat.{ℕ, zero, suc}
 use native.Mathlib.Omega.{arith}
 use mathlib.Core.Logic.{◌↔◌}
 use mathlib.Core.Path.{◌≡◌, refl, sym, ap, ◌∙◌}
 use mathlib.Core.Bool.{Bool, true, false}
 use mathlib.Core.List.{List, []}
 use lib.IntN.{pos, neg_ℤ}
-use lib.ListN.{length, take}
+use lib.ListN.{take}
+use mir.Val.{bool_byte}
 use Rattle.grid.specs.Cells.{Literal}
-use Rattle.grid.proofs.ArrayLaws.{array_length}
+use Rattle.grid.specs.Grid.{size}
+use Rattle.fields.proofs.ReadLaws.{bind_refused}
+use Rattle.std.specs.declared.result.Result.{Result}
+use Rattle.refusal.specs.declared.Refusal.{Refusal}
+use Rattle.refusal.specs.Refusals.{returned_of}
 use Rattle.record.specs.Record.{Outcome, ok, refused, ◌>>=◌, Puzzle, read_record}
 use Rattle.record.specs.Leaf.{Leaf, in_edition}
-use Rattle.record.specs.declared.Answer.{Answer}
-use Rattle.record.specs.declared.Answer.TheVariants.{Done, Refused}
 use Rattle.record.proofs.LeafLaws.{ValidLeaf}
 use Rattle.board.specs.Board.{cells_after}
 use Rattle.board.proofs.Standing.{none, cells_valid}
 use Rattle.finished.specs.Finished.{Finished, finished_test}
 use Rattle.finished.proofs.FinishedLaws.{Finished-means}
 use Rattle.call.specs.Call.{decide_bytes, leaf_from}
-use Rattle.call.specs.Inside.{Decides, Holds}
+use Rattle.call.specs.Inside.{Told}
 use Rattle.call.proofs.Opened.{with_none, from_valid}
-use Rattle.call.proofs.Steps.{bytes_Standing, states_taken}
-use Rattle.call.proofs.Holding.{holds_size, holds_few}
+use Rattle.call.proofs.Opening.{returned_refused}
+use Rattle.call.proofs.Steps.{bytes_Standing, Made}
 use Rattle.host_finished.specs.Judged.{judge_on, host_finished, host_finished_with, judged, FinishedBy, FinishedWith}
 
 -- the call is that in edition 1 without sizes
@@ -37,28 +40,29 @@ pub judged_not : {o : Outcome Bool} {k : ℕ} → o ≡ refused k → neg_ℤ (p
 unfolding judged
 judged_not e = rw e refl
 
--- what deciding in order answers, and the states that it leaves
-module _ {l : Leaf} {e : ℕ} {lows highs : List ℕ} {h w : ℕ} {arrows ends : List ℕ} {number : ℕ} (x : Holds l e lows highs h w arrows ends number)
-    (decisions : List ℕ) {a : Answer} {cells : List ℕ} (d : Decides l.puzzle.grid decisions a cells) where
-  -- a decision is refused
-  pub judged_refused : {k : ℕ} → a ≡ Refused k → neg_ℤ (pos k) ≡ judged (judge_on decisions l)
-  unfolding ◌>>=◌ judged
-  judged_refused f = rw (d.refusal f) refl
+-- decisions that are made in order on a leaf
+module _ (l : Leaf) (decisions : List ℕ) where
+  -- one is refused
+  pub judged_refused : {k : ℕ} → decide_bytes l.puzzle.grid [] decisions ≡ refused k → neg_ℤ (pos k) ≡ judged (judge_on decisions l)
+  judged_refused e = judged_not (bind_refused (λ (ds : List Literal). ok (finished_test l (cells_after l.puzzle.grid ds))) e)
 
-  -- all are accepted: the array of the states
-  pub left_long : a ≡ Done → length cells ≡ 1024
-  left_long f =
-      let y = d.done f in
-      let t = bytes_Standing l.puzzle.grid decisions none y.1 in
-      rw y.2 (array_length 2 (cells_after l.puzzle.grid y.0) (omega (arith, (cells_valid t).long, holds_size x, holds_few x)))
-
-  -- and the verdict on them
-  pub judged_done : a ≡ Done → judged (ok (finished_test l (take (h * w) cells))) ≡ judged (judge_on decisions l)
+  -- all are accepted: the verdict on the states that are left
+  pub judged_done : {cells : List ℕ} → Made l decisions cells → judged (ok (finished_test l (take (size l.puzzle.grid) cells))) ≡ judged (judge_on decisions l)
   unfolding ◌>>=◌
-  judged_done f =
-      let y = d.done f in
-      let z : take (h * w) cells ≡ cells_after l.puzzle.grid y.0 = rw (holds_size x, y.2) (states_taken (bytes_Standing l.puzzle.grid decisions none y.1)) in
-      rw (z, y.1) refl
+  judged_done m = rw (m.left, m.accepted) refl
+
+-- the number of a verdict
+pub judged_number : (yes : Bool) → pos (bool_byte yes) ≡ judged (ok yes)
+unfolding judged
+judged_number true = refl
+judged_number false = refl
+
+-- what the call returns, by what is told of the leaf that is opened
+pub told_judged : (o : Outcome Leaf) (decisions before after : List ℕ) (answer : Result ℕ Refusal) → Told o (λ l before after answer. (returned_of answer ≡ judged (judge_on decisions l)) × (after ≡ before)) before after answer
+    → returned_of answer ≡ judged (o >>= judge_on decisions)
+unfolding judged ◌>>=◌
+told_judged (refused k) decisions before after answer t = returned_refused answer t.0
+told_judged (ok l) decisions before after answer t = t.0
 
 -- ---- what it returns
 

@@ -1,10 +1,9 @@
 -- What the inner functions of kinds promise each other, and the grid and views that the crates above speak of.
 -- Assumes nothing.
-use Rattle.std.specs.Prelude.{ℕ, ◌≤◌, ◌<◌, ◌≡◌, Bool, true, false, cond, ◌&&◌, not, eqb, ltb, get_or, Option, Some, None}
+use Rattle.std.specs.Prelude.{ℕ, ◌≤◌, ◌≡◌, Bool, true, false, cond, ◌&&◌, not, eqb, ltb, get_or, Option, Some, None}
 use mathlib.Core.List.{List, [], map, Memᴰ}
 use Rattle.grid.specs.Lists.{upto, filter, once, array_of}
 use Rattle.grid.specs.Grid.{Grid, neighbours}
-use Rattle.grid.specs.Side.{InGrid}
 use Rattle.record.specs.Record.{Puzzle}
 use Rattle.grid.specs.Cells.{square}
 use Rattle.groups.specs.Arrows.{on_arrow}
@@ -94,8 +93,3 @@ unnamed = unlabelled
 -- their arrow blocks; floating groups have no name yet
 unfoldable pub owners_in : List ℕ → List ℕ → Grid → List ℕ → ℕ → List ℕ
 owners_in blocks arrowed g cells k = array_of no_group (map (λ i. owner_by unnamed (kind_in blocks arrowed g cells i)) (upto k))
-
--- what a walk over a floating group asks
-pub record Walkable (h w i name : ℕ) : Type 0 where
-  pub cell : InGrid h w i
-  pub small : name < 1024

@@ -4,11 +4,14 @@
 ghost use Rattle.std.specs.Prelude.{◌≡◌, ℕ, ◌*◌, ◌≤◌, ◌<◌, Bool, ◌&&◌, ◌||◌, List, [], ◌∷◌, ◌++◌, eqb, get_or, take, replicate};
 ghost use Rattle.grid.specs.Marks.{Marks};
 ghost use Rattle.grid.specs.Grid.{neighbours};
-ghost use Rattle.grid.specs.Side.{sized, InGrid};
+ghost use Rattle.grid.specs.Side.{sized};
 ghost use Rattle.groups.specs.Flood.{free, Only, Unlabelled, Walked, Sofar};
 ghost use Rattle.kinds.specs.Kinds.{view};
 ghost use Rattle.kinds.specs.Arrays.{kind_code, owner_by};
-ghost use Rattle.kinds.specs.Inside.{Limits, puzzle_with, Given, Held, kind_from, meet_of, Owned, block_named, arrow_block_at, arrow_blocks_at, kind_in, codes_in, owners_in, unnamed, Walkable};
+ghost use Rattle.kinds.specs.Inside.{puzzle_with, Given, Held, kind_from, meet_of, Owned, block_named, arrow_block_at, arrow_blocks_at, kind_in, codes_in, owners_in, unnamed};
+
+use grid::Grid;
+use groups::Groups;
 
 // The kinds by their numbers, as they stand in an array.
 pub const EMPTY: u8 = 0;
@@ -21,20 +24,31 @@ pub const BARRIER: u8 = 3;
 
 pub const FLOATING: u8 = 4;
 
-// Marks the name at place j if that place has the tag.
-pub fn mark_name(tags: &[u8; 1024], tag: u8, names: &[u16; 1024], j: usize, marks: &mut [u8; 1024])
-    requires { j < 1024 }
-    ensures { (t : ℕ → Bool) → Marks marks.old t
-        → Marks marks.new (λ m. t m || (eqb (get_or tags.now j 0) tag && eqb (get_or names.now j 0) m)) }
-{
-    if tags[j] != tag {
-        return;
+// What is known of the cells of a board: the state of each, its kind, and the group that it belongs to.
+#[derive(Clone, Copy)]
+pub struct BoardInfo<'a> {
+    pub grid: Grid,
+    pub cells: &'a [u8; 1024],
+    pub kinds: &'a [u8; 1024],
+    pub owners: &'a [u16; 1024],
+}
+
+impl BoardInfo<'_> {
+    // Marks the group of cell j if the cell is of this kind.
+    pub fn mark_owner(&self, kind: u8, j: usize, marks: &mut [u8; 1024])
+        requires cell { j < 1024 }
+        ensures { (t : ℕ → Bool) → Marks marks.old t
+            → Marks marks.new (λ m. t m || (eqb (get_or self.now.kinds.now j 0) kind && eqb (get_or self.now.owners.now j 0) m)) }
+    {
+        if self.kinds[j] != kind {
+            return;
+        }
+        let f = self.owners[j];
+        if 1024 <= f {
+            return;
+        }
+        marks[usize::from(f)] = 1;
     }
-    let f = names[j];
-    if 1024 <= f {
-        return;
-    }
-    marks[usize::from(f)] = 1;
 }
 
 // Stands for the name of a cell that is in no group.
@@ -112,15 +126,15 @@ impl DetailedCellKind {
 
 // The name of the arrow block of cell j, if it is in one.
 #[tactic(auto, using(std::proofs::lemmas::Bool::Decides::nat_tests), unfolding(crate::specs::Inside::block_named, crate::specs::Inside::arrow_block_at))]
-fn arrow_block_at(blocks: &[u16; 1024], arrowed: &[u16; 1024], j: usize) -> Option<u16>
+fn arrow_block_at(blocks: &Groups, j: usize) -> Option<u16>
     requires { j < 1024 }
-    ensures { result ≡ block_named (arrow_block_at blocks.now arrowed.now j) }
+    ensures { result ≡ block_named (arrow_block_at blocks.now.labels blocks.now.arrowed j) }
 {
-    let f = blocks[j];
+    let f = blocks.labels[j];
     if 1024 <= f {
         return None;
     }
-    if arrowed[usize::from(f)] != 0 {
+    if blocks.arrowed[usize::from(f)] != 0 {
         Some(f)
     } else {
         None
@@ -128,56 +142,49 @@ fn arrow_block_at(blocks: &[u16; 1024], arrowed: &[u16; 1024], j: usize) -> Opti
 }
 
 // One more neighbour j: its arrow block is met, if it is in one.
-fn meet_at(blocks: &[u16; 1024], arrowed: &[u16; 1024], j: usize, owner: Owner) -> Owner
+fn meet_at(blocks: &Groups, j: usize, owner: Owner) -> Owner
     requires { j < 1024 }
-    ensures { (js : List ℕ) → Owned (arrow_blocks_at blocks.now arrowed.now js) owner
-        → Owned (arrow_blocks_at blocks.now arrowed.now (js ++ (j ∷ []))) result }
+    ensures { (js : List ℕ) → Owned (arrow_blocks_at blocks.now.labels blocks.now.arrowed js) owner
+        → Owned (arrow_blocks_at blocks.now.labels blocks.now.arrowed (js ++ (j ∷ []))) result }
 {
-    match arrow_block_at(blocks, arrowed, j) {
+    match arrow_block_at(blocks, j) {
         Some(f) => owner.meet(f),
         None => owner,
     }
 }
 
 // The arrow blocks that cell i touches.
-fn look_around(blocks: &[u16; 1024], arrowed: &[u16; 1024], h: usize, w: usize, i: usize) -> Owner
-    requires { InGrid h w i }
-    ensures { Owned (arrow_blocks_at blocks.now arrowed.now (neighbours (sized h w) i)) result }
+fn look_around(grid: Grid, blocks: &Groups, i: usize) -> Owner
+    requires { i < grid.height * grid.width }
+    ensures { Owned (arrow_blocks_at blocks.now.labels blocks.now.arrowed (neighbours (sized grid.height grid.width) i)) result }
 {
-    let y = i / w;
-    let x = i % w;
+    let y = i / grid.width;
+    let x = i % grid.width;
     let mut owner = Owner::Nobody;
     for k in 0..4 {
-        if let Some(j) = grid::toward(h, w, y, x, k) {
-            owner = meet_at(blocks, arrowed, j, owner);
+        if let Some(j) = grid.toward(y, x, k) {
+            owner = meet_at(blocks, j, owner);
         }
     }
     owner
 }
 
 // The kind of cell i.
-fn kind_at(
-    cells: &[u8; 1024],
-    blocks: &[u16; 1024],
-    arrowed: &[u16; 1024],
-    h: usize,
-    w: usize,
-    i: usize,
-) -> DetailedCellKind
-    requires { InGrid h w i }
-    ensures { kind_from result ≡ kind_in blocks.now arrowed.now (sized h w) cells.now i }
+fn kind_at(grid: Grid, cells: &[u8; 1024], blocks: &Groups, i: usize) -> DetailedCellKind
+    requires { i < grid.height * grid.width }
+    ensures { kind_from result ≡ kind_in blocks.now.labels blocks.now.arrowed (sized grid.height grid.width) cells.now i }
 {
     let cell = cells[i];
     if cell == grid::EMPTY {
         return DetailedCellKind::Empty;
     }
     if cell == grid::SQUARE {
-        return match arrow_block_at(blocks, arrowed, i) {
+        return match arrow_block_at(blocks, i) {
             Some(f) => DetailedCellKind::ArrowBlock(f),
             None => DetailedCellKind::Floating,
         };
     }
-    match look_around(blocks, arrowed, h, w, i) {
+    match look_around(grid, blocks, i) {
         Owner::Nobody => DetailedCellKind::Floating,
         Owner::One(f) => DetailedCellKind::ArrowBlockNeighbor(f),
         Owner::Many => DetailedCellKind::Barrier,
@@ -186,71 +193,68 @@ fn kind_at(
 
 // The kind of each cell and its arrow block; floating groups have no name yet. The arrays come without kinds and owners.
 fn compute_cell_kinds(
+    grid: Grid,
     cells: &[u8; 1024],
-    blocks: &[u16; 1024],
-    arrowed: &[u16; 1024],
-    h: usize,
-    w: usize,
+    blocks: &Groups,
     kinds: &mut [u8; 1024],
     owners: &mut [u16; 1024],
 )
-    requires { Limits h w × (kinds.old ≡ replicate 1024 0) × (owners.old ≡ replicate 1024 1024) }
-    ensures { (kinds.new ≡ codes_in blocks.now arrowed.now (sized h w) cells.now (h * w))
-        × (owners.new ≡ owners_in blocks.now arrowed.now (sized h w) cells.now (h * w)) }
+    requires { (kinds.old ≡ replicate 1024 0) × (owners.old ≡ replicate 1024 1024) }
+    ensures kinds { kinds.new ≡ codes_in blocks.now.labels blocks.now.arrowed (sized grid.height grid.width) cells.now (grid.height * grid.width) }
+    ensures owners { owners.new ≡ owners_in blocks.now.labels blocks.now.arrowed (sized grid.height grid.width) cells.now (grid.height * grid.width) }
 {
-    for i in 0..h * w {
-        let kind = kind_at(cells, blocks, arrowed, h, w, i);
+    for i in 0..grid.size() {
+        let kind = kind_at(grid, cells, blocks, i);
         kinds[i] = kind.code();
         owners[i] = kind.owner();
     }
 }
 
 // Names the floating group of cell i, unless that is none or has a name, and goes on to the neighbours in turn.
-fn traverse_grid(owners: &mut [u16; 1024], h: usize, w: usize, i: usize, name: u16)
-    requires { Walkable h w i name }
-    ensures walked { (p : ℕ → Bool) → Only p owners.old → Walked (sized h w) p i name owners.old owners.new }
+fn traverse_grid(grid: Grid, owners: &mut [u16; 1024], i: usize, name: u16)
+    requires cell { i < grid.height * grid.width }
+    requires name { name < 1024 }
+    ensures walked { (p : ℕ → Bool) → Only p owners.old → Walked (sized grid.height grid.width) p i name owners.old owners.new }
     ensures fewer_free { free owners.new ≤ free owners.old }
 {
     if owners[i] != UNNAMED {
         return;
     }
     owners[i] = name;
-    let y = i / w;
-    let x = i % w;
+    let y = i / grid.width;
+    let x = i % grid.width;
     for k in 0..4 {
-        if let Some(j) = grid::toward(h, w, y, x, k) {
-            traverse_grid(owners, h, w, j, name);
+        if let Some(j) = grid.toward(y, x, k) {
+            traverse_grid(grid, owners, j, name);
         }
     }
 }
 
 // Names each floating group by its first cell. Most cells have a name, or are none of a floating group, when their turn comes: no walk is begun for them.
-fn name_floating_groups(owners: &mut [u16; 1024], h: usize, w: usize)
-    requires { Limits h w }
-    ensures { (p : ℕ → Bool) → Unlabelled p owners.old → Sofar (sized h w) p owners.old (h * w) owners.new }
+fn name_floating_groups(grid: Grid, owners: &mut [u16; 1024])
+    ensures { (p : ℕ → Bool) → Unlabelled p owners.old
+        → Sofar (sized grid.height grid.width) p owners.old (grid.height * grid.width) owners.new }
 {
-    for i in 0..h * w {
+    for i in 0..grid.size() {
         if owners[i] == UNNAMED {
-            traverse_grid(owners, h, w, i, i as u16);
+            traverse_grid(grid, owners, i, i as u16);
         }
     }
 }
 
-// The kind of each cell and the group that it belongs to; arrowed has by name how many arrow cells each block has. The arrays come without kinds and owners.
+// The kind of each cell and the group that it belongs to, from the blocks of a board. The arrays come without kinds and owners.
 pub fn compute_board_info_detailed(
+    grid: Grid,
     cells: &[u8; 1024],
-    blocks: &[u16; 1024],
-    arrowed: &[u16; 1024],
-    h: usize,
-    w: usize,
+    blocks: &Groups,
     kinds: &mut [u8; 1024],
     owners: &mut [u16; 1024],
 )
-    requires { Limits h w × (kinds.old ≡ replicate 1024 0) × (owners.old ≡ replicate 1024 1024) }
+    requires fresh { (kinds.old ≡ replicate 1024 0) × (owners.old ≡ replicate 1024 1024) }
     ensures { (arrows : List (List ℕ))
-        → Given (puzzle_with (sized h w) arrows) (take (h * w) cells.now) blocks.now arrowed.now
-        → Held (view (puzzle_with (sized h w) arrows) (take (h * w) cells.now)) kinds.new owners.new }
+        → Given (puzzle_with (sized grid.height grid.width) arrows) (take (grid.height * grid.width) cells.now) blocks.now.labels blocks.now.arrowed
+        → Held (view (puzzle_with (sized grid.height grid.width) arrows) (take (grid.height * grid.width) cells.now)) kinds.new owners.new }
 {
-    compute_cell_kinds(cells, blocks, arrowed, h, w, kinds, owners);
-    name_floating_groups(owners, h, w);
+    compute_cell_kinds(grid, cells, blocks, kinds, owners);
+    name_floating_groups(grid, owners);
 }

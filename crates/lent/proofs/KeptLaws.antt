@@ -3,8 +3,7 @@
 use Prim.Native.Nat.{ℕ}
 use native.Mathlib.Omega.{arith}
 use mathlib.Core.Path.{◌≡◌, sym, refl}
-use Rattle.record.specs.declared.Answer.{Answer}
-use Rattle.record.specs.declared.Answer.TheVariants.{Done, Refused}
+use Rattle.record.specs.Problem.{Answer, Done, Refused}
 use Rattle.refusal.specs.Refusals.{refused}
 use Rattle.board.specs.Answers.{Decided, told, done_as, decided_as}
 use Rattle.board.specs.Decide.{decide_of, undo_of}

@@ -10,9 +10,7 @@ use lib.Seq.{take_all, take_at, drop_at, drop-drop}
 use borrow.Rule.Slice.PartMut.{put_mid}
 use Rattle.std.specs.Prelude.{Option, Some, None, MatchOption}
 use Rattle.grid.specs.Cells.{Literal, word}
-use Rattle.literals.specs.Buffer.{finding_by, buffer_by}
-use Rattle.literals.specs.declared.Finding.{Finding}
-use Rattle.literals.specs.declared.Finding.TheVariants.{Nothing, Reason}
+use Rattle.literals.specs.Buffer.{finding_by, buffer_by, Finding, Nothing, Reason}
 use Rattle.literals.specs.Inside.{count_of, Wrote, FoundAs}
 use Rattle.literals.specs.Literals.{Found, or_else, first_found_of}
 use Rattle.literals.proofs.BufferLaws.{wrote_length}

@@ -4,8 +4,12 @@ use Rattle.std.specs.Prelude.{ℕ, zero, suc, List, ◌++◌, map, length, drop}
 use Rattle.grid.specs.Cells.{word}
 use Rattle.std.proofs.Math.Option.{none, some}
 use Rattle.literals.specs.Literals.{Found}
-use Rattle.literals.specs.declared.Finding.{Finding}
-use Rattle.literals.specs.declared.Finding.TheVariants.{Nothing, Reason, Refused}
+
+-- the answer of find: no reason applies, the number of literals that stand in the buffer, or a refusal by its number
+pub data Finding : Type 0 where
+  Nothing : Finding
+  Reason : ℕ → Finding
+  Refused : ℕ → Finding
 
 -- the answer by its refusal and what was found
 unfoldable pub finding_by : ℕ → Found → Finding

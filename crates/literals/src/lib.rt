@@ -1,16 +1,8 @@
-// Literals in a lent buffer, and the answer of find.
+// Literals in a lent buffer.
 #![tactic(auto)]
 
 ghost use Rattle.std.specs.Prelude.{◌≡◌, ◌+◌, ◌<◌, ◌≤◌, length, set, cond};
 ghost use Rattle.grid.specs.Cells.{word};
-
-// The answer of `find`: no reason applies, the number of literals that stand in the buffer, or a refusal by document 01's number.
-#[derive(Clone, Copy)]
-pub enum Finding {
-    Nothing,
-    Reason(usize),
-    Refused(u8),
-}
 
 // A literal as it stands in a buffer.
 pub fn literal(index: usize, value: u16) -> u16

@@ -4,15 +4,71 @@
 
 ghost use Rattle.std.specs.Prelude.{◌≡◌, Bool, ◌&&◌, ◌||◌, List, [], ◌∷◌, ℕ, ◌+◌, ◌*◌, ◌≤◌, ◌<◌, eqb, length, get_or, replicate};
 ghost use Rattle.grid.specs.Grid.{neighbours};
-ghost use Rattle.grid.specs.Side.{sized, InGrid};
+ghost use Rattle.grid.specs.Side.{sized};
 ghost use Rattle.kinds.specs.Kinds.{view, reach};
-ghost use Rattle.reach.specs.Chains.{Chains};
 ghost use Rattle.kinds.specs.Inside.{Limits, puzzle_with, Held};
 ghost use Rattle.reach.specs.Inside.{reaches_at, float_among};
 ghost use Rattle.groups.specs.Arrays.{Names};
 ghost use Rattle.reach.specs.Near.{Sizes, SquaresOf, Listed, Listing, NearFloats};
 
-use kinds::{ARROW_BLOCK, ARROW_BLOCK_NEIGHBOR, FLOATING};
+use kinds::{ARROW_BLOCK, ARROW_BLOCK_NEIGHBOR, BoardInfo, FLOATING};
+use reach::Linked;
+
+// The floating groups near a block: marked by name, and their names in a list.
+#[derive(Drop)]
+pub struct Floats<'a> {
+    pub near: &'a mut [u8; 1024],
+    pub groups: &'a mut [u16; 1024],
+}
+
+impl Floats<'_> {
+    // Marks and lists the floating group of cell j, if it is in one that is not marked yet; the new count.
+    fn list_float(&mut self, info: &BoardInfo<'_>, j: usize, count: usize) -> usize
+        requires cell { j < 1024 }
+        requires listing { Listing self.old.near.now self.old.groups.now count }
+        ensures { (t : ℕ → Bool) → Listed t self.old.near.now self.old.groups.now count
+            → Listed (λ m. t m || float_among info.now.kinds.now info.now.owners.now (j ∷ []) m) self.new.near.now self.new.groups.now result }
+    {
+        if info.kinds[j] != FLOATING {
+            return count;
+        }
+        let name = info.owners[j];
+        let m = usize::from(name);
+        if 1024 <= m {
+            return count;
+        }
+        if self.near[m] == 1 {
+            return count;
+        }
+        self.near[m] = 1;
+        self.groups[count] = name;
+        count + 1
+    }
+
+    // Marks and lists the floating groups that touch cell i, if that is a neighbour of its owner; the new count. The row and the
+    // column of the cell are found once for its four sides.
+    fn list_floats_beside(&mut self, info: &BoardInfo<'_>, i: usize, count: usize) -> usize
+        requires cell { i < info.now.grid.height * info.now.grid.width }
+        requires listing { Listing self.old.near.now self.old.groups.now count }
+        ensures { (t : ℕ → Bool) → Listed t self.old.near.now self.old.groups.now count
+            → Listed (λ m. t m || (eqb (get_or info.now.kinds.now i 0) 2
+            && float_among info.now.kinds.now info.now.owners.now (neighbours (sized info.now.grid.height info.now.grid.width) i) m))
+            self.new.near.now self.new.groups.now result }
+    {
+        if info.kinds[i] != ARROW_BLOCK_NEIGHBOR {
+            return count;
+        }
+        let y = i / info.grid.width;
+        let x = i % info.grid.width;
+        let mut total = count;
+        for k in 0..4 {
+            if let Some(j) = info.grid.toward(y, x, k) {
+                total = self.list_float(info, j, total);
+            }
+        }
+        total
+    }
+}
 
 // Counts cell i for its owner, unless it is a square of an arrow block: those the grouping step has counted. Otherwise the size that is read is
 // written back, so that there is no branch to predict.
@@ -29,7 +85,7 @@ fn count_cell(kinds: &[u8; 1024], owners: &[u16; 1024], i: usize, sizes: &mut [u
 
 // How many of the cells below n each owner has beside the squares of arrow blocks. The sizes come as zeros.
 pub fn count_cells(kinds: &[u8; 1024], owners: &[u16; 1024], n: usize, sizes: &mut [u16; 1024])
-    requires { (n ≤ 1024) × (sizes.old ≡ replicate 1024 0) }
+    requires fresh { (n ≤ 1024) × (sizes.old ≡ replicate 1024 0) }
     ensures { Sizes kinds.now owners.now n sizes.new }
 {
     for i in 0..n {
@@ -37,91 +93,29 @@ pub fn count_cells(kinds: &[u8; 1024], owners: &[u16; 1024], n: usize, sizes: &m
     }
 }
 
-// Marks and lists the floating group of cell j, if it is in one that is not marked yet; the new count.
-fn list_float(
-    kinds: &[u8; 1024],
-    owners: &[u16; 1024],
-    j: usize,
-    near: &mut [u8; 1024],
-    groups: &mut [u16; 1024],
-    count: usize,
-) -> usize
-    requires { (j < 1024) × Listing near.old groups.old count }
-    ensures { (t : ℕ → Bool) → Listed t near.old groups.old count
-        → Listed (λ m. t m || float_among kinds.now owners.now (j ∷ []) m) near.new groups.new result }
+// Unmarks all groups, before they are listed.
+fn unmark(near: &mut [u8; 1024], groups: &[u16; 1024])
+    ensures none { near.new ≡ replicate 1024 0 }
+    ensures room { length groups.now ≡ 1024 }
 {
-    if kinds[j] != FLOATING {
-        return count;
-    }
-    let name = owners[j];
-    let m = usize::from(name);
-    if 1024 <= m {
-        return count;
-    }
-    if near[m] == 1 {
-        return count;
-    }
-    near[m] = 1;
-    groups[count] = name;
-    count + 1
-}
-
-// Marks and lists the floating groups that touch cell i, if that is a neighbour of its owner; the new count. The row and the
-// column of the cell are found once for its four sides.
-fn list_floats_beside(
-    kinds: &[u8; 1024],
-    owners: &[u16; 1024],
-    h: usize,
-    w: usize,
-    i: usize,
-    near: &mut [u8; 1024],
-    groups: &mut [u16; 1024],
-    count: usize,
-) -> usize
-    requires { InGrid h w i × Listing near.old groups.old count }
-    ensures { (t : ℕ → Bool) → Listed t near.old groups.old count
-        → Listed (λ m. t m || (eqb (get_or kinds.now i 0) 2 && float_among kinds.now owners.now (neighbours (sized h w) i) m)) near.new groups.new result }
-{
-    if kinds[i] != ARROW_BLOCK_NEIGHBOR {
-        return count;
-    }
-    let y = i / w;
-    let x = i % w;
-    let mut total = count;
-    for k in 0..4 {
-        if let Some(j) = grid::toward(h, w, y, x, k) {
-            total = list_float(kinds, owners, j, near, groups, total);
-        }
-    }
-    total
+    *near = [0; 1024];
 }
 
 // Marks and lists the floating groups that touch a neighbour of the block f; how many they are.
-pub fn near_floats(
-    kinds: &[u8; 1024],
-    owners: &[u16; 1024],
-    head: &[u16; 1024],
-    next: &[u16; 1024],
-    h: usize,
-    w: usize,
-    f: u16,
-    near: &mut [u8; 1024],
-    groups: &mut [u16; 1024],
-) -> usize
-    requires limits { Limits h w × Chains owners.now head.now next.now (h * w) }
-    requires name_and_room { (f < 1024) × (length groups.old ≡ 1024) }
+pub fn near_floats(linked: &Linked<'_>, f: u16, floats: &mut Floats<'_>) -> usize
+    requires name { f < 1024 }
     ensures answer { (arrows : List (List ℕ)) (cells : List ℕ)
-        → Held (view (puzzle_with (sized h w) arrows) cells) kinds.now owners.now
-        → NearFloats (view (puzzle_with (sized h w) arrows) cells) f near.new groups.new result }
-    ensures names { Names groups.new result }
+        → Held (view (puzzle_with (sized linked.now.info.grid.height linked.now.info.grid.width) arrows) cells) linked.now.info.kinds.now linked.now.info.owners.now
+        → NearFloats (view (puzzle_with (sized linked.now.info.grid.height linked.now.info.grid.width) arrows) cells) f floats.new.near.now floats.new.groups.now result }
+    ensures names { Names floats.new.groups.now result }
 {
-    *near = [0; 1024];
+    unmark(floats.near, floats.groups);
     let mut total = 0;
-    let mut i = usize::from(head[usize::from(f)]);
+    let mut i = usize::from(linked.head[usize::from(f)]);
     // A `while`: the next cell stands in the chain, and in no range.
     while i < 1024 {
-        total = list_floats_beside(kinds, owners, h, w, i, near, groups, total);
-        i = usize::from(next[i]);
+        total = floats.list_floats_beside(&linked.info, i, total);
+        i = usize::from(linked.next[i]);
     }
     total
 }
@@ -134,7 +128,7 @@ pub fn reach_size(
     count: usize,
     f: u16,
 ) -> usize
-    requires { (f < 1024) × Names groups.now count }
+    requires names { (f < 1024) × Names groups.now count }
     ensures { (h w : ℕ) (arrows : List (List ℕ)) (cells kinds owners near : List ℕ) → Limits h w
         → Held (view (puzzle_with (sized h w) arrows) cells) kinds owners → Sizes kinds owners (h * w) sizes.now → SquaresOf kinds owners (h * w) squares.now f
         → NearFloats (view (puzzle_with (sized h w) arrows) cells) f near groups.now count → get_or kinds f 0 ≡ 1
@@ -149,6 +143,7 @@ pub fn reach_size(
 }
 
 // Whether cell i is in the reach of the block f, whose floating groups are marked.
+#[tactic(auto, unfolding(reach::specs::Inside::reaches_at))]
 pub fn reached(
     kinds: &[u8; 1024],
     owners: &[u16; 1024],
@@ -156,7 +151,7 @@ pub fn reached(
     f: u16,
     i: usize,
 ) -> bool
-    requires { i < 1024 }
+    requires cell { i < 1024 }
     ensures { result ≡ reaches_at kinds.now owners.now near.now f i }
 {
     reach::in_reach(near, f, kinds[i], owners[i])

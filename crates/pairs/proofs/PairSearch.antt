@@ -17,9 +17,8 @@ use Rattle.grid.specs.Cells.{square}
 use Rattle.record.specs.Problem.{arrows_from}
 use Rattle.groups.specs.Arrows.{on_arrow, Pair, pairs}
 use Rattle.groups.specs.Arrays.{lines_of}
-use Rattle.pairs.specs.declared.Stage.{Stage}
-use Rattle.growth.specs.Pairs.{pair_at, NextSquare, view_on, Scene, Line, Whole}
-use Rattle.pairs.specs.Stages.{reason_at}
+use Rattle.kinds.specs.Kinds.{View}
+use Rattle.growth.specs.Pairs.{pair_at, NextSquare, view_on, Stretch, Line, Whole}
 use Rattle.literals.specs.Inside.{FoundAs}
 use Rattle.literals.specs.Literals.{Found, or_else, first_found_of}
 use Rattle.std.specs.Prelude.{Some, None}
@@ -29,23 +28,23 @@ use Rattle.growth.proofs.PairPlaces.{pairs_start, pairs_more, pairs_end}
 
 -- ---- one arrow
 
--- the first reason among the pairs from the place k on
-abbrev pub ahead : Stage → ℕ → ℕ → List (List ℕ) → List ℕ → List ℕ → ℕ → ℕ → Found
-ahead stage h w lines cells arrows to k = first_found_of (reason_at stage (view_on h w lines cells)) (pairs (take (h * w) cells) (slice k to arrows))
+-- the first reason that `finds` has among the pairs from the place k on
+abbrev pub ahead : (View → Pair → Found) → ℕ → ℕ → List (List ℕ) → List ℕ → List ℕ → ℕ → ℕ → Found
+ahead finds h w lines cells arrows to k = first_found_of (finds (view_on h w lines cells)) (pairs (take (h * w) cells) (slice k to arrows))
 
-module _ (stage : Stage) {h w : ℕ} {lines : List (List ℕ)} {cells arrows kinds owners : List ℕ} {from to : ℕ} (s : Scene h w lines cells arrows kinds owners from to) (long : to ≤ length arrows) where
+module _ (finds : View → Pair → Found) {h w : ℕ} {lines : List (List ℕ)} {cells arrows kinds owners : List ℕ} {from to : ℕ} (s : Stretch h w lines cells arrows kinds owners from to) (long : to ≤ length arrows) where
   abbrev F : Pair → Found
-  F = reason_at stage (view_on h w lines cells)
+  F = finds (view_on h w lines cells)
 
   abbrev L : List ℕ
   L = take (h * w) cells
 
   -- it is the one from the first square on
-  pub search_start : {r : ℕ} → NextSquare cells arrows from to r → ahead stage h w lines cells arrows to from ≡ ahead stage h w lines cells arrows to r
+  pub search_start : {r : ℕ} → NextSquare cells arrows from to r → ahead finds h w lines cells arrows to from ≡ ahead finds h w lines cells arrows to r
   search_start n = ap (first_found_of F) (pairs_start L arrows to long (next_taken (h * w) n s.inside))
 
   -- there is none behind the last place
-  pub search_done : (k : ℕ) → to ≤ k → ahead stage h w lines cells arrows to k ≡ none
+  pub search_done : (k : ℕ) → to ≤ k → ahead finds h w lines cells arrows to k ≡ none
   unfolding first_found_of pairs
   search_done k q = rw (slice_none arrows k to q) refl
 
@@ -57,18 +56,18 @@ module _ (stage : Stage) {h w : ℕ} {lines : List (List ℕ)} {cells arrows kin
     first_taken = square_taken cells (h * w) (get_or arrows last 0) (s.inside last low within) ∙ first
 
     -- the pair of a square and the next gives none, or the reason
-    pub search_more : cur < to → {b a : List ℕ} → FoundAs (F (pair_at arrows last cur)) b a None → ahead stage h w lines cells arrows to last ≡ ahead stage h w lines cells arrows to cur
+    pub search_more : cur < to → {b a : List ℕ} → FoundAs (F (pair_at arrows last cur)) b a None → ahead finds h w lines cells arrows to last ≡ ahead finds h w lines cells arrows to cur
     unfolding first_found_of or_else
     search_more q x = ap (first_found_of F) (pairs_more L arrows to long last within first_taken taken q) ∙ rw (nothing_found (F (pair_at arrows last cur)) x).0 refl
 
-    pub search_found : cur < to → {b a : List ℕ} {k : ℕ} → FoundAs (F (pair_at arrows last cur)) b a (Some k) → FoundAs (ahead stage h w lines cells arrows to last) b a (Some k)
+    pub search_found : cur < to → {b a : List ℕ} {k : ℕ} → FoundAs (F (pair_at arrows last cur)) b a (Some k) → FoundAs (ahead finds h w lines cells arrows to last) b a (Some k)
     unfolding first_found_of
     search_found q x =
         rw (pairs_more L arrows to long last within first_taken taken q)
-        (found_first (F (pair_at arrows last cur)) (ahead stage h w lines cells arrows to cur) x)
+        (found_first (F (pair_at arrows last cur)) (ahead finds h w lines cells arrows to cur) x)
 
     -- no square comes after it
-    pub search_end : cur ≡ to → ahead stage h w lines cells arrows to last ≡ none
+    pub search_end : cur ≡ to → ahead finds h w lines cells arrows to last ≡ none
     unfolding first_found_of
     search_end e = ap (first_found_of F) (pairs_end L arrows to long last within first_taken taken e)
 
@@ -124,9 +123,9 @@ module _ {h w : ℕ} {cells arrows ends kinds owners : List ℕ} {number : ℕ} 
   sub_more l m = sub l (rw (lines_more arrows ends number from a within all.drawn.ends_long) (Memᴰ.tail m))
 
   module _ (rise : from ≤ get_or ends a 0) where
-    pub next_Scene : Scene h w (lines_of arrows ends number) cells arrows kinds owners from (get_or ends a 0)
+    pub next_Stretch : Stretch h w (lines_of arrows ends number) cells arrows kinds owners from (get_or ends a 0)
     unfolding on_arrow
-    next_Scene =
+    next_Stretch =
         let short : get_or ends a 0 ≤ length arrows = omega (arith, all.drawn.ends_low a within, all.drawn.places.long) in
         record {
           held = all.held;
@@ -136,4 +135,4 @@ module _ {h w : ℕ} {cells arrows ends kinds owners : List ℕ} {number : ℕ} 
         }
 
     pub next_Line : Line h w cells arrows kinds owners from (get_or ends a 0)
-    next_Line = record { lines = lines_of arrows ends number; scene = next_Scene; places = all.drawn.places; order = rise; short = all.drawn.ends_low a within }
+    next_Line = record { lines = lines_of arrows ends number; stretch = next_Stretch; places = all.drawn.places; order = rise; short = all.drawn.ends_low a within }

@@ -1,201 +1,130 @@
 // Reasons 3 and 4: the search for them along the arrows.
 #![tactic(auto)]
 
-ghost use Rattle.std.specs.Prelude.{List, ◌≡◌, ℕ, ◌+◌, ◌*◌, ◌≤◌, length, take};
+ghost use Rattle.std.specs.Prelude.{List, ◌≡◌, ℕ, ◌+◌, ◌*◌, ◌≤◌, ◌<◌, length, take, MatchOption};
 ghost use Rattle.std.proofs.Math.Seq.{slice};
 ghost use Rattle.grid.specs.Lists.{flat_map};
-ghost use Rattle.groups.specs.Arrows.{pairs};
+ghost use Rattle.groups.specs.Arrows.{Pair, pairs};
 ghost use Rattle.groups.specs.Arrays.{CellArray, lines_of};
-ghost use Rattle.reach.specs.Chains.{Chains};
-ghost use Rattle.literals.specs.Inside.{FoundAs, Fit};
-ghost use Rattle.pairs.specs.Stages.{reason_at};
-ghost use Rattle.growth.specs.Pairs.{pair_at, NextSquare, view_on, Scene, Blocks, Grouped, Line, Squares, Whole};
+ghost use Rattle.kinds.specs.Kinds.{View};
+ghost use Rattle.literals.specs.Inside.{FoundAs};
+ghost use Rattle.literals.specs.Literals.{Found, first_found_of};
+ghost use Rattle.growth.specs.Pairs.{pair_at, NextSquare, view_on, Stretch, Line, Squares, Whole};
 ghost use Rattle.growth.specs.Growth.{reason3_at, reason4_at, reason34};
-ghost use Rattle.literals.specs.Literals.{first_found_of};
-ghost use Rattle.shift.specs.Shift.{Work};
 
-// What a search along the arrows looks for: reason 3, or reason 4 in an edition.
-#[derive(Clone, Copy, Debug, PartialEq, Eq)]
-enum Stage {
-    Third,
-    Fourth(u8),
+use growth::{Scene, SquarePair};
+use record::Problem;
+use shift::Work;
+use std::ops::Range;
+
+// A reason that may apply to two squares of an arrow with none between.
+trait PairReason {
+    ghost finds: { Self → View → Pair → Found };
+
+    // The reason for the two, if it applies.
+    fn check(
+        &self,
+        scene: &Scene<'_>,
+        pair: &SquarePair<'_>,
+        work: &mut Work<'_>,
+        buffer: &mut [u16],
+    ) -> Option<usize>
+        requires squares { let info = scene.now.linked.info in
+            Squares info.grid.height info.grid.width info.cells.now pair.now.arrows.now info.kinds.now info.owners.now pair.now.last pair.now.cur }
+        requires room { 3 * (scene.now.linked.info.grid.height * scene.now.linked.info.grid.width) + 1 ≤ length buffer.old }
+        ensures { let info = scene.now.linked.info in (lines : List (List ℕ))
+            → Stretch info.grid.height info.grid.width lines info.cells.now pair.now.arrows.now info.kinds.now info.owners.now pair.now.last (pair.now.cur + 1)
+            → FoundAs (finds self.now (view_on info.grid.height info.grid.width lines info.cells.now) (pair_at pair.now.arrows.now pair.now.last pair.now.cur))
+            buffer.old buffer.new result };
 }
 
-// The first place from `from` on that holds a square, or `to` if there is none.
-fn next_square(cells: &[u8; 1024], arrows: &[u16; 1024], from: usize, to: usize) -> usize
-    requires { (from ≤ to) × (to ≤ 1024) × CellArray arrows.now }
-    ensures { NextSquare cells.now arrows.now from to result }
-{
-    for k in from..to {
-        if cells[usize::from(arrows[k])] == 1 {
-            return k;
-        }
-    }
-    to
-}
+// Reason 3: no shift of the earlier square's block lies in the reach of the later one's.
+#[derive(Clone, Copy)]
+struct Third;
 
-// Reason 3 for the squares at two places of an arrow.
-fn check_shift(
-    cells: &[u8; 1024],
-    arrows: &[u16; 1024],
-    kinds: &[u8; 1024],
-    owners: &[u16; 1024],
-    head: &[u16; 1024],
-    next: &[u16; 1024],
-    squares: &[u16; 1024],
-    h: usize,
-    w: usize,
-    last: usize,
-    cur: usize,
-    near: &mut [u8; 1024],
-    groups: &mut [u16; 1024],
-    rows: &mut [u16; 1024],
-    columns: &mut [u16; 1024],
-    buffer: &mut [u16],
-) -> Option<usize>
-    requires { Fit h w buffer.old × Squares h w cells.now arrows.now kinds.now owners.now last cur
-        × Chains owners.now head.now next.now (h * w) × Blocks kinds.now owners.now (h * w) squares.now × Work groups.old rows.old columns.old }
-    ensures answer { (lines : List (List ℕ))
-        → Scene h w lines cells.now arrows.now kinds.now owners.now last (cur + 1)
-        → FoundAs (reason3_at (view_on h w lines cells.now) (pair_at arrows.now last cur)) buffer.old buffer.new result }
-    ensures work { Work groups.new rows.new columns.new }
-{
-    let last_block = owners[arrows[last] as usize];
-    let cell = arrows[cur] as usize;
-    let block = owners[cell];
-    if shift::shift_fits(
-        kinds, owners, head, next, squares, h, w, last_block, block, near, groups, rows, columns,
-    ) {
-        return None;
-    }
-    let literals = growth::reason_for_pair(
-        cells, kinds, owners, h, w, last_block, cell, block, buffer,
-    );
-    Some(literals)
-}
-
-// Reason 4 in an edition for the squares at two places of an arrow: (a), and in edition 1 then (b).
-fn check_fourth(
+// Reason 4 in an edition: (a), and in edition 1 then (b).
+#[derive(Clone, Copy)]
+struct Fourth {
     edition: u8,
-    cells: &[u8; 1024],
-    arrows: &[u16; 1024],
-    kinds: &[u8; 1024],
-    owners: &[u16; 1024],
-    head: &[u16; 1024],
-    next: &[u16; 1024],
-    sizes: &[u16; 1024],
-    squares: &[u16; 1024],
-    h: usize,
-    w: usize,
-    last: usize,
-    cur: usize,
-    near: &mut [u8; 1024],
-    groups: &mut [u16; 1024],
-    buffer: &mut [u16],
-) -> Option<usize>
-    requires { Fit h w buffer.old × Squares h w cells.now arrows.now kinds.now owners.now last cur
-        × Grouped kinds.now owners.now head.now next.now sizes.now squares.now (h * w) × (length groups.old ≡ 1024) }
-    ensures answer { (lines : List (List ℕ))
-        → Scene h w lines cells.now arrows.now kinds.now owners.now last (cur + 1)
-        → FoundAs (reason4_at (view_on h w lines cells.now) (pair_at arrows.now last cur) edition) buffer.old buffer.new result }
-    ensures groups_len { length groups.new ≡ 1024 }
-{
-    let finding = fourth::check_growth(
-        cells, arrows, kinds, owners, head, next, sizes, squares, h, w, last, cur, near, groups,
-        buffer,
-    );
-    if edition != 1 {
-        return finding;
-    }
-    if let Some(literals) = finding {
-        return Some(literals);
-    }
-    fourth::check_gap(
-        cells, arrows, kinds, owners, head, next, sizes, squares, h, w, last, cur, near, groups,
-        buffer,
-    )
 }
 
-// Reason 3 or reason 4, as the stage says, for the squares at two places of an arrow.
-fn check_pair(
-    stage: Stage,
-    cells: &[u8; 1024],
-    arrows: &[u16; 1024],
-    kinds: &[u8; 1024],
-    owners: &[u16; 1024],
-    head: &[u16; 1024],
-    next: &[u16; 1024],
-    sizes: &[u16; 1024],
-    squares: &[u16; 1024],
-    h: usize,
-    w: usize,
-    last: usize,
-    cur: usize,
-    near: &mut [u8; 1024],
-    groups: &mut [u16; 1024],
-    rows: &mut [u16; 1024],
-    columns: &mut [u16; 1024],
-    buffer: &mut [u16],
-) -> Option<usize>
-    requires { Fit h w buffer.old × Squares h w cells.now arrows.now kinds.now owners.now last cur
-        × Grouped kinds.now owners.now head.now next.now sizes.now squares.now (h * w) × Work groups.old rows.old columns.old }
-    ensures answer { (lines : List (List ℕ))
-        → Scene h w lines cells.now arrows.now kinds.now owners.now last (cur + 1)
-        → FoundAs (reason_at stage (view_on h w lines cells.now) (pair_at arrows.now last cur)) buffer.old buffer.new result }
-    ensures work { Work groups.new rows.new columns.new }
-{
-    match stage {
-        Stage::Third => check_shift(
-            cells, arrows, kinds, owners, head, next, squares, h, w, last, cur, near, groups, rows,
-            columns, buffer,
-        ),
-        Stage::Fourth(edition) => check_fourth(
-            edition, cells, arrows, kinds, owners, head, next, sizes, squares, h, w, last, cur,
-            near, groups, buffer,
-        ),
-    }
-}
+impl PairReason for Third {
+    ghost finds = { λ _. reason3_at };
 
-// The first reason among the pairs of the arrow at the places from `from` up to `to`.
-fn search_arrow(
-    stage: Stage,
-    cells: &[u8; 1024],
-    arrows: &[u16; 1024],
-    kinds: &[u8; 1024],
-    owners: &[u16; 1024],
-    head: &[u16; 1024],
-    next: &[u16; 1024],
-    sizes: &[u16; 1024],
-    squares: &[u16; 1024],
-    h: usize,
-    w: usize,
-    from: usize,
-    to: usize,
-    near: &mut [u8; 1024],
-    groups: &mut [u16; 1024],
-    rows: &mut [u16; 1024],
-    columns: &mut [u16; 1024],
-    buffer: &mut [u16],
-) -> Option<usize>
-    requires { Fit h w buffer.old × Line h w cells.now arrows.now kinds.now owners.now from to
-        × Grouped kinds.now owners.now head.now next.now sizes.now squares.now (h * w) × Work groups.old rows.old columns.old }
-    ensures answer { (lines : List (List ℕ))
-        → Scene h w lines cells.now arrows.now kinds.now owners.now from to
-        → FoundAs (first_found_of (reason_at stage (view_on h w lines cells.now)) (pairs (take (h * w) cells.now) (slice from to arrows.now))) buffer.old buffer.new result }
-    ensures work { Work groups.new rows.new columns.new }
-{
-    let mut last = next_square(cells, arrows, from, to);
-    // no for: it goes from square to square, over what lies between
-    while last < to {
-        let cur = next_square(cells, arrows, last + 1, to);
-        if cur == to {
+    fn check(
+        &self,
+        scene: &Scene<'_>,
+        pair: &SquarePair<'_>,
+        work: &mut Work<'_>,
+        buffer: &mut [u16],
+    ) -> Option<usize> {
+        let info = &scene.linked.info;
+        let last_block = info.owners[pair.last_cell()];
+        let cell = pair.cur_cell();
+        let block = info.owners[cell];
+        if shift::shift_fits(&scene.linked, scene.squares, last_block, block, work) {
             return None;
         }
-        let finding = check_pair(
-            stage, cells, arrows, kinds, owners, head, next, sizes, squares, h, w, last, cur, near,
-            groups, rows, columns, buffer,
-        );
+        let literals = growth::reason_for_pair(info, last_block, cell, block, buffer);
+        Some(literals)
+    }
+}
+
+impl PairReason for Fourth {
+    ghost finds = { λ by view pair. reason4_at view pair by.edition };
+
+    fn check(
+        &self,
+        scene: &Scene<'_>,
+        pair: &SquarePair<'_>,
+        work: &mut Work<'_>,
+        buffer: &mut [u16],
+    ) -> Option<usize> {
+        let finding = fourth::check_growth(scene, pair, &mut work.floats, buffer);
+        if self.edition != 1 {
+            return finding;
+        }
         if let Some(literals) = finding {
+            return Some(literals);
+        }
+        fourth::check_gap(scene, pair, &mut work.floats, buffer)
+    }
+}
+
+// The first of the places that holds a square.
+fn next_square(cells: &[u8; 1024], arrows: &[u16; 1024], mut places: Range<usize>) -> Option<usize>
+    requires order { places.start ≤ places.end }
+    requires short { places.end ≤ 1024 }
+    requires cells { CellArray arrows.now }
+    ensures { MatchOption result (NextSquare cells.now arrows.now places.start places.end places.end)
+        (λ k. (k < places.end) × NextSquare cells.now arrows.now places.start places.end k) }
+{
+    places.find(|&k| cells[usize::from(arrows[k])] == grid::SQUARE)
+}
+
+// The first reason among the pairs of the arrow at these places.
+fn search_arrow<R: PairReason>(
+    by: &R,
+    scene: &Scene<'_>,
+    arrows: &[u16; 1024],
+    places: Range<usize>,
+    work: &mut Work<'_>,
+    buffer: &mut [u16],
+) -> Option<usize>
+    requires line { let info = scene.now.linked.info in
+        Line info.grid.height info.grid.width info.cells.now arrows.now info.kinds.now info.owners.now places.start places.end }
+    requires room { 3 * (scene.now.linked.info.grid.height * scene.now.linked.info.grid.width) + 1 ≤ length buffer.old }
+    ensures { let info = scene.now.linked.info in (lines : List (List ℕ))
+        → Stretch info.grid.height info.grid.width lines info.cells.now arrows.now info.kinds.now info.owners.now places.start places.end
+        → FoundAs (first_found_of (R.finds by.now (view_on info.grid.height info.grid.width lines info.cells.now))
+        (pairs (take (info.grid.height * info.grid.width) info.cells.now) (slice places.start places.end arrows.now))) buffer.old buffer.new result }
+{
+    let cells = scene.linked.info.cells;
+    let end = places.end;
+    let mut last = next_square(cells, arrows, places)?;
+    while let Some(cur) = next_square(cells, arrows, last + 1..end) {
+        let pair = SquarePair { arrows, last, cur };
+        if let Some(literals) = by.check(scene, &pair, work, buffer) {
             return Some(literals);
         }
         last = cur;
@@ -203,40 +132,25 @@ fn search_arrow(
     None
 }
 
-// The first reason among the pairs of all arrows, in record order: 3 for all of them, or 4, as the stage says.
-fn search_arrows(
-    stage: Stage,
-    cells: &[u8; 1024],
-    arrows: &[u16; 1024],
-    ends: &[u16; 1024],
-    number: usize,
-    kinds: &[u8; 1024],
-    owners: &[u16; 1024],
-    head: &[u16; 1024],
-    next: &[u16; 1024],
-    sizes: &[u16; 1024],
-    squares: &[u16; 1024],
-    h: usize,
-    w: usize,
-    near: &mut [u8; 1024],
-    groups: &mut [u16; 1024],
-    rows: &mut [u16; 1024],
-    columns: &mut [u16; 1024],
+// The first reason among the pairs of all arrows, in record order.
+fn search_arrows<R: PairReason>(
+    by: &R,
+    problem: &Problem,
+    scene: &Scene<'_>,
+    work: &mut Work<'_>,
     buffer: &mut [u16],
 ) -> Option<usize>
-    requires { Fit h w buffer.old × Whole h w cells.now arrows.now ends.now kinds.now owners.now number
-        × Grouped kinds.now owners.now head.now next.now sizes.now squares.now (h * w) × Work groups.old rows.old columns.old }
-    ensures found_as { FoundAs (first_found_of (reason_at stage (view_on h w (lines_of arrows.now ends.now number) cells.now)) (flat_map (pairs (take (h * w) cells.now)) (lines_of arrows.now ends.now number))) buffer.old buffer.new result }
-    ensures work { Work groups.new rows.new columns.new }
+    requires whole { let info = scene.now.linked.info in
+        Whole info.grid.height info.grid.width info.cells.now problem.now.arrows problem.now.ends info.kinds.now info.owners.now problem.now.count }
+    requires room { 3 * (scene.now.linked.info.grid.height * scene.now.linked.info.grid.width) + 1 ≤ length buffer.old }
+    ensures { let info = scene.now.linked.info in let lines = lines_of problem.now.arrows problem.now.ends problem.now.count in
+        FoundAs (first_found_of (R.finds by.now (view_on info.grid.height info.grid.width lines info.cells.now))
+        (flat_map (pairs (take (info.grid.height * info.grid.width) info.cells.now)) lines)) buffer.old buffer.new result }
 {
     let mut from = 0;
-    for a in 0..number {
-        let to = usize::from(ends[a]);
-        let finding = search_arrow(
-            stage, cells, arrows, kinds, owners, head, next, sizes, squares, h, w, from, to, near,
-            groups, rows, columns, buffer,
-        );
-        if let Some(literals) = finding {
+    for a in 0..problem.count {
+        let to = problem.ends[a] as usize;
+        if let Some(literals) = search_arrow(by, scene, &problem.arrows, from..to, work, buffer) {
             return Some(literals);
         }
         from = to;
@@ -244,73 +158,23 @@ fn search_arrows(
     None
 }
 
-// Reason 3 for every pair of every arrow; only where none meets it, reason 4. `groups`, `rows` and `columns` are lent to work in, whatever stands there.
+// Reason 3 for every pair of every arrow; only where none meets it, reason 4.
 pub fn search_pairs(
     edition: u8,
-    cells: &[u8; 1024],
-    arrows: &[u16; 1024],
-    ends: &[u16; 1024],
-    number: usize,
-    kinds: &[u8; 1024],
-    owners: &[u16; 1024],
-    head: &[u16; 1024],
-    next: &[u16; 1024],
-    sizes: &[u16; 1024],
-    squares: &[u16; 1024],
-    h: usize,
-    w: usize,
-    groups: &mut [u16; 1024],
-    rows: &mut [u16; 1024],
-    columns: &mut [u16; 1024],
+    problem: &Problem,
+    scene: &Scene<'_>,
+    work: &mut Work<'_>,
     buffer: &mut [u16],
 ) -> Option<usize>
-    requires { (edition ≡ 0 → ⊥) × Fit h w buffer.old × Whole h w cells.now arrows.now ends.now kinds.now owners.now number
-        × Grouped kinds.now owners.now head.now next.now sizes.now squares.now (h * w) × Work groups.old rows.old columns.old }
-    ensures found_as { FoundAs (reason34 edition (view_on h w (lines_of arrows.now ends.now number) cells.now)) buffer.old buffer.new result }
-    ensures work { Work groups.new rows.new columns.new }
+    requires edition { edition ≡ 0 → ⊥ }
+    requires whole { Whole scene.now.linked.info.grid.height scene.now.linked.info.grid.width scene.now.linked.info.cells.now
+        problem.now.arrows problem.now.ends scene.now.linked.info.kinds.now scene.now.linked.info.owners.now problem.now.count }
+    requires room { 3 * (scene.now.linked.info.grid.height * scene.now.linked.info.grid.width) + 1 ≤ length buffer.old }
+    ensures { FoundAs (reason34 edition (view_on scene.now.linked.info.grid.height scene.now.linked.info.grid.width
+        (lines_of problem.now.arrows problem.now.ends problem.now.count) scene.now.linked.info.cells.now)) buffer.old buffer.new result }
 {
-    let mut near = [0u8; 1024];
-    let finding = search_arrows(
-        Stage::Third,
-        cells,
-        arrows,
-        ends,
-        number,
-        kinds,
-        owners,
-        head,
-        next,
-        sizes,
-        squares,
-        h,
-        w,
-        &mut near,
-        groups,
-        rows,
-        columns,
-        buffer,
-    );
-    if let Some(literals) = finding {
+    if let Some(literals) = search_arrows(&Third, problem, scene, work, buffer) {
         return Some(literals);
     }
-    search_arrows(
-        Stage::Fourth(edition),
-        cells,
-        arrows,
-        ends,
-        number,
-        kinds,
-        owners,
-        head,
-        next,
-        sizes,
-        squares,
-        h,
-        w,
-        &mut near,
-        groups,
-        rows,
-        columns,
-        buffer,
-    )
+    search_arrows(&Fourth { edition }, problem, scene, work, buffer)
 }

@@ -4,40 +4,23 @@ use Prim.Native.Nat.{ℕ, zero, suc, ◌+◌, ◌-◌, ◌≤◌, ◌<◌}
 use native.Mathlib.Omega.{arith}
 use native.Mathlib.Decide.{dec_lt}
 use native.Mathlib.Numerals.{add-one}
-use mathlib.Core.Logic.{◌⊎◌, inl, inr}
 use mathlib.Core.Path.{◌≡◌, refl, sym, ap, ◌∙◌, subst}
 use mathlib.Core.Bool.{Bool, true, false, So, cond, ◌||◌}
 use mathlib.Core.List.Memᴰ
 use mathlib.Core.List.{List, [], ◌∷◌, ◌++◌, append-nil, Memᴰ}
 use lib.Dec.{eqb}
-use lib.ListN.{length, get_or, set, take, drop, replicate, length-append, length-replicate, length-drop, length-set, length-take, take-append-drop, drop_of_length-le, get_or-eq_default, get_or-map, get_or-append, get_or-replicate}
-use lib.Seq.{take_all, take-suc, drop-cons, take-append-le, drop-append-le, get_or-take, get_or-set_same, get_or-set_other, set_at, take-suc-set}
-use borrow.Author.Tests.{eq-eqb, ne_eqb, eqb-true, eqb-false}
+use lib.ListN.{length, get_or, take, drop, replicate, length-replicate, length-take, take-append-drop, drop_of_length-le, get_or-eq_default, get_or-map, get_or-replicate}
+use lib.Seq.{take_all, take-suc, drop-cons, take-append-le, drop-append-le, get_or-take}
+use borrow.Author.Tests.{eq-eqb, ne_eqb, eqb-true}
 use Rattle.grid.specs.Lists.{any}
 use Rattle.grid.specs.Grid.{Grid, size}
-use Rattle.grid.proofs.ListLaws.{split}
+use Rattle.grid.proofs.ArrayLaws.{how_many-le}
 use Rattle.grid.specs.Cells.{square}
 use Rattle.paths.specs.Paths.{Entry, seen, appended, breadth_first, list_from, parent, path}
-use Rattle.paths.specs.Search.{parent_mark, Listing, Room}
+use Rattle.paths.specs.Search.{parent_mark, unlisted, Listing, Offered}
 use Rattle.paths.specs.BreadthFirst.{Listed}
 use Rattle.paths.proofs.Walk.{So-seen, Tree, root, Tree-square, Tree-length, Tree-step}
-use Rattle.paths.proofs.Listings.{Room-first}
-
--- ---- an array is filled
-
--- one place more
-pub fill_more : (l : List ℕ) (i x : ℕ) → i < length l → set (replicate i x ++ drop i l) i x ≡ replicate (i + 1) x ++ drop (i + 1) l
-fill_more l i x h = rw (drop-cons l i 0 h, add-one i) (set_at (replicate i x) (get_or l i 0) (drop (suc i) l) x i (length-replicate i x) ∙ shift i)
-  where
-    shift : (k : ℕ) → replicate k x ++ (x ∷ drop (suc i) l) ≡ replicate (suc k) x ++ drop (suc i) l
-    shift zero = refl
-    shift (suc k) = ap (λ (r : List ℕ). x ∷ r) (shift k)
-
-pub fill_length : (l : List ℕ) (i x : ℕ) → i ≤ length l → length (replicate i x ++ drop i l) ≡ length l
-fill_length l i x h = simp (length-append, length-replicate, length-drop) (omega arith)
-
-pub fill_at : (l : List ℕ) (n x i : ℕ) → i < n → get_or (replicate n x ++ drop n l) i 0 ≡ x
-fill_at l n x i h = get_or-append (replicate n x) (drop n l) 0 i (rw (length-replicate n x) h) ∙ get_or-replicate n i x 0 h
+use Rattle.paths.proofs.Listings.{Offered-list}
 
 -- ---- the list, place by place
 
@@ -52,26 +35,17 @@ Listed-at [] t h = absurd (omega arith)
 Listed-at (c ∷ cs) zero h = (c.1, Memᴰ.head refl)
 Listed-at (c ∷ cs) (suc t) h = let r = Listed-at cs t (omega arith) in (r.0, Memᴰ.tail r.1)
 
--- b stands alone, its own parent
-pub Listing-first : (n : ℕ) (order from : List ℕ) (b : ℕ) → length order ≡ 1024 → length from ≡ 1024 → b < n → n ≤ 1024 → ((i : ℕ) → i < n → get_or from i 0 ≡ 1024)
-    → Listing n (set order 0 b) (set from b b) 1 ((b, b) ∷ [])
+-- nothing is listed
+Listing-none : (n : ℕ) (order : List ℕ) → length order ≡ 1024 → n ≤ 1024 → Listing n order (replicate 1024 1024) 0 []
 unfolding parent_mark
-Listing-first n order from b h k l s f = record {
-  order_long = length-set order 0 b ∙ h;
-  from_long = length-set from b b ∙ k;
+Listing-none n order h s = record {
+  order_long = h;
+  from_long = length-replicate {A = ℕ} 1024 1024;
   many = refl;
-  cells_are = take-suc-set order 0 b (omega arith);
-  parents_are = λ i i<. go i i< (split (eqb b i));
-  parents_low = λ c m. low c m;
+  cells_are = refl;
+  parents_are = λ i i<. get_or-replicate 1024 i 1024 0 (omega (arith, s));
+  parents_low = λ c m. absurd (Memᴰ.not-nil m);
 }
-  where
-    low : (c : Entry) → Memᴰ c ((b, b) ∷ []) → c.1 < 1024
-    low c (Memᴰ.head e) = rw e (omega arith)
-    low c (Memᴰ.tail m) = absurd (Memᴰ.not-nil m)
-
-    go : (i : ℕ) → i < n → (eqb b i ≡ true) ⊎ (eqb b i ≡ false) → get_or (set from b b) i 0 ≡ parent_mark ((b, b) ∷ []) i
-    go i i< (inl t) = let e : b ≡ i = eqb-true b i t in rw (t, ← e) (get_or-set_same from b b 0 (omega (arith, k)))
-    go i i< (inr t) = rw t (get_or-set_other from b i b 0 (λ e. eqb-false b i t (sym e)) ∙ f i i<)
 
 module _ (g : Grid) (cells : List ℕ) where
   -- all were taken in turn
@@ -115,22 +89,22 @@ square_inside g cells c h = go (dec_lt c (size g))
 pub record Run (g : Grid) (cells : List ℕ) (b : ℕ) (order from : List ℕ) (count t : ℕ) : Type 0 where
   pub cs : List Entry
   pub listing : Listing (size g) order from count cs
-  pub room : Room order from count
   pub start : So (square (take (size g) cells) b)
   pub tree : Tree g (take (size g) cells) (square_inside g cells) b start cs
   pub on : t ≤ count
   pub rest : breadth_first g (take (size g) cells) (size g - t) (take t cs) (drop t cs) ≡ list_from g (take (size g) cells) b
 
 module _ (g : Grid) (cells : List ℕ) (b : ℕ) where
-  pub Run-first : (order from : List ℕ) → length order ≡ 1024 → length from ≡ 1024 → get_or cells b 0 ≡ 1 → b < size g → size g ≤ 1024 → ((i : ℕ) → i < size g → get_or from i 0 ≡ 1024)
-      → Run g cells b (set order 0 b) (set from b b) 1 0
-  unfolding square
-  Run-first order from h k e l s f =
+  -- b is offered to an empty list, and stands alone in it, its own parent
+  pub Run-first : (order : List ℕ) → length order ≡ 1024 → get_or cells b 0 ≡ 1 → b < size g → size g ≤ 1024
+      → {from' order' : List ℕ} {r : ℕ} → Offered cells (replicate 1024 1024) order 0 b b from' order' r → Run g cells b order' from' r 0
+  unfolding square any
+  Run-first order h e l s {from'} {order'} {r} o =
       let z : size g - 0 ≡ size g = omega arith in
+      let free : 0 + unlisted (replicate 1024 1024) ≤ 1024 = omega (arith, how_many-le 1024 (replicate 1024 1024), length-replicate {A = ℕ} 1024 1024) in
       record {
         cs = (b, b) ∷ [];
-        listing = Listing-first (size g) order from b h k l s f;
-        room = Room-first order from b h k (omega (arith, l, s)) (f b l);
+        listing = rw (eq-eqb (get_or cells b 0) 1 e) at (Offered-list (Listing-none (size g) order h s) cells b b o l s (omega arith) free);
         start = eq-eqb _ _ (get_or-take (size g) cells b 0 l ∙ e);
         tree = root;
         on = omega arith;
@@ -148,15 +122,14 @@ module _ (g : Grid) (cells : List ℕ) (b : ℕ) where
     -- it is taken
     pub Run-more : {order' from' : List ℕ} {r : ℕ}
         → ((cs : List Entry) → Listing (size g) order from count cs → Listing (size g) order' from' r (cs ++ appended g (take (size g) cells) cs (get_or order t 0)))
-        → Room order' from' r → count ≤ r → Run g cells b order' from' r (t + 1)
-    Run-more f m l =
+        → count ≤ r → Run g cells b order' from' r (t + 1)
+    Run-more f l =
         let e = order_at R.listing t h in
         let i : t < length R.cs = omega (arith, h, R.listing.many) in
         let z : size g - t ≡ suc (size g - (t + 1)) = omega (arith, run_below) in
         record {
           cs = R.cs ++ appended g (take (size g) cells) R.cs (get_or R.cs t (0, 0)).0;
           listing = rw (← e) (f R.cs R.listing);
-          room = m;
           start = R.start;
           tree = Tree-step g (take (size g) cells) (square_inside g cells) b R.start R.cs _ R.tree (Listed-at R.cs t i);
           on = omega (arith, h);

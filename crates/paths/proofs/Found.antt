@@ -1,6 +1,6 @@
 -- What was found for reason 2, as the answer and the buffer tell it.
 -- Assumes nothing.
-use Prim.Native.Nat.{ℕ, ◌≤◌}
+use Prim.Native.Nat.{ℕ}
 use mathlib.Core.Path.{◌≡◌, subst}
 use mathlib.Core.List.{List}
 use Rattle.grid.specs.Side.{sized}
@@ -10,14 +10,15 @@ use Rattle.literals.specs.Inside.{Wrote, FoundAs}
 use Rattle.std.specs.Prelude.{Option, Some, None}
 use Rattle.literals.proofs.Findings.{found_none, Wrote-found}
 use Rattle.paths.specs.Paths.{way, reason2}
-use Rattle.paths.specs.Search.{PathEnds}
+use Rattle.grid.specs.Cells.{square}
+use Rattle.groups.specs.Groups.{Joined}
 use Rattle.paths.specs.Ends.{found_way, EndsJoined, Crossing}
 
 module _ (h w : ℕ) (arrows : List (List ℕ)) (cells : List ℕ) {ends : Option (ℕ × ℕ)} (c : Crossing (puzzle_with (sized h w) arrows) cells ends) where
   -- the ends of a path are squares of one block
-  pub crossing_ends : {a b : ℕ} → ends ≡ Some (a, b) → h ≤ 32 → w ≤ 32 → PathEnds h w cells a b
+  pub crossing_ends : {a b : ℕ} → ends ≡ Some (a, b) → Joined (sized h w) (square cells) b a
   unfolding EndsJoined
-  crossing_ends e tall wide = record { tall = tall; wide = wide; joined = subst (EndsJoined (sized h w) cells) e c.joined }
+  crossing_ends e = subst (EndsJoined (sized h w) cells) e c.joined
 
   -- the path is the reason
   pub crossing_found : {a b k : ℕ} {before after : List ℕ} → ends ≡ Some (a, b) → Wrote (each 1 (way (sized h w) cells a b)) before after k

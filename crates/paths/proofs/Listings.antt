@@ -1,39 +1,37 @@
 -- The breadth-first list in arrays: a cell is offered, and the neighbours of a cell one after another.
 -- Assumes nothing.
-use Prim.Native.Nat.{ℕ, zero, suc, ◌+◌, ◌≤◌, ◌<◌}
+use Prim.Native.Nat.{ℕ, zero, suc, ◌+◌, ◌-◌, ◌≤◌, ◌<◌}
 use native.Mathlib.Omega.{arith}
 use native.Mathlib.Numerals.{add-one}
+use native.Mathlib.Nat.{add-zero, add-suc}
 use mathlib.Core.Logic.{◌⊎◌, inl, inr}
-use mathlib.Core.Path.{◌≡◌, refl, sym, ◌∙◌, subst}
+use mathlib.Core.Path.{◌≡◌, refl, sym, ap, ◌∙◌, subst}
 use mathlib.Core.Bool.{Bool, true, false, cond, ◌&&◌, ◌||◌, not}
 use mathlib.Core.List.Memᴰ
 use mathlib.Core.List.{List, [], ◌∷◌, ◌++◌, map, map-append, append_assoc, append-nil, Memᴰ}
 use lib.Dec.{eqb}
-use lib.ListN.{length, get_or, set, take, length-set, length-append}
-use lib.Seq.{take-suc-set, get_or-set_same, get_or-set_other, take-suc, get_or-take, take-length}
+use lib.ListN.{get_or, set, take, length-set, length-append}
+use lib.Seq.{take-suc-set, get_or-set_same, get_or-set_other, get_or-take}
+use Rattle.std.specs.Prelude.{Some, None}
 use borrow.Author.Tests.{eqb-true, eqb-false, eq-eqb, ne_eqb}
 use Rattle.grid.specs.Lists.{any, filter, Distinct}
 use Rattle.grid.specs.Grid.{Grid, size, neighbours}
-use Rattle.grid.proofs.ListLaws.{split, So-false, at_mem}
+use Rattle.grid.specs.Side.{towards, beside_of}
+use Rattle.grid.proofs.ListLaws.{split, So-false}
+use Rattle.grid.proofs.GridLaws.{apart}
+use Rattle.grid.proofs.SideLaws.{beside_in}
+use Rattle.grid.proofs.AroundLaws.{gathered, gathered_next, gathered_same, gathered_all}
 use Rattle.grid.proofs.AppendLaws.{filter_more}
-use Rattle.grid.proofs.ArrayLaws.{fewer_set, how_many-le}
+use Rattle.grid.proofs.ArrayLaws.{fewer_set}
 use Rattle.grid.specs.Cells.{square}
 use Rattle.paths.specs.Paths.{Entry, seen, appended}
-use Rattle.paths.specs.Search.{parent_mark, unlisted, Listing, wanted, Offered, Room}
+use Rattle.paths.specs.Search.{parent_mark, unlisted, Listing, wanted, Offered}
 
 -- ---- room
 
 -- where a cell is wanted there is a place for it
 pub room_left : (from : List ℕ) (j : ℕ) → get_or from j 0 ≡ 1024 → 0 < unlisted from
 room_left from j e = omega (arith, fewer_set from j 0 e (λ z. omega (arith, z)) (omega arith))
-
--- the first cell is listed
-pub Room-first : (order from : List ℕ) (b : ℕ) → length order ≡ 1024 → length from ≡ 1024 → b < 1024 → get_or from b 0 ≡ 1024 → Room (set order 0 b) (set from b b) 1
-Room-first order from b h k l e = record {
-  order_long = length-set order 0 b ∙ h;
-  from_long = length-set from b b ∙ k;
-  room = omega (arith, fewer_set from b b e (λ z. omega (arith, z)) (omega arith), how_many-le 1024 from);
-}
 
 -- ---- one cell is offered
 
@@ -58,33 +56,13 @@ module _ (cells from order : List ℕ) (count j p : ℕ) where
       let t : wanted cells from j ≡ true = rw (wanted, eq-eqb (get_or cells j 0) 1 e, eq-eqb (get_or from j 0) 1024 h) refl in
       record { number = rw t refl; parents = rw t refl; listed = rw t refl }
 
-module _ {cells from order : List ℕ} {count j p : ℕ} {from' order' : List ℕ} {r : ℕ} (o : Offered cells from order count j p from' order' r) where
-  -- there is still room
-  pub offered_Room : p < 1024 → Room order from count → Room order' from' r
-  unfolding wanted
-  offered_Room h m = go (split (wanted cells from j))
-    where
-      go : (wanted cells from j ≡ true) ⊎ (wanted cells from j ≡ false) → Room order' from' r
-      go (inl t) = rw (o.number, o.parents, o.listed, t) (record {
-        order_long = length-set order count j ∙ m.order_long;
-        from_long = length-set from j p ∙ m.from_long;
-        room = omega (arith, m.room, fewer_set from j p (free t) (λ z. omega (arith, z)) (omega arith));
-      })
-        where
-          free : wanted cells from j ≡ true → get_or from j 0 ≡ 1024
-          free t = eqb-true _ _ (and_right (eqb (get_or cells j 0) 1) _ t)
-            where
-              and_right : (a b : Bool) → (a && b) ≡ true → b ≡ true
-              and_right true b h = h
-              and_right false b h = let z : ◌≡◌ {A = ℕ} 0 1 = cc in absurd (omega arith)
-      go (inr t) = rw (o.number, o.parents, o.listed, t) m
-
-  pub offered_more : count ≤ r
-  offered_more = rw o.number (go (wanted cells from j))
-    where
-      go : (b : Bool) → count ≤ cond b (count + 1) count
-      go true = omega arith
-      go false = omega arith
+-- no fewer are listed
+pub offered_more : {cells from order : List ℕ} {count j p : ℕ} {from' order' : List ℕ} {r : ℕ} → Offered cells from order count j p from' order' r → count ≤ r
+offered_more {cells} {from} {count = count} {j = j} o = rw o.number (go (wanted cells from j))
+  where
+    go : (b : Bool) → count ≤ cond b (count + 1) count
+    go true = omega arith
+    go false = omega arith
 
 -- a cell is marked as not listed exactly where it is not
 unseen : (cs : List Entry) → ((c : Entry) → Memᴰ c cs → c.1 < 1024) → (i : ℕ) → eqb (parent_mark cs i) 1024 ≡ not (seen cs i)
@@ -149,7 +127,7 @@ module _ {n : ℕ} {order from : List ℕ} {count : ℕ} {cs : List Entry} (L : 
           pick false e = mark_unseen cs i e
 
   -- what one offer makes of the list
-  pub Offered-list : (j p : ℕ) {from' order' : List ℕ} {r : ℕ} → Offered cells from order count j p from' order' r → j < n → n ≤ 1024 → p < 1024 → Room order from count
+  pub Offered-list : (j p : ℕ) {from' order' : List ℕ} {r : ℕ} → Offered cells from order count j p from' order' r → j < n → n ≤ 1024 → p < 1024 → count + unlisted from ≤ 1024
       → Listing n order' from' r (cs ++ cond (square cells j && not (seen cs j)) ((j, p) ∷ []) [])
   unfolding wanted
   Offered-list j p o h k l m = rw (o.number, o.parents, o.listed, wanted_is j h) (go (square cells j) (seen cs j) refl)
@@ -158,7 +136,7 @@ module _ {n : ℕ} {order from : List ℕ} {count : ℕ} {cs : List Entry} (L : 
           → Listing n (cond (a && not b) (set order count j) order) (cond (a && not b) (set from j p) from) (cond (a && not b) (count + 1) count) (cs ++ cond (a && not b) ((j, p) ∷ []) [])
       go true false e =
           let free : get_or from j 0 ≡ 1024 = L.parents_are j h ∙ mark_unseen cs j e in
-          listed_more j p h k l (omega (arith, m.room, room_left from j free)) e
+          listed_more j p h k l (omega (arith, m, room_left from j free)) e
       go true true e = rw (append-nil cs) L
       go false b e = rw (append-nil cs) L
 
@@ -190,52 +168,83 @@ seen_other [] c j t l n = So-false _ (λ h. none l n h)
 seen_other (d ∷ cs) c j t l n = rw (seen_other cs c j t l n) refl
 
 -- a member of a list of distinct ones is not among those before it
-Distinct-before : (l : List ℕ) (k : ℕ) → Distinct l → k < length l → ¬ Memᴰ (get_or l k 0) (take k l)
-Distinct-before [] k d h m = absurd (omega arith)
-Distinct-before (x ∷ xs) zero d h m = Memᴰ.not-nil m
-Distinct-before (x ∷ xs) (suc k) d h (Memᴰ.head e) = d.0 (subst (λ (y : ℕ). Memᴰ y xs) e (at_mem xs k (omega arith)))
-Distinct-before (x ∷ xs) (suc k) d h (Memᴰ.tail m) = Distinct-before xs k d.1 (omega arith) m
+Distinct-before : (l : List ℕ) (j : ℕ) (r : List ℕ) → Distinct (l ++ (j ∷ r)) → ¬ Memᴰ j l
+Distinct-before [] j r d m = Memᴰ.not-nil m
+Distinct-before (x ∷ xs) j r d (Memᴰ.head e) = d.0 (Memᴰ.append_right xs (Memᴰ.head (sym e)))
+Distinct-before (x ∷ xs) j r d (Memᴰ.tail m) = Distinct-before xs j r d.1 m
+
+module _ (g : Grid) (c : ℕ) where
+  -- the neighbours in more directions come behind those in the first k
+  behind : (k m : ℕ) → (rest : List ℕ) × (gathered g c (k + m) ≡ gathered g c k ++ rest)
+  unfolding gathered
+  behind k zero = ([], rw add-zero (sym (append-nil (gathered g c k))))
+  behind k (suc m) =
+      let r = behind k m in
+      (r.0 ++ towards g c (k + m), rw (add-suc, r.1) (append_assoc (gathered g c k) r.0 (towards g c (k + m))))
+
+  -- a neighbour is not among those in the directions before
+  not_before : c < size g → (k j : ℕ) → k < 4 → Some j ≡ beside_of g c k → ¬ Memᴰ j (gathered g c k)
+  not_before h k j l e =
+      let r = behind (k + 1) (4 - (k + 1)) in
+      let z : k + 1 + (4 - (k + 1)) ≡ 4 = omega arith in
+      let all : neighbours g c ≡ gathered g c k ++ (j ∷ r.0)
+      = sym (gathered_all g c) ∙ (rw z at r.1) ∙ ap (λ (l : List ℕ). l ++ r.0) (gathered_next g c k j e) ∙ append_assoc (gathered g c k) (j ∷ []) r.0 in
+      Distinct-before (gathered g c k) j r.0 (rw (← all) (apart g c h))
 
 module _ (g : Grid) (cells : List ℕ) (cs : List Entry) (c : ℕ) where
-  -- the square neighbours that are not listed yet, among the first k
-  abbrev pub news : ℕ → List Entry
-  news k = map (λ j. (j, c)) (filter (λ j. square cells j && not (seen cs j)) (take k (neighbours g c)))
+  -- the square ones of these neighbours that are not listed yet
+  abbrev pub news : List ℕ → List Entry
+  news js = map (λ j. (j, c)) (filter (λ j. square cells j && not (seen cs j)) js)
 
-  -- the first k neighbours were offered, and one more is
-  pub neighbour_Offered : (k : ℕ) → Distinct (neighbours g c) → k < length (neighbours g c)
-      → {order from : List ℕ} {count : ℕ} → Listing (size g) order from count (cs ++ news k) → size g ≤ 1024 → c < 1024 → get_or (neighbours g c) k 0 < size g → Room order from count
-      → {from' order' : List ℕ} {r : ℕ} → Offered cells from order count (get_or (neighbours g c) k 0) c from' order' r → Listing (size g) order' from' r (cs ++ news (k + 1))
-  neighbour_Offered k d h {order} {from} {count} L s c< j< m {from'} {order'} {r} o =
+  -- the neighbours js were offered, and one more is
+  neighbour_Offered : (js : List ℕ) (j : ℕ) → ¬ Memᴰ j js
+      → {order from : List ℕ} {count : ℕ} → Listing (size g) order from count (cs ++ news js) → size g ≤ 1024 → c < 1024 → j < size g → count + unlisted from ≤ 1024
+      → {from' order' : List ℕ} {r : ℕ} → Offered cells from order count j c from' order' r → Listing (size g) order' from' r (cs ++ news (js ++ (j ∷ [])))
+  neighbour_Offered js j n {order} {from} {count} L s c< j< m {from'} {order'} {r} o =
       subst (Listing (size g) order' from' r) same (Offered-list L cells j c o j< s c< m)
     where
-      nb : List ℕ
-      nb = neighbours g c
-
-      j : ℕ
-      j = get_or nb k 0
-
       t : ℕ → Bool
       t i = square cells i && not (seen cs i)
-
-      old : seen (cs ++ news k) j ≡ seen cs j
-      old = seen_other cs c j t (take k nb) (Distinct-before nb k d h)
 
       only : (b : Bool) → map {B = Entry} (λ (i : ℕ). (i, c)) (cond b (j ∷ []) []) ≡ cond b ((j, c) ∷ []) []
       only true = refl
       only false = refl
 
-      more : news (k + 1) ≡ news k ++ cond (t j) ((j, c) ∷ []) []
-      more = rw (add-one k, take-suc nb k 0 h, filter_more t (take k nb) j, map-append {B = Entry} (λ (i : ℕ). (i, c)) (filter t (take k nb)) (cond (t j) (j ∷ []) []), only (t j)) refl
+      more : news (js ++ (j ∷ [])) ≡ news js ++ cond (t j) ((j, c) ∷ []) []
+      more = rw (filter_more t js j, map-append {B = Entry} (λ (i : ℕ). (i, c)) (filter t js) (cond (t j) (j ∷ []) []), only (t j)) refl
 
-      same : (cs ++ news k) ++ cond (square cells j && not (seen (cs ++ news k) j)) ((j, c) ∷ []) [] ≡ cs ++ news (k + 1)
-      same = rw (old, more) (append_assoc cs (news k) (cond (t j) ((j, c) ∷ []) []))
+      same : (cs ++ news js) ++ cond (square cells j && not (seen (cs ++ news js) j)) ((j, c) ∷ []) [] ≡ cs ++ news (js ++ (j ∷ []))
+      same = rw (seen_other cs c j t js n, more) (append_assoc cs (news js) (cond (t j) ((j, c) ∷ []) []))
 
+-- the list after the neighbours of the cell p in the first k directions were offered, and before
+pub record Amid (g : Grid) (cells : List ℕ) (p : ℕ) (from₀ order₀ : List ℕ) (count₀ : ℕ) (from order : List ℕ) (count k : ℕ) : Type 0 where
+  pub more : count₀ ≤ count
+  pub list : (cs : List Entry) → Listing (size g) order₀ from₀ count₀ cs → Listing (size g) order from count (cs ++ news g cells cs p (gathered g p k))
+
+module _ (g : Grid) (cells : List ℕ) (p : ℕ) where
   -- before the first
-  pub news_none : cs ++ news 0 ≡ cs
-  unfolding filter
-  news_none = append-nil cs
+  pub Amid-none : (from order : List ℕ) (count : ℕ) → Amid g cells p from order count from order count 0
+  unfolding filter gathered
+  Amid-none from order count = record { more = omega arith; list = λ cs L. rw (append-nil cs) L }
 
-  -- after the last
-  pub news_all : news (length (neighbours g c)) ≡ appended g cells cs c
+  module _ {from₀ order₀ : List ℕ} {count₀ : ℕ} {from order : List ℕ} {count k : ℕ} (A : Amid g (take (size g) cells) p from₀ order₀ count₀ from order count k) where
+    -- one more
+    pub Amid-at : p < size g → size g ≤ 1024 → count + unlisted from ≤ 1024 → k < 4 → (j : ℕ) → Some j ≡ beside_of g p k
+        → {from' order' : List ℕ} {r : ℕ} → Offered cells from order count j p from' order' r → Amid g (take (size g) cells) p from₀ order₀ count₀ from' order' r (k + 1)
+    Amid-at h s m l j e o =
+        let j< = beside_in g p k j h e in
+        record {
+          more = omega (arith, A.more, offered_more o);
+          list = λ cs L. rw (gathered_next g p k j e)
+              (neighbour_Offered g (take (size g) cells) cs p (gathered g p k) j (not_before g p h k j l e) (A.list cs L) s (omega arith) j< m (Offered-take (size g) j< o));
+        }
+
+    -- no neighbour in this direction
+    pub Amid-off : None ≡ beside_of g p k → Amid g (take (size g) cells) p from₀ order₀ count₀ from order count (k + 1)
+    Amid-off e = record { more = A.more; list = λ cs L. rw (gathered_same g p k e) (A.list cs L) }
+
+  -- after the fourth
+  pub Amid-all : {from₀ order₀ : List ℕ} {count₀ : ℕ} {from order : List ℕ} {count : ℕ} → Amid g cells p from₀ order₀ count₀ from order count 4
+      → (cs : List Entry) → Listing (size g) order₀ from₀ count₀ cs → Listing (size g) order from count (cs ++ appended g cells cs p)
   unfolding appended
-  news_all = rw (take-length (neighbours g c)) refl
+  Amid-all A cs L = rw (← gathered_all g p) (A.list cs L)

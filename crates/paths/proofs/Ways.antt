@@ -1,6 +1,6 @@
 -- The path of reason 2 written cell by cell.
 -- Assumes nothing.
-use Prim.Native.Nat.{ℕ, suc, ◌+◌, ◌-◌, ◌<◌}
+use Prim.Native.Nat.{ℕ, suc, ◌+◌, ◌-◌, ◌≤◌, ◌<◌}
 use native.Mathlib.Omega.{arith}
 use mathlib.Core.Path.{◌≡◌, refl, sym, ◌∙◌, subst}
 use mathlib.Core.Bool.{So}
@@ -15,7 +15,7 @@ use Rattle.paths.specs.Paths.{Entry, list_from, parent, path}
 use Rattle.literals.specs.Literals.{each}
 use Rattle.literals.specs.Inside.{Wrote}
 use Rattle.paths.specs.Search.{Listing}
-use Rattle.literals.proofs.BufferLaws.{Wrote-none, Wrote-more}
+use Rattle.literals.proofs.BufferLaws.{Wrote-none, Wrote-more, wrote_length}
 use Rattle.paths.specs.BreadthFirst.{Listed}
 use Rattle.paths.proofs.Walk.{Early, Tree-square, Tree-length, whole_Tree, whole_Listed, parent-Early, Listed-left}
 use Rattle.paths.proofs.Breadth.{square_inside, mark_parent, path_end, path_on}
@@ -65,6 +65,10 @@ module _ (g : Grid) (cells : List ℕ) (b : ℕ) where
     -- the next cell is one of the grid
     pub way_cell : x < size g
     way_cell = square_inside g cells x (Tree-square g (take (size g) cells) (square_inside g cells) b W.start W.early.tree x W.early.listed)
+
+    -- there is room for it, where a buffer has room for as many as the grid has cells
+    pub way_room : size g ≤ length before → k < length after
+    way_room h = let l : k ≤ length before = omega (arith, way_below) in omega (arith, way_below, wrote_length W.wrote l)
 
     -- its mark is its parent
     pub way_mark : {order from : List ℕ} {count : ℕ} → Listing (size g) order from count whole → get_or from x 0 ≡ parent whole x

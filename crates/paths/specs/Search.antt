@@ -1,12 +1,9 @@
 -- The breadth-first list of reason 2 in arrays.
 -- Assumes nothing.
-use Rattle.std.specs.Prelude.{ℕ, ◌+◌, ◌*◌, ◌≤◌, ◌<◌, ◌≡◌, Bool, cond, ◌&&◌, eqb, length, get_or, take, set}
-use mathlib.Core.List.{List, [], ◌∷◌, ◌++◌, map, Memᴰ}
+use Rattle.std.specs.Prelude.{ℕ, ◌+◌, ◌<◌, ◌≡◌, Bool, cond, ◌&&◌, eqb, length, get_or, take, set}
+use mathlib.Core.List.{List, [], ◌∷◌, map, Memᴰ}
 use Rattle.grid.specs.Lists.{how_many}
-use Rattle.grid.specs.Side.{sized}
-use Rattle.grid.specs.Cells.{square}
-use Rattle.groups.specs.Groups.{Joined}
-use Rattle.paths.specs.Paths.{Entry, appended}
+use Rattle.paths.specs.Paths.{Entry}
 
 -- the parent of cell i, or 1024 if it is not listed
 unfoldable pub parent_mark : List Entry → ℕ → ℕ
@@ -35,21 +32,3 @@ pub record Offered (cells from order : List ℕ) (count j p : ℕ) (from' order'
   pub number : r ≡ cond (wanted cells from j) (count + 1) count
   pub parents : from' ≡ cond (wanted cells from j) (set from j p) from
   pub listed : order' ≡ cond (wanted cells from j) (set order count j) order
-
--- there is room in the arrays for every cell that is not listed
-pub record Room (order from : List ℕ) (count : ℕ) : Type 0 where
-  pub order_long : length order ≡ 1024
-  pub from_long : length from ≡ 1024
-  pub room : count + unlisted from ≤ 1024
-
--- the cell at place t of the breadth-first list appended what it has to append
-pub record ListedBeside (h w : ℕ) (cells : List ℕ) (t : ℕ) (order from : List ℕ) (count : ℕ) (order' from' : List ℕ) (r : ℕ) : Type 0 where
-  pub list : (cs : List Entry) → Listing (h * w) order from count cs → Listing (h * w) order' from' r (cs ++ appended (sized h w) cells cs (get_or order t 0))
-  pub room : Room order' from' r
-  pub more : count ≤ r
-
--- a and b are squares of one block
-pub record PathEnds (h w : ℕ) (cells : List ℕ) (a b : ℕ) : Type 0 where
-  pub tall : h ≤ 32
-  pub wide : w ≤ 32
-  pub joined : Joined (sized h w) (square cells) b a

@@ -1,120 +1,113 @@
 // Reason 2: a block with two arrow cells, and the squares of a shortest way between them.
 #![tactic(auto)]
 
-ghost use Rattle.std.specs.Prelude.{◌≡◌, ℕ, ◌*◌, ◌<◌, ◌≤◌, length, get_or, take, drop, replicate, List, ◌++◌, find, All};
+ghost use Rattle.std.specs.Prelude.{◌≡◌, ℕ, ◌+◌, ◌*◌, ◌<◌, ◌≤◌, length, get_or, take, replicate, List, ◌++◌, find, All};
 ghost use Rattle.grid.specs.Grid.{size};
-ghost use Rattle.grid.specs.Side.{InGrid, sized};
+ghost use Rattle.grid.specs.Side.{sized};
+ghost use Rattle.grid.specs.Cells.{square};
 ghost use Rattle.record.specs.Record.{Puzzle};
 ghost use Rattle.literals.specs.Literals.{each};
-ghost use Rattle.paths.specs.Paths.{list_from, way, reason2};
-ghost use Rattle.literals.specs.Inside.{Wrote, Fit, FoundAs};
+ghost use Rattle.paths.specs.Paths.{Entry, appended, list_from, way, reason2};
+ghost use Rattle.literals.specs.Inside.{Wrote, FoundAs};
+ghost use Rattle.groups.specs.Groups.{Joined};
 ghost use Rattle.groups.specs.Arrays.{Names};
-ghost use Rattle.paths.specs.Ends.{BlockTable, crossed, arrow_cell_of, arrow_cells_from, Crossing, Blocked};
+ghost use Rattle.paths.specs.Ends.{BlockTable, crossed, arrow_cells_from, Crossing, Blocked};
 ghost use Rattle.kinds.specs.Inside.{puzzle_with};
-ghost use Rattle.paths.specs.Search.{Offered, Room, ListedBeside, Listing, PathEnds};
+ghost use Rattle.paths.specs.Search.{unlisted, Offered, Listing};
 
-// Sets the first n places to 1024, which is no cell.
-fn reset(places: &mut [u16; 1024], n: usize)
-    requires { (n ≤ 1024) × (length places.old ≡ 1024) }
-    ensures { places.new ≡ replicate n 1024 ++ drop n places.old }
-{
-    places[..n].fill(1024);
-}
+use grid::Grid;
+use groups::Groups;
 
-// Lists cell j with its parent p, if it is a square that is not listed yet; the new count.
-fn list_cell(
-    cells: &[u8; 1024],
-    from: &mut [u16; 1024],
-    order: &mut [u16; 1024],
+// Stands for the parent of a cell that is not listed.
+const UNLISTED: u16 = 1024;
+
+// A breadth-first list of squares: the first `count` places of `order` have its cells, and `from` has the parent of each.
+#[derive(Drop)]
+struct BreadthFirstList {
+    from: [u16; 1024],
+    order: [u16; 1024],
     count: usize,
-    j: usize,
-    p: u16,
-) -> usize
-    requires { (j < 1024) × Room order.old from.old count }
-    ensures { Offered cells.now from.old order.old count j p from.new order.new result }
-{
-    if cells[j] != 1 {
-        return count;
-    }
-    if from[j] != 1024 {
-        return count;
-    }
-    from[j] = p;
-    order[count] = j as u16;
-    count + 1
+    // there is room for every cell that is not listed
+    ghost room: { count + unlisted from ≤ 1024 },
 }
 
-// Lists the square neighbours of the cell at place t of the breadth-first list; the new count.
-fn list_neighbours(
-    cells: &[u8; 1024],
-    h: usize,
-    w: usize,
-    t: usize,
-    from: &mut [u16; 1024],
-    order: &mut [u16; 1024],
-    count: usize,
-) -> usize
-    requires { (t < count) × InGrid h w (get_or order.old t 0) × Room order.old from.old count }
-    ensures { ListedBeside h w (take (h * w) cells.now) t order.old from.old count order.new from.new result }
-{
-    let p = order[t];
-    let around = grid::neighbours(h, w, usize::from(p));
-    let sides = around.cells;
-    let number = around.count;
-    let mut listed = count;
-    for k in 0..number {
-        listed = list_cell(cells, from, order, listed, usize::from(sides[k]), p);
+impl BreadthFirstList {
+    fn new() -> BreadthFirstList
+        ensures { (result.count ≡ 0) × (result.from ≡ replicate 1024 1024) }
+    {
+        BreadthFirstList {
+            from: [UNLISTED; 1024],
+            order: [0; 1024],
+            count: 0,
+        }
     }
-    listed
-}
 
-// The breadth-first list of the squares joined to b: `order` has its cells and `from` the parent of each. How many are listed.
-fn breadth_first(
-    cells: &[u8; 1024],
-    h: usize,
-    w: usize,
-    b: usize,
-    from: &mut [u16; 1024],
-    order: &mut [u16; 1024],
-) -> usize
-    requires { InGrid h w b × (get_or cells.now b 0 ≡ 1) × (length order.old ≡ 1024) × (length from.old ≡ 1024) }
-    ensures { Listing (h * w) order.new from.new result (list_from (sized h w) (take (h * w) cells.now) b) }
-{
-    reset(from, h * w);
-    from[b] = b as u16;
-    order[0] = b as u16;
-    let mut count = 1;
-    let mut t = 0;
-    // no for: the list grows while it is gone through, and ends where it stops to grow
-    while t < count {
-        count = list_neighbours(cells, h, w, t, from, order, count);
-        t += 1;
+    // Lists cell j with its parent p, if it is a square that is not listed yet.
+    fn list_cell(&mut self, cells: &[u8; 1024], j: usize, p: u16)
+        requires { (j < 1024) × (p < 1024) }
+        ensures { Offered cells.now self.old.from self.old.order self.old.count j p self.new.from self.new.order self.new.count }
+    {
+        if cells[j] != grid::SQUARE {
+            return;
+        }
+        if self.from[j] != UNLISTED {
+            return;
+        }
+        self.from[j] = p;
+        self.order[self.count] = j as u16;
+        self.count += 1;
     }
-    count
+
+    // Lists the square neighbours of the cell at place t.
+    fn list_neighbours(&mut self, grid: Grid, cells: &[u8; 1024], t: usize)
+        requires { (t < self.old.count) × (get_or self.old.order t 0 < grid.height * grid.width) }
+        ensures list { (cs : List Entry) → Listing (grid.height * grid.width) self.old.order self.old.from self.old.count cs
+            → Listing (grid.height * grid.width) self.new.order self.new.from self.new.count
+            (cs ++ appended (sized grid.height grid.width) (take (grid.height * grid.width) cells.now) cs (get_or self.old.order t 0)) }
+        ensures more { self.old.count ≤ self.new.count }
+    {
+        let p = self.order[t];
+        let cell = usize::from(p);
+        let y = cell / grid.width;
+        let x = cell % grid.width;
+        for k in 0..4 {
+            if let Some(j) = grid.toward(y, x, k) {
+                self.list_cell(cells, j, p);
+            }
+        }
+    }
+
+    // Lists the squares joined to b, breadth first. The list comes empty.
+    fn list_from(&mut self, grid: Grid, cells: &[u8; 1024], b: usize)
+        requires empty { (self.old.count ≡ 0) × (self.old.from ≡ replicate 1024 1024) }
+        requires square { (b < grid.height * grid.width) × (get_or cells.now b 0 ≡ 1) }
+        ensures { Listing (grid.height * grid.width) self.new.order self.new.from self.new.count
+            (list_from (sized grid.height grid.width) (take (grid.height * grid.width) cells.now) b) }
+    {
+        self.list_cell(cells, b, b as u16);
+        let mut t = 0;
+        // no for: the list grows while it is gone through, and ends where it stops to grow
+        while t < self.count {
+            self.list_neighbours(grid, cells, t);
+            t += 1;
+        }
+    }
 }
 
 // The squares of a shortest way from a to b, which are squares of one block, by the parents of the breadth-first list from b.
-fn reason_for_path(
-    cells: &[u8; 1024],
-    h: usize,
-    w: usize,
-    a: usize,
-    b: usize,
-    from: &mut [u16; 1024],
-    order: &mut [u16; 1024],
-    buffer: &mut [u16],
-) -> usize
-    requires { PathEnds h w (take (h * w) cells.now) a b × (length order.old ≡ 1024) × (length from.old ≡ 1024) × (h * w ≤ length buffer.old) }
-    ensures wrote { Wrote (each 1 (way (sized h w) (take (h * w) cells.now) a b)) buffer.old buffer.new result }
-    ensures lengths { (length order.new ≡ 1024) × (length from.new ≡ 1024) }
+fn reason_for_path(grid: Grid, cells: &[u8; 1024], a: usize, b: usize, buffer: &mut [u16]) -> usize
+    requires ends { Joined (sized grid.height grid.width) (square (take (grid.height * grid.width) cells.now)) b a }
+    requires room { grid.height * grid.width ≤ length buffer.old }
+    ensures { Wrote (each 1 (way (sized grid.height grid.width) (take (grid.height * grid.width) cells.now) a b)) buffer.old buffer.new result }
 {
-    breadth_first(cells, h, w, b, from, order);
+    let mut list = BreadthFirstList::new();
+    list.list_from(grid, cells, b);
     let mut cell = a;
     let mut count = 0;
     // no for: the way goes from parent to parent, and has no index
     while cell != b {
         buffer[count] = literals::literal(cell, 1);
-        cell = usize::from(from[cell]);
+        cell = usize::from(list.from[cell]);
         count += 1;
     }
     buffer[count] = literals::literal(cell, 1);
@@ -133,30 +126,13 @@ fn first_crossed(names: &[u16], arrowed: &[u16; 1024]) -> Option<u16>
         .find(|&f| 2 <= arrowed[usize::from(f)])
 }
 
-// Whether cell i is an arrow cell of the block named f.
-fn is_arrow_cell_of(blocks: &[u16; 1024], onarrow: &[u8; 1024], f: u16, i: usize) -> bool
-    requires { i < 1024 }
-    ensures { result ≡ arrow_cell_of blocks.now onarrow.now f i }
-{
-    if blocks[i] != f {
-        return false;
-    }
-    onarrow[i] == 1
-}
-
 // The first arrow cell of the block named f from cell `from` on, n if there is none below n.
-fn next_arrow_cell(
-    blocks: &[u16; 1024],
-    onarrow: &[u8; 1024],
-    n: usize,
-    f: u16,
-    from: usize,
-) -> usize
+fn next_arrow_cell(blocks: &Groups, onarrow: &[u8; 1024], n: usize, f: u16, from: usize) -> usize
     requires { n ≤ 1024 }
-    ensures { (result ≡ get_or (arrow_cells_from blocks.now onarrow.now n f from) 0 n) × (result ≤ n) }
+    ensures { (result ≡ get_or (arrow_cells_from blocks.now.labels onarrow.now n f from) 0 n) × (result ≤ n) }
 {
     for i in from..n {
-        if is_arrow_cell_of(blocks, onarrow, f, i) {
+        if blocks.labels[i] == f && onarrow[i] == 1 {
             return i;
         }
     }
@@ -164,19 +140,14 @@ fn next_arrow_cell(
 }
 
 // The first two arrow cells of the lowest numbered block that has two or more, if there is one.
-fn find_crossing(
-    blocks: &[u16; 1024],
-    onarrow: &[u8; 1024],
-    n: usize,
-    names: &[u16; 1024],
-    number: usize,
-    arrowed: &[u16; 1024],
-) -> Option<(usize, usize)>
-    requires { (n ≤ 1024) × Names names.now number }
+fn find_crossing(grid: Grid, blocks: &Groups, onarrow: &[u8; 1024]) -> Option<(usize, usize)>
+    requires { Names blocks.now.firsts blocks.now.count }
     ensures { (p : Puzzle) (cells squares : List ℕ)
-        → BlockTable p cells blocks.now onarrow.now names.now squares arrowed.now number → n ≡ size p.grid → Crossing p cells result }
+        → BlockTable p cells blocks.now.labels onarrow.now blocks.now.firsts squares blocks.now.arrowed blocks.now.count
+        → grid.height * grid.width ≡ size p.grid → Crossing p cells result }
 {
-    let f = first_crossed(&names[..number], arrowed)?;
+    let f = first_crossed(&blocks.firsts[..blocks.count], &blocks.arrowed)?;
+    let n = grid.size();
     let a = next_arrow_cell(blocks, onarrow, n, f, 0);
     let b = next_arrow_cell(blocks, onarrow, n, f, a + 1);
     Some((a, b))
@@ -184,24 +155,20 @@ fn find_crossing(
 
 // How many literals reason 2 has, which stand in the buffer then, or none where it does not apply.
 pub fn check_blocks(
+    grid: Grid,
     cells: &[u8; 1024],
-    blocks: &[u16; 1024],
+    blocks: &Groups,
     onarrow: &[u8; 1024],
-    names: &[u16; 1024],
-    number: usize,
-    arrowed: &[u16; 1024],
-    h: usize,
-    w: usize,
     buffer: &mut [u16],
 ) -> Option<usize>
-    requires { Fit h w buffer.old × Blocked h w cells.now blocks.now onarrow.now names.now arrowed.now number }
+    requires blocked { Blocked grid.height grid.width cells.now blocks.now.labels onarrow.now blocks.now.firsts blocks.now.arrowed blocks.now.count }
+    requires room { 3 * (grid.height * grid.width) + 1 ≤ length buffer.old }
     ensures { (lines : List (List ℕ)) (squares : List ℕ)
-        → BlockTable (puzzle_with (sized h w) lines) (take (h * w) cells.now) blocks.now onarrow.now names.now squares arrowed.now number
-        → FoundAs (reason2 (puzzle_with (sized h w) lines) (take (h * w) cells.now)) buffer.old buffer.new result }
+        → BlockTable (puzzle_with (sized grid.height grid.width) lines) (take (grid.height * grid.width) cells.now)
+        blocks.now.labels onarrow.now blocks.now.firsts squares blocks.now.arrowed blocks.now.count
+        → FoundAs (reason2 (puzzle_with (sized grid.height grid.width) lines) (take (grid.height * grid.width) cells.now)) buffer.old buffer.new result }
 {
-    let (a, b) = find_crossing(blocks, onarrow, h * w, names, number, arrowed)?;
-    let mut from = [0u16; 1024];
-    let mut order = [0u16; 1024];
-    let count = reason_for_path(cells, h, w, a, b, &mut from, &mut order, buffer);
+    let (a, b) = find_crossing(grid, blocks, onarrow)?;
+    let count = reason_for_path(grid, cells, a, b, buffer);
     Some(count)
 }

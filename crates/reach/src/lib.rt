@@ -4,17 +4,27 @@
 ghost use Rattle.std.specs.Prelude.{◌≡◌, ℕ, ◌+◌, ◌*◌, ◌≤◌, ◌<◌, Bool, ◌||◌, List, replicate};
 ghost use Rattle.grid.specs.Marks.{Marks};
 ghost use Rattle.grid.specs.Grid.{neighbours};
-ghost use Rattle.grid.specs.Side.{sized, InGrid};
+ghost use Rattle.grid.specs.Side.{sized};
 ghost use Rattle.kinds.specs.Kinds.{view};
 ghost use Rattle.reach.specs.Chains.{ChainsFrom, Chains};
-ghost use Rattle.kinds.specs.Inside.{Limits, puzzle_with, Held};
+ghost use Rattle.kinds.specs.Inside.{puzzle_with, Held};
 ghost use Rattle.reach.specs.Inside.{near_at, near_among, reaches, Reached, Reach};
 
-use kinds::{ARROW_BLOCK, ARROW_BLOCK_NEIGHBOR, FLOATING};
+use kinds::{ARROW_BLOCK, ARROW_BLOCK_NEIGHBOR, BoardInfo, FLOATING};
+
+// What is known of a board's cells, with the cells of each owner linked by rising index: `head` has the first cell of each owner and `next` the one behind
+// each cell; 1024 stands for none. A walk over one group then takes as many steps as the group has cells.
+#[derive(Clone, Copy)]
+pub struct Linked<'a> {
+    pub info: BoardInfo<'a>,
+    pub head: &'a [u16; 1024],
+    pub next: &'a [u16; 1024],
+    pub ghost chains: { Chains info.owners.now head.now next.now (info.grid.height * info.grid.width) },
+}
 
 // Puts cell i in front of the chain of its owner, if it has one. Without one the places are written with what they hold.
 fn chain_cell(owners: &[u16; 1024], i: usize, head: &mut [u16; 1024], next: &mut [u16; 1024])
-    requires { i < 1024 }
+    requires cell { i < 1024 }
     ensures { (n : ℕ) → i < n → ChainsFrom owners.now head.old next.old n (i + 1)
         → ChainsFrom owners.now head.new next.new n i }
 {
@@ -27,10 +37,9 @@ fn chain_cell(owners: &[u16; 1024], i: usize, head: &mut [u16; 1024], next: &mut
     head[slot] = grid::pick(owned, i as u16, first);
 }
 
-// Links the cells of each owner by rising index: head has the first cell of each owner and next the one behind each cell;
-// 1024 stands for none, and both come with nothing else. A walk over one group then takes as many steps as the group has cells.
+// Links the cells of each owner by rising index, as `Linked` has them. Both arrays come with 1024 everywhere.
 pub fn chain_cells(owners: &[u16; 1024], n: usize, head: &mut [u16; 1024], next: &mut [u16; 1024])
-    requires { (n ≤ 1024) × (head.old ≡ replicate 1024 1024) × (next.old ≡ replicate 1024 1024) }
+    requires fresh { (n ≤ 1024) × (head.old ≡ replicate 1024 1024) × (next.old ≡ replicate 1024 1024) }
     ensures { Chains owners.now head.new next.new n }
 {
     for i in (0..n).rev() {
@@ -51,21 +60,13 @@ pub fn in_reach(near: &[u8; 1024], f: u16, kind: u8, owner: u16) -> bool
 }
 
 // Marks the cells of the reach of the block f, and counts them.
-fn mark_reach(
-    kinds: &[u8; 1024],
-    owners: &[u16; 1024],
-    near: &[u8; 1024],
-    n: usize,
-    f: u16,
-    marks: &mut [u8; 1024],
-) -> usize
-    requires { n ≤ 1024 }
-    ensures { Reached kinds.now owners.now near.now f n marks.new result }
+fn mark_reach(info: &BoardInfo<'_>, f: u16, near: &[u8; 1024], marks: &mut [u8; 1024]) -> usize
+    ensures { Reached info.now.kinds.now info.now.owners.now near.now f (info.now.grid.height * info.now.grid.width) marks.new result }
 {
     *marks = [0; 1024];
     let mut count = 0;
-    for i in 0..n {
-        if in_reach(near, f, kinds[i], owners[i]) {
+    for i in 0..info.grid.size() {
+        if in_reach(near, f, info.kinds[i], info.owners[i]) {
             marks[i] = 1;
             count += 1;
         }
@@ -74,67 +75,47 @@ fn mark_reach(
 }
 
 // Marks the floating groups that touch cell i, if that is a neighbour of the block f.
-fn mark_floats_beside(
-    kinds: &[u8; 1024],
-    owners: &[u16; 1024],
-    h: usize,
-    w: usize,
-    f: u16,
-    i: usize,
-    near: &mut [u8; 1024],
-)
-    requires { InGrid h w i }
+fn mark_floats_beside(info: &BoardInfo<'_>, f: u16, i: usize, near: &mut [u8; 1024])
+    requires cell { i < info.now.grid.height * info.now.grid.width }
     ensures { (t : ℕ → Bool) → Marks near.old t
-        → Marks near.new (λ m. t m || near_at kinds.now owners.now f i (neighbours (sized h w) i) m) }
+        → Marks near.new (λ m. t m || near_at info.now.kinds.now info.now.owners.now f i (neighbours (sized info.now.grid.height info.now.grid.width) i) m) }
 {
-    if kinds[i] != ARROW_BLOCK_NEIGHBOR {
+    if info.kinds[i] != ARROW_BLOCK_NEIGHBOR {
         return;
     }
-    if owners[i] != f {
+    if info.owners[i] != f {
         return;
     }
-    let y = i / w;
-    let x = i % w;
+    let y = i / info.grid.width;
+    let x = i % info.grid.width;
     for k in 0..4 {
-        if let Some(j) = grid::toward(h, w, y, x, k) {
-            kinds::mark_name(kinds, FLOATING, owners, j, near);
+        if let Some(j) = info.grid.toward(y, x, k) {
+            info.mark_owner(FLOATING, j, near);
         }
     }
 }
 
 // Marks the floating groups that touch a neighbour of the block f.
-fn mark_near_floats(
-    kinds: &[u8; 1024],
-    owners: &[u16; 1024],
-    h: usize,
-    w: usize,
-    f: u16,
-    near: &mut [u8; 1024],
-)
-    requires { Limits h w }
-    ensures { Marks near.new (near_among kinds.now owners.now (sized h w) f (h * w)) }
+fn mark_near_floats(info: &BoardInfo<'_>, f: u16, near: &mut [u8; 1024])
+    ensures { Marks near.new (near_among info.now.kinds.now info.now.owners.now (sized info.now.grid.height info.now.grid.width) f (info.now.grid.height * info.now.grid.width)) }
 {
     *near = [0; 1024];
-    for i in 0..h * w {
-        mark_floats_beside(kinds, owners, h, w, f, i, near);
+    for i in 0..info.grid.size() {
+        mark_floats_beside(info, f, i, near);
     }
 }
 
 // Marks the cells of the reach of the block f, and counts them; near marks the floating groups in it.
 pub fn compute_reach(
-    kinds: &[u8; 1024],
-    owners: &[u16; 1024],
-    h: usize,
-    w: usize,
+    info: &BoardInfo<'_>,
     f: u16,
     near: &mut [u8; 1024],
     marks: &mut [u8; 1024],
 ) -> usize
-    requires { Limits h w }
     ensures { (arrows : List (List ℕ)) (cells : List ℕ)
-        → Held (view (puzzle_with (sized h w) arrows) cells) kinds.now owners.now
-        → Reach (view (puzzle_with (sized h w) arrows) cells) f near.new marks.new result }
+        → Held (view (puzzle_with (sized info.now.grid.height info.now.grid.width) arrows) cells) info.now.kinds.now info.now.owners.now
+        → Reach (view (puzzle_with (sized info.now.grid.height info.now.grid.width) arrows) cells) f near.new marks.new result }
 {
-    mark_near_floats(kinds, owners, h, w, f, near);
-    mark_reach(kinds, owners, near, h * w, f, marks)
+    mark_near_floats(info, f, near);
+    mark_reach(info, f, near, marks)
 }

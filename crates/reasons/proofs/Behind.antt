@@ -10,8 +10,7 @@ use lib.Seq.{drop_at}
 use Rattle.grid.specs.Cells.{word}
 use Rattle.board.specs.declared.Board.{Board}
 use Rattle.literals.specs.Literals.{Found}
-use Rattle.literals.specs.declared.Finding.TheVariants.{Reason}
-use Rattle.literals.specs.Buffer.{finding_by, buffer_by}
+use Rattle.literals.specs.Buffer.{Reason, finding_by, buffer_by}
 use Rattle.board.specs.Hints.{find_refusal}
 use Rattle.reasons.specs.Find.{reason_on, find_of, buffer_after}
 

@@ -15,10 +15,8 @@ pub mod Sound
 pub mod OnMachine
 pub mod Demand3
 pub mod ReasonLaws
-pub mod Room
 pub mod NonEmpty
-pub mod LentSizes
-pub mod BoardArrays
+pub mod FindLaws
 pub mod Unchanged
 pub mod Behind
 pub mod WithoutSizes

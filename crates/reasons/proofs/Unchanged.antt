@@ -11,7 +11,7 @@ use Rattle.board.specs.Form.{Counts}
 use Rattle.board.specs.Kept.{sizes_on}
 use Rattle.board.specs.declared.Board.{Board}
 use Rattle.literals.specs.Literals.{Found}
-use Rattle.literals.specs.declared.Finding.TheVariants.{Nothing, Refused}
+use Rattle.literals.specs.Buffer.{Nothing, Refused}
 use Rattle.board.specs.Hints.{with_hints, find_refusal, after_find, hinted_by}
 use Rattle.board.proofs.CountLaws.{any_Counts}
 use Rattle.reasons.specs.Find.{cells_on, leaf_on, reason_on, find_of, buffer_after}

@@ -9,9 +9,7 @@ use Rattle.board.specs.Hints.{find_refusal}
 use Rattle.board.specs.declared.Board.{Board}
 use Rattle.literals.specs.Literals.{Found}
 use Rattle.reasons.specs.Reasons.{find_reason}
-use Rattle.literals.specs.declared.Finding.{Finding}
-use Rattle.literals.specs.declared.Finding.TheVariants.{Nothing, Reason, Refused}
-use Rattle.literals.specs.Buffer.{finding_by, buffer_by}
+use Rattle.literals.specs.Buffer.{Finding, Nothing, Reason, Refused, finding_by, buffer_by}
 
 -- the first reason that applies on a board
 unfoldable pub reason_on : Board → Found

@@ -1,4 +1,3 @@
 pub mod Reasons
 pub mod Find
 pub mod Demand3
-pub mod Inside

@@ -2,11 +2,10 @@
 // who asks.
 #![tactic(auto)]
 
-ghost use Rattle.std.specs.Prelude.{◌≡◌, ◌≤◌, length, take, replicate};
+ghost use Rattle.std.specs.Prelude.{◌≡◌, ◌≤◌, length, replicate};
 ghost use Rattle.board.specs.Hints.{hinted, after_find};
 ghost use Rattle.refusal.specs.Refusals.{outcome_of};
 ghost use Rattle.reasons.specs.Find.{find_of, found_as, buffer_after};
-ghost use Rattle.reasons.specs.Inside.{lent_sizes};
 
 use board::Board;
 use refusal::Refusal;
@@ -25,25 +24,6 @@ pub fn no_literals() -> [u16; Board::LITERALS]
     [0; Board::LITERALS]
 }
 
-// How many of n cells are lent with their sizes to the search for a reason: none on a leaf without sizes, which then pays for none.
-pub fn lent_sizes(lowest: &[u16; 1024], n: usize) -> usize
-    requires { length lowest.now ≡ 1024 }
-    ensures { result ≡ lent_sizes lowest.now n }
-{
-    if form::zeros(lowest, 0) {
-        return 0;
-    }
-    n
-}
-
-// The sizes of the first n cells.
-pub fn first_sizes(sizes: &[u16], n: usize) -> &[u16]
-    requires { n ≤ length sizes.now }
-    ensures { result.now ≡ take n sizes.now }
-{
-    &sizes[..n]
-}
-
 // The board with one more hint counted for the player, and for no other.
 #[tactic(auto, unfolding(board::specs::Hints::hinted, board::specs::Hints::with_hints))]
 fn hinted(board: Board, player: u8) -> Board
@@ -58,34 +38,17 @@ fn hinted(board: Board, player: u8) -> Board
 
 // Why the board can't be finished: how many literals the first reason that applies has, written to the buffer's first places, and none where no reason
 // does. Refused: 6 a board that no list of calls could leave, 17 a player above 3, 11 a buffer shorter than 3 × H × W + 1 literals.
-#[tactic(auto, using(board::proofs::BoardForm::formed_area))]
 fn reason_against(board: &Board, player: u8, buffer: &mut [u16]) -> Result<Option<usize>, Refusal>
     ensures { (outcome_of result ≡ found_as (find_of board.now player buffer.old)) × (buffer.new ≡ buffer_after board.now player buffer.old) }
 {
-    if !board.is_formed() {
-        return Err(Refusal::Board);
-    }
+    let leaf = board.leaf()?;
     if 3 < player {
         return Err(Refusal::Player);
     }
-    let h = board.problem.height;
-    let w = board.problem.width;
-    if buffer.len() < 3 * (h * w) + 1 {
+    if buffer.len() < 3 * leaf.grid().size() + 1 {
         return Err(Refusal::OutputShort);
     }
-    let n = lent_sizes(&board.lowest, h * w);
-    let found = inconsistency::find_inconsistency(
-        board.edition,
-        first_sizes(&board.lowest, n),
-        first_sizes(&board.highest, n),
-        &board.cells,
-        &board.problem.arrows,
-        &board.problem.ends,
-        board.problem.count,
-        h,
-        w,
-        buffer,
-    );
+    let found = inconsistency::find_inconsistency(&leaf, &board.cells, buffer);
     Ok(found)
 }
 

@@ -17,9 +17,7 @@ use Rattle.fields.specs.Fields.{Outcome, ok, refused, ◌>>=◌, unless, field, 
 use Rattle.record.specs.Record.{step_cells, arrow_at}
 use Rattle.record.specs.Head.{arrows_in}
 use Rattle.fields.specs.Inside.{Agrees, step_at, opening_at}
-use Rattle.record.specs.Inside.{Answered, done, fault, take_at}
-use Rattle.record.specs.declared.Answer.{Answer}
-use Rattle.record.specs.declared.Answer.TheVariants.{Done, Refused}
+use Rattle.record.specs.Inside.{take_at}
 use Rattle.fields.specs.declared.Start.{Start}
 use Rattle.std.specs.Prelude.{Ok, Err}
 use Rattle.std.specs.declared.result.Result.{Result}
@@ -111,15 +109,6 @@ module _ (s : List ℕ) (g : Grid) where
       go (ok y) (ok x) (ok k) =
           bind_ext (unless (ltb y g.height && ltb x g.width) 3) _ _ (λ _. joined l (at + 20) k (y * g.width + x))
           ∙ sym (bind_bind (unless (ltb y g.height && ltb x g.width) 3) (λ _. ok (record { row = y; col = x; steps = k })) R)
-
--- what a call answered, by its answer
-pub Answered-done : {A : Type 0} {o : Outcome A} {P : A → Type 0} {r : Answer} → Answered o P r → r ≡ Done → (a : A) × (o ≡ ok a) × P a
-Answered-done (done {a} e p) q = (a, e, p)
-Answered-done (fault e) q = let z : ◌≡◌ {A = ℕ} 0 1 = cc in absurd (omega arith)
-
-pub Answered-fault : {A : Type 0} {o : Outcome A} {P : A → Type 0} {r : Answer} {k : ℕ} → Answered o P r → r ≡ Refused k → o ≡ refused k
-Answered-fault (done e p) q = let z : ◌≡◌ {A = ℕ} 0 1 = cc in absurd (omega arith)
-Answered-fault {A} (fault e) q = e ∙ ap {B = Outcome A} refused (cc)
 
 -- a step that is taken: each way out
 module _ (s : List ℕ) (g : Grid) (l : List ℕ) (i at : ℕ) where

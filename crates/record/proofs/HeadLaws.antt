@@ -17,13 +17,10 @@ use Rattle.fields.specs.Fields.{Outcome, ok, refused, ◌>>=◌, unless, bit, nu
 use Rattle.fields.proofs.OutcomeLaws.{bind_ok, unless-ok, ok-eq}
 use Rattle.fields.proofs.ReadLaws.{bind_value}
 use Rattle.record.specs.Record.{Puzzle, cell_codes, step_cells, arrow_at, read_record}
-use Rattle.record.specs.Problem.{arrow_cells, problem_of, reading}
+use Rattle.record.specs.Problem.{arrow_cells}
 use Rattle.record.specs.Valid.{Valid}
-use Rattle.record.specs.declared.Reading.{Reading}
-use Rattle.record.specs.declared.Answer.TheVariants.{Done, Refused}
-use Rattle.record.specs.Head.{arrows_in, read_fields, head_bits, Head, head_of, read_head, puzzle_in}
+use Rattle.record.specs.Head.{arrows_in, read_fields, head_bits, Head, head_of, read_head}
 use Rattle.record.proofs.RecordLaws.{record_Valid}
-use Rattle.record.proofs.ProblemLaws.{Outcome-refused, Outcome-done}
 use Rattle.record.proofs.ArrowLaws.{steps_length}
 use Rattle.record.proofs.FieldsLaws.{under, arrows_count, end_of, record_fields}
 use Rattle.record.proofs.BitLaws.{field_bits, fields_bits}
@@ -238,26 +235,6 @@ module _ (s : List ℕ) where
       go : (o : Outcome Head) → read_head s ≡ o → (o >>= λ h. unless (eqb h.bytes (length s)) 5 >>= λ _. ok h.puzzle) ≡ refused k → Goal
       go (refused j) q r = let r' : ◌≡◌ {A = Outcome Puzzle} (refused j) (refused k) = unfold ◌>>=◌ in r in let z : j ≡ k = cc in inl (q ∙ ap {B = Outcome Head} refused z)
       go (ok h) q r = more h q (eqb h.bytes (length s)) refl (unfold ◌>>=◌ in r)
-
--- what the answer of `read_head` says
-module _ (s : List ℕ) (r : Reading) (e : r ≡ reading (puzzle_in (read_head s))) where
-  pub head_refused : (k : ℕ) → r.answer ≡ Refused k → read_head s ≡ refused k
-  head_refused k d = go (read_head s) (Outcome-refused (puzzle_in (read_head s)) k (ap (λ (x : Reading). x.answer) (sym e) ∙ d))
-    where
-      go : (o : Outcome Head) → puzzle_in o ≡ refused k → o ≡ refused k
-      go (refused j) q = let q' : ◌≡◌ {A = Outcome Puzzle} (refused j) (refused k) = unfold puzzle_in ◌>>=◌ in q in let z : j ≡ k = cc in ap {B = Outcome Head} refused z
-      go (ok h) q = let q' : ok h.puzzle ≡ refused k = unfold puzzle_in ◌>>=◌ in q in let z : ◌≡◌ {A = ℕ} 0 1 = cc in absurd (omega arith)
-
-  pub head_done : r.answer ≡ Done → (h : Head) × (read_head s ≡ ok h) × (r.problem ≡ problem_of h.puzzle)
-  unfolding puzzle_in ◌>>=◌
-  head_done d = let w = Outcome-done (puzzle_in (read_head s)) (ap (λ (x : Reading). x.answer) (sym e) ∙ d) in go (read_head s) refl w.0 w.1 (ap (λ (x : Reading). x.problem) e ∙ w.2)
-    where
-      turn : {o : Outcome Head} → read_head s ≡ o → puzzle_in (read_head s) ≡ (o >>= λ h. ok h.puzzle)
-      turn q = rw q refl
-
-      go : (o : Outcome Head) → read_head s ≡ o → (p : Puzzle) → puzzle_in (read_head s) ≡ ok p → r.problem ≡ problem_of p → (h : Head) × (read_head s ≡ ok h) × (r.problem ≡ problem_of h.puzzle)
-      go (refused j) q p m f = let m' : refused j ≡ ok p = sym (turn q) ∙ m in let z : ◌≡◌ {A = ℕ} 0 1 = cc in absurd (omega arith)
-      go (ok h) q p m f = let m' : ok h.puzzle ≡ ok p = sym (turn q) ∙ m in let z : h.puzzle ≡ p = cc in (h, q, f ∙ ap problem_of (sym z))
 
 -- the puzzle of a head is within the limits, and its record takes at most 2,819 bytes
 module _ (s : List ℕ) {h : Head} (e : read_head s ≡ ok h) where

@@ -13,7 +13,6 @@ pub mod FieldsLaws
 pub mod ArrowLaws
 pub mod ArrowsLaws
 pub mod WholeLaws
-pub mod ReadingLaws
 pub mod BitLaws
 pub mod Accepted
 pub mod HeadLaws

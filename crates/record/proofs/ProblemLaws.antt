@@ -1,8 +1,8 @@
--- The arrays keep the whole puzzle: what they keep is read back, and valid puzzles that give one problem are one. What an answer of `read` says.
+-- The arrays keep the whole puzzle: what they keep is read back, and valid puzzles that give one problem are one. What is read says.
 -- Assumes nothing.
 use Prim.Native.Nat.{ℕ, suc, ◌+◌, ◌-◌}
 use native.Mathlib.Omega.{arith}
-use mathlib.Core.Path.{◌≡◌, refl, sym, ap, ◌∙◌}
+use mathlib.Core.Path.{◌≡◌, refl, ap, ◌∙◌}
 use mathlib.Core.List.{List, [], ◌∷◌, ◌++◌, append_assoc}
 use lib.ListN.{length, take, drop, replicate, length-append}
 use lib.Seq.{take-append_seam, drop_at}
@@ -10,12 +10,10 @@ use Rattle.grid.specs.Lists.{flat_map, array_of}
 use Rattle.grid.specs.Grid.{size}
 use Rattle.grid.proofs.ArrayLaws.{array_take}
 use Rattle.fields.specs.Fields.{Outcome, ok, refused, ◌>>=◌}
-use Rattle.record.specs.Record.{Puzzle, read_record}
+use Rattle.record.specs.Record.{Puzzle}
 use Rattle.record.specs.Valid.{Valid}
-use Rattle.record.specs.Problem.{ends_from, arrow_cells, problem_of, grid_of, arrows_from, puzzle_of, reading, read_of, as_problem}
+use Rattle.record.specs.Problem.{ends_from, arrow_cells, problem_of, grid_of, arrows_from, puzzle_of, as_problem}
 use Rattle.record.specs.declared.Problem.{Problem}
-use Rattle.record.specs.declared.Reading.{Reading}
-use Rattle.record.specs.declared.Answer.TheVariants.{Done, Refused}
 
 -- an end for each arrow
 pub length_ends : (at : ℕ) (as' : List (List ℕ)) → length (ends_from at as') ≡ length as'
@@ -63,26 +61,3 @@ pub problem_refused : (o : Outcome Puzzle) {k : ℕ} → refused k ≡ as_proble
 unfolding as_problem ◌>>=◌
 problem_refused (refused j) {k} e = let z : j ≡ k = cc in rw z refl
 problem_refused (ok p) e = let z : ◌≡◌ {A = ℕ} 0 1 = cc in absurd (omega arith)
-
--- what was read is refused, or it is a puzzle
-pub Outcome-refused : (o : Outcome Puzzle) (k : ℕ) → (reading o).answer ≡ Refused k → o ≡ refused k
-unfolding reading
-Outcome-refused (refused j) k e = let z : j ≡ k = cc in ap refused z
-Outcome-refused (ok p) k e = let z : ◌≡◌ {A = ℕ} 0 1 = cc in absurd (omega arith)
-
-pub Outcome-done : (o : Outcome Puzzle) → (reading o).answer ≡ Done → (p : Puzzle) × (o ≡ ok p) × ((reading o).problem ≡ problem_of p)
-unfolding reading
-Outcome-done (refused j) e = let z : ◌≡◌ {A = ℕ} 0 1 = cc in absurd (omega arith)
-Outcome-done (ok p) e = (p, refl, refl)
-
--- so it is with the record of which `read` answers
-module _ (s : List ℕ) (r : Reading) (e : r ≡ read_of s) where
-  pub read_refused : (k : ℕ) → r.answer ≡ Refused k → read_record s ≡ refused k
-  unfolding read_of
-  read_refused k d = Outcome-refused (read_record s) k (ap (λ (x : Reading). x.answer) (sym e) ∙ d)
-
-  pub read_done : r.answer ≡ Done → (p : Puzzle) × (read_record s ≡ ok p) × (r.problem ≡ problem_of p)
-  unfolding read_of
-  read_done d =
-      let w = Outcome-done (read_record s) (ap (λ (x : Reading). x.answer) (sym e) ∙ d) in
-      (w.0, w.1, ap (λ (x : Reading). x.problem) e ∙ w.2)

@@ -5,7 +5,7 @@ use mathlib.Core.List.{List, [], Memᴰ}
 use Rattle.grid.specs.Lists.{member, array_of}
 use Rattle.grid.specs.Marks.{Marks}
 use Rattle.grid.specs.Grid.{Grid}
-use Rattle.fields.specs.Fields.{Outcome, ok, refused, ◌>>=◌, unless, filler, rest_zero}
+use Rattle.fields.specs.Fields.{Outcome, ok, ◌>>=◌, unless, filler, rest_zero}
 use Rattle.fields.specs.Inside.{step_at}
 use Rattle.fields.specs.declared.Place.{Place}
 use Rattle.record.specs.Record.{Puzzle}
@@ -14,13 +14,6 @@ use Rattle.record.specs.Head.{arrows_in, read_fields, head_bits}
 use Rattle.record.specs.Valid.{Fresh}
 use Rattle.record.specs.declared.Extent.{Extent}
 use Rattle.record.specs.declared.Extent.TheVariants.{Whole, Head}
-use Rattle.record.specs.declared.Answer.{Answer}
-use Rattle.record.specs.declared.Answer.TheVariants.{Done, Refused}
-
--- what a call that can be refused answers: it is done and P holds of the value, or the refusal's number
-pub data Answered {A : Type 0} (o : Outcome A) (P : A → Type 0) : Answer → Type 0 where
-  done : {a : A} → o ≡ ok a → P a → Answered o P Done
-  fault : {k : ℕ} → o ≡ refused k → Answered o P (Refused k)
 
 -- the arrays hold the arrow cells l: one after another, and each marked
 pub record Kept (l line marks : List ℕ) : Type 0 where

@@ -1,14 +1,16 @@
--- A puzzle as the code keeps it, and what `read` answers.
+-- A puzzle as the code keeps it, and an answer by its number.
 -- Assumes nothing.
 use Rattle.std.specs.Prelude.{ℕ, ◌+◌, ◌-◌, List, [], ◌∷◌, length, take, drop}
 use Rattle.grid.specs.Lists.{last, flat_map, array_of}
 use Rattle.grid.specs.Grid.{Grid, size}
-use Rattle.fields.specs.Fields.{Outcome, ok, refused, ◌>>=◌}
-use Rattle.record.specs.Record.{Puzzle, read_record}
+use Rattle.fields.specs.Fields.{Outcome, ok, ◌>>=◌}
+use Rattle.record.specs.Record.{Puzzle}
 use Rattle.record.specs.declared.Problem.{Problem}
-use Rattle.record.specs.declared.Reading.{Reading}
-use Rattle.record.specs.declared.Answer.{Answer}
-use Rattle.record.specs.declared.Answer.TheVariants.{Done, Refused}
+
+-- the answer to a call that can be refused, with the number of the README's table
+pub data Answer : Type 0 where
+  Done : Answer
+  Refused : ℕ → Answer
 
 -- the number of an answer: 0 where the call is done, else that of the refusal
 unfoldable pub number_of : Answer → ℕ
@@ -63,12 +65,3 @@ as_problem o = o >>= λ p. ok (problem_of p)
 -- the problem of no cells that stands beside a refusal
 unfoldable pub blank : Problem
 blank = record { height = 0; width = 0; cells = array_of 0 []; arrows = array_of 0 []; ends = array_of 0 []; count = 0 }
-
--- the answer to what was read, with the problem
-unfoldable pub reading : Outcome Puzzle → Reading
-reading (refused k) = record { answer = Refused k; problem = blank }
-reading (ok p) = record { answer = Done; problem = problem_of p }
-
--- what `read` answers of the bytes s
-unfoldable pub read_of : List ℕ → Reading
-read_of s = reading (read_record s)

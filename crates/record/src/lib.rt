@@ -8,13 +8,21 @@ ghost use Rattle.refusal.specs.Refusals.{Outcome, refused, outcome_of};
 ghost use Rattle.fields.specs.Fields.{unless, bytes_for};
 ghost use Rattle.fields.specs.Inside.{Agrees};
 ghost use Rattle.record.specs.Record.{Puzzle, cell_codes, step_cells, arrow_at, read_record};
-ghost use Rattle.record.specs.Problem.{arrow_cells, ends_from, reading, read_of, as_problem, total_of};
+ghost use Rattle.record.specs.Problem.{arrow_cells, ends_from, as_problem, total_of};
 ghost use Rattle.record.specs.Head.{read_head, puzzle_in};
 ghost use Rattle.record.specs.Inside.{Kept, take_at, AtCell, ended, arrows_ended, read_as};
 
 use fields::Place;
+use grid::Grid;
 use refusal::Refusal;
 use std::marker::Model;
+
+// The codes of a cell: plain, black, and with a given square.
+pub const PLAIN: u8 = 0;
+
+pub const BLACK: u8 = 1;
+
+pub const GIVEN: u8 = 2;
 
 // What an accepted record says. `cells` has a code for each cell (0 plain, 1 black, 2 given square), `arrows` the cells of the
 // arrows, one arrow after another, `ends` for each of the `count` arrows the place in `arrows` where it ends. 0 stands behind each.
@@ -104,20 +112,13 @@ impl Line {
     }
 
     // Takes the step at `at`, from a cell that stands last in the line.
-    fn take_step(
-        &mut self,
-        s: &[u8],
-        height: usize,
-        width: usize,
-        from: Place,
-        at: usize,
-    ) -> Result<Place, Refusal>
-        requires { (from.row < height) × (from.col < width) × (height ≤ 32) × (width ≤ 32) × (at ≤ 65536) }
-        ensures { Agrees (take_at s.now (sized height width) self.old (from.row * width + from.col) at)
-            (λ j place. AtCell height width j place × (self.new ≡ self.old ++ (j ∷ []))) result }
+    fn take_step(&mut self, s: &[u8], grid: Grid, from: Place, at: usize) -> Result<Place, Refusal>
+        requires { (from.row < grid.height) × (from.col < grid.width) × (at ≤ 65536) }
+        ensures { Agrees (take_at s.now (sized grid.height grid.width) self.old (from.row * grid.width + from.col) at)
+            (λ j place. AtCell grid.height grid.width j place × (self.new ≡ self.old ++ (j ∷ []))) result }
     {
-        let place = fields::read_step(s, height, width, from.row, from.col, at)?;
-        self.enter(place.row * width + place.col)?;
+        let place = fields::read_step(s, grid.height, grid.width, from.row, from.col, at)?;
+        self.enter(place.row * grid.width + place.col)?;
         Ok(place)
     }
 
@@ -125,58 +126,50 @@ impl Line {
     fn read_steps(
         &mut self,
         s: &[u8],
-        height: usize,
-        width: usize,
+        grid: Grid,
         from: Place,
         at: usize,
         steps: usize,
     ) -> Result<(), Refusal>
-        requires { (from.row < height) × (from.col < width) × (height ≤ 32) × (width ≤ 32) × (at ≤ 60000) × (steps ≤ 1024) }
-        ensures { Agrees (step_cells s.now (sized height width) self.old (from.row * width + from.col) at steps) (λ js _. self.new ≡ self.old ++ js) result }
+        requires { (from.row < grid.height) × (from.col < grid.width) × (at ≤ 60000) × (steps ≤ 1024) }
+        ensures { Agrees (step_cells s.now (sized grid.height grid.width) self.old (from.row * grid.width + from.col) at steps) (λ js _. self.new ≡ self.old ++ js) result }
     {
         let mut place = from;
         for i in 0..steps {
-            place = self.take_step(s, height, width, place, at + 2 * i)?;
+            place = self.take_step(s, grid, place, at + 2 * i)?;
         }
         Ok(())
     }
 
     // Reads the arrow at `at`.
-    fn read_arrow(
-        &mut self,
-        s: &[u8],
-        height: usize,
-        width: usize,
-        at: usize,
-    ) -> Result<(), Refusal>
-        requires { (height ≤ 32) × (width ≤ 32) × (at ≤ 50000) }
-        ensures { Agrees (arrow_at s.now (sized height width) self.old at) (λ a _. self.new ≡ self.old ++ a) result }
+    fn read_arrow(&mut self, s: &[u8], grid: Grid, at: usize) -> Result<(), Refusal>
+        requires { at ≤ 50000 }
+        ensures { Agrees (arrow_at s.now (sized grid.height grid.width) self.old at) (λ a _. self.new ≡ self.old ++ a) result }
     {
-        let start = fields::read_start(s, height, width, at)?;
+        let start = fields::read_start(s, grid.height, grid.width, at)?;
         let from = Place {
             row: start.row,
             col: start.col,
         };
-        self.enter(from.row * width + from.col)?;
-        self.read_steps(s, height, width, from, at + 20, start.steps)
+        self.enter(from.row * grid.width + from.col)?;
+        self.read_steps(s, grid, from, at + 20, start.steps)
     }
 
-    // Reads the arrows, from `at` on, and the filler behind them; the line and the ends come empty.
+    // Reads the arrows, which stand behind the codes of the cells, and the filler behind them; the line and the ends come empty.
     fn read_arrows(
         &mut self,
         s: &[u8],
-        height: usize,
-        width: usize,
-        at: usize,
+        grid: Grid,
         arrows: usize,
         extent: Extent,
         ends: &mut [u16; 1024],
     ) -> Result<(), Refusal>
-        requires { (height ≤ 32) × (width ≤ 32) × (at ≤ 10000) × (arrows ≤ 2048) × (self.old ≡ []) × (ends.old ≡ array_of 0 []) }
-        ensures { Agrees (arrows_ended extent s.now (sized height width) at arrows) (λ l _. (self.new ≡ arrow_cells l) × (ends.new ≡ array_of 0 (ends_from 0 l))) result }
+        requires { (arrows ≤ 2048) × (self.old ≡ []) × (ends.old ≡ array_of 0 []) }
+        ensures { Agrees (arrows_ended extent s.now (sized grid.height grid.width) (21 + 2 * (grid.height * grid.width)) arrows) (λ l _. (self.new ≡ arrow_cells l) × (ends.new ≡ array_of 0 (ends_from 0 l))) result }
     {
+        let at = 21 + 2 * grid.size();
         for i in 0..arrows {
-            self.read_arrow(s, height, width, at + 18 * i + 2 * self.len())?;
+            self.read_arrow(s, grid, at + 18 * i + 2 * self.len())?;
             ends[i] = self.len() as u16;
         }
         if extent.may_end(s, at + 18 * arrows + 2 * self.len()) {
@@ -219,19 +212,12 @@ impl Problem {
         let height = fields::read_field(bytes, 0, 5)? + 1;
         let width = fields::read_field(bytes, 5, 5)? + 1;
         let count = fields::read_field(bytes, 10, 11)?;
+        let grid = Grid { height, width };
         let mut cells = [0; 1024];
-        read_cells(bytes, height * width, &mut cells)?;
+        read_cells(bytes, grid.size(), &mut cells)?;
         let mut line = Line::new();
         let mut ends = [0; 1024];
-        line.read_arrows(
-            bytes,
-            height,
-            width,
-            21 + 2 * (height * width),
-            count,
-            extent,
-            &mut ends,
-        )?;
+        line.read_arrows(bytes, grid, count, extent, &mut ends)?;
         Ok(Problem {
             height,
             width,
@@ -247,7 +233,10 @@ impl Problem {
         requires { self.now.count ≤ 1024 }
         ensures { result ≡ total_of self.now }
     {
-        arrow_total(&self.ends, self.count)
+        if self.count == 0 {
+            return 0;
+        }
+        usize::from(self.ends[self.count - 1])
     }
 
     // How many bytes the record of the problem has: where it ends in a file that it is the head of.
@@ -255,99 +244,7 @@ impl Problem {
         requires { (self.now.height ≤ 32) × (self.now.width ≤ 32) × (self.now.count ≤ 1024) × (total_of self.now ≤ 1024) }
         ensures { result ≡ bytes_for (21 + 2 * (self.now.height * self.now.width) + 18 * self.now.count + 2 * total_of self.now) }
     {
-        record_length(self.height, self.width, &self.ends, self.count)
+        let bits = 21 + 2 * (self.height * self.width) + 18 * self.count + 2 * self.arrow_total();
+        (bits + 7) / 8
     }
-}
-
-// The answer to a call that can be refused, with the number of the README's table.
-#[derive(Clone, Copy)]
-pub enum Answer {
-    Done,
-    Refused(u8),
-}
-
-// The answer of `read` and of `read_head`, with the problem where it is Done, and a blank one of no cells where it is not.
-#[derive(Clone, Copy)]
-pub struct Reading {
-    pub answer: Answer,
-    pub problem: Problem,
-}
-
-// 1,024 zeros for codes or marks.
-pub fn no_codes() -> [u8; 1024]
-    ensures { result ≡ array_of 0 [] }
-{
-    [0; 1024]
-}
-
-// 1,024 zeros for cells or places.
-pub fn no_cells() -> [u16; 1024]
-    ensures { result ≡ array_of 0 [] }
-{
-    [0; 1024]
-}
-
-// The answer to what is refused, a record or what is opened with it: no problem.
-pub fn refusal(k: u8) -> Reading
-    ensures { result ≡ reading (refused k) }
-{
-    Reading {
-        answer: Answer::Refused(k),
-        problem: Problem {
-            height: 0,
-            width: 0,
-            cells: no_codes(),
-            arrows: no_cells(),
-            ends: no_cells(),
-            count: 0,
-        },
-    }
-}
-
-// What was read, with the problem.
-fn answer_with(read: Result<Problem, Refusal>) -> Reading
-    ensures { (o : Outcome Puzzle) → outcome_of read ≡ as_problem o → result ≡ reading o }
-{
-    match read {
-        Ok(problem) => Reading {
-            answer: Answer::Done,
-            problem,
-        },
-        Err(refused) => refusal(refused.number()),
-    }
-}
-
-// The problem of a record, or the refusal of its first fault.
-pub fn read(s: &[u8]) -> Reading
-    ensures { result ≡ read_of s.now }
-{
-    answer_with(Problem::read(s))
-}
-
-// The problem of the record at the head of a file, or the refusal of its first fault; here 5 counts filler of the record only.
-pub fn read_head(s: &[u8]) -> Reading
-    ensures { result ≡ reading (puzzle_in (read_head s.now)) }
-{
-    answer_with(Problem::read_head(s))
-}
-
-// How many cells the arrows have together: the end of the last one.
-pub fn arrow_total(ends: &[u16; 1024], number: usize) -> usize
-    requires { (number ≤ 1024) × (number ≤ length ends.now) }
-    ensures { result ≡ last 0 (take number ends.now) }
-{
-    if number == 0 {
-        return 0;
-    }
-    grid::wide(ends[number - 1])
-}
-
-// How many bytes the record of a problem has: where it ends in a file that it is the head of.
-pub fn record_length(height: usize, width: usize, ends: &[u16; 1024], number: usize) -> usize
-    requires { (height ≤ 32) × (width ≤ 32) × (number ≤ 1024) × (number ≤ length ends.now) × (last 0 (take number ends.now) ≤ 1024) }
-    ensures { result ≡ bytes_for (21 + 2 * (height * width) + 18 * number + 2 * last 0 (take number ends.now)) }
-{
-    let total = arrow_total(ends, number);
-    let bits = 21 + 2 * (height * width) + 18 * number + 2 * total;
-    (bits + 7) / 8
 }

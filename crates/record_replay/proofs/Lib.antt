@@ -1,1 +1,2 @@
 mod ProblemLaws
+pub mod ReadingLaws

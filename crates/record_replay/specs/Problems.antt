@@ -1,8 +1,9 @@
 -- What a list says of a record: its refusal, and its problem.
 -- Assumes nothing.
-use Rattle.std.specs.Prelude.{ℕ, zero, suc, ◌+◌, ◌*◌, ◌≤◌, ◌<◌, false, ◌≡◌, List, [], ◌∷◌, length, take, drop, get_or, eqb, Option, MatchOption}
+use Rattle.std.specs.Prelude.{ℕ, zero, suc, ◌+◌, ◌*◌, ◌≤◌, ◌<◌, false, ◌≡◌, List, length, take, drop, get_or, eqb, Option, MatchOption}
 use Rattle.std.specs.Bool.{MatchBool}
-use Rattle.record.specs.Problem.{number_of, read_of}
+use Rattle.record.specs.Record.{Puzzle, ok, refused, read_record}
+use Rattle.record.specs.Problem.{problem_of}
 use Rattle.record.specs.declared.Problem.{Problem}
 use Rattle.replay.specs.Comparisons.{Compared}
 use Rattle.replay.specs.declared.Run.{Run}
@@ -43,19 +44,25 @@ pub record ProblemSo (list : List ℕ) (at : ℕ) (p : Problem) : Type 0 where
   pub cells_so : differs p.cells (byte_in list (at + 2) (area_at list at) 0 0) 0 ≡ false
   pub arrows_so : ArrowsSo list (at + 4 + area_at list at) (count_at list at) p.arrows p.ends 0 0
 
--- what is read of a record has the refusal, 0 for none, and the problem that a list has at a place
-abbrev pub RecordSo : List ℕ → ℕ → List ℕ → ℕ → Type 0
-RecordSo s refusal list at = (number_of (read_of s).answer ≡ refusal) × ProblemSo list at (read_of s).problem
+-- a record is refused with this number
+abbrev pub RefusedSo : List ℕ → ℕ → Type 0
+RefusedSo s refusal = read_record s ≡ refused refusal
+
+-- a record is accepted, and its problem is the one that a list has at a place
+pub record RecordSo (s list : List ℕ) (at : ℕ) : Type 0 where
+  pub puzzle : Puzzle
+  pub accepted : read_record s ≡ ok puzzle
+  pub problem_so : ProblemSo list at (problem_of puzzle)
 
 -- where the refusal stands of the entry at a place: behind the record, which its own length is before
 abbrev pub refusal_at : List ℕ → ℕ → ℕ
 refusal_at list at = at + 2 + number_at list at
 
--- what the entry at a place says: that what is read of its record has its refusal and no problem, or, where that is 0, its problem
+-- what the entry at a place says: that its record has its refusal, or, where that is 0, its problem
 abbrev pub SaidSo : List ℕ → ℕ → ℕ → Type 0
 SaidSo list at refusal =
-    MatchBool (eqb refusal 0) (RecordSo (take (number_at list at) (drop (at + 2) list)) 0 list (refusal_at list at + 1))
-    (RecordSo (take (number_at list at) (drop (at + 2) list)) refusal (0 ∷ 0 ∷ 0 ∷ 0 ∷ []) 0)
+    MatchBool (eqb refusal 0) (RecordSo (take (number_at list at) (drop (at + 2) list)) list (refusal_at list at + 1))
+    (RefusedSo (take (number_at list at) (drop (at + 2) list)) refusal)
 
 -- what the entry at a place counts
 abbrev pub EntrySo : List ℕ → ℕ → Option Run → Type 0

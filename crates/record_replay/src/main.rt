@@ -1,24 +1,17 @@
-// Replays a list of records from standard input: each is read, and what `record::read` answers is compared with what the list says.
+// Replays a list of records from standard input: each is read, and what `Problem::read` answers is compared with what the list says.
 //
 // A list has a head of lines that begin with `#`, an empty line, and entries to its end: u16 length, that many bytes of record, u8 refusal;
 // where it is 0 also u8 height, u8 width, a code for each cell, u16 number of arrows, and for each arrow u16 length and u16 cells.
 // A u16 has its high byte first.
 #![tactic(auto)]
 
-ghost use Rattle.std.specs.Prelude.{◌≡◌, ◌+◌, ◌≤◌, ◌<◌, length, replicate};
+ghost use Rattle.std.specs.Prelude.{◌≡◌, ◌+◌, ◌≤◌, ◌<◌, length};
 ghost use Rattle.replay.specs.Comparisons.{DiffersUnless};
-ghost use Rattle.record_replay.specs.Problems.{ZerosFrom, ArrowsSo, area_at, ProblemSo, RecordSo, EntrySo};
+ghost use Rattle.record_replay.specs.Problems.{ZerosFrom, ArrowsSo, area_at, ProblemSo, RefusedSo, RecordSo, EntrySo};
 
 use record::Problem;
 use replay::{Cursor, Entries, Run};
 use std::io;
-
-// A record that is far too long.
-fn zeros() -> [u8; 131072]
-    ensures { result ≡ replicate 131072 0 }
-{
-    [0; 131072]
-}
 
 // The product of the two bytes from `at` on: the number of cells of a grid.
 fn area_at(list: &[u8], at: usize) -> usize
@@ -112,18 +105,28 @@ fn problem_differs(list: &[u8], at: usize, p: Problem) -> bool
     arrows_differ(list, at + 4 + n, count, &line, &ends)
 }
 
-// Whether what is read of a record differs from this refusal or from the problem that the list says from `at` on.
-fn record_differs(record: &[u8], refusal: usize, list: &[u8], at: usize) -> bool
-    requires { at + 2 ≤ length list.now }
-    ensures { DiffersUnless result (RecordSo «record».now refusal list.now at) }
+// Whether a record is not refused with this number.
+fn refusal_differs(record: &[u8], refusal: usize) -> bool
+    ensures { DiffersUnless result (RefusedSo «record».now refusal) }
 {
-    let r = record::read(record);
-    let answer = r.answer;
-    let problem = r.problem;
-    replay::number(answer) != refusal || problem_differs(list, at, problem)
+    match Problem::read(record) {
+        Ok(_) => true,
+        Err(refused) => usize::from(refused.number()) != refusal,
+    }
 }
 
-// Records, each with what is read of it. A refused one has the blank problem: no cells and no arrows.
+// Whether a record is refused, or its problem differs from the one that the list says from `at` on.
+fn record_differs(record: &[u8], list: &[u8], at: usize) -> bool
+    requires { at + 2 ≤ length list.now }
+    ensures { DiffersUnless result (RecordSo «record».now list.now at) }
+{
+    match Problem::read(record) {
+        Ok(problem) => problem_differs(list, at, problem),
+        Err(_) => true,
+    }
+}
+
+// Records, each with what is read of it.
 #[derive(Drop)]
 struct Records;
 
@@ -144,21 +147,21 @@ impl Entries for Records {
         let refusal = usize::from(cursor.byte()?);
         let at = cursor.at;
         if refusal != 0 {
-            let differs = record_differs(bytes, refusal, b"\x00\x00\x00\x00", 0);
-            return Some(Run::of(differs, at));
+            return Some(Run::of(refusal_differs(bytes, refusal), at));
         }
         cursor.take(2)?;
-        let differs = record_differs(bytes, 0, list, at);
+        let differs = record_differs(bytes, list, at);
         Some(Run::of(differs, problem_end(list, at)))
     }
 }
 
 fn main(rt: HostRuntime) -> io::Result<()> {
     replay::replay::<Records, _, _>(rt.reader(), &mut io::writer(&rt), " records, ", "")?;
-    let long = zeros();
-    let r = record::read(&long);
-    let answer = r.answer;
-    let refusal = replay::number(answer);
+    // A record that is far too long.
+    let refusal = match Problem::read(&[0; 131072]) {
+        Ok(_) => 0,
+        Err(refused) => refused.number(),
+    };
     println!(rt; "131072 zeros: refused {refusal}")?;
     Ok(())
 }

@@ -6,12 +6,10 @@
 
 ghost use Rattle.std.specs.Prelude.{◌+◌, ◌≤◌, ◌<◌, ◌≡◌, ℕ, List, Option, Some, cond, length, get_or, replicate, take, drop, OnOk, IfOk, IfSome, IfNone, ⊤};
 ghost use Rattle.std.specs.Io.KnownBytes.{Appends};
-ghost use Rattle.record.specs.Problem.{number_of};
 ghost use Rattle.replay.specs.Tallies.{sum_of, broken_run, run_of, then_of, also_of, empty_tally, tally_of, with_of, Through};
 ghost use Rattle.replay.specs.Lists.{area_of, number_at, data_start, byte_in, number_in, differs};
 ghost use Rattle.replay.specs.Printed.{tally_text};
 
-use record::Answer;
 use std::io::{Read, Write};
 use std::{fmt, io};
 
@@ -61,16 +59,6 @@ pub fn fresh_buffer() -> [u16; 4096]
     ensures { result ≡ replicate 4096 65535 }
 {
     [65535; 4096]
-}
-
-// The number of an answer: 0 where it is no refusal.
-pub fn number(answer: Answer) -> usize
-    ensures { result ≡ number_of answer }
-{
-    match answer {
-        Answer::Done => 0,
-        Answer::Refused(k) => usize::from(k),
-    }
 }
 
 // H × W, and 0 where a size is above 32.
@@ -372,6 +360,7 @@ fn go_through<E: Entries>(entries: &E, list: &[u8]) -> Tally
     ensures { Through (E.counts entries.now list.now) (length list.now) (tally_of list.now E.BEFORE) result }
 {
     let mut tally = Tally::of(list, E::BEFORE);
+    // A `while`: where the next entry stands, each entry tells.
     while tally.at < list.len() {
         let run = entries.run(list, tally.at).unwrap_or(Run::broken());
         tally = tally.with(run, list.len());

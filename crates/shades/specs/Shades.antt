@@ -5,13 +5,12 @@ use mathlib.Core.List.{List, [], ◌∷◌, ◌++◌, Memᴰ}
 use Rattle.grid.specs.Lists.{Rising, flat_map}
 use Rattle.grid.specs.Grid.{Grid, cells_of}
 use Rattle.grid.specs.Cells.{square}
-use Rattle.record.specs.Problem.{grid_of}
-use Rattle.record.specs.declared.Answer.TheVariants.{Done, Refused}
+use Rattle.record.specs.Problem.{grid_of, Answer, Done, Refused}
+use Rattle.refusal.specs.Refusals.{Outcome, ok, refused}
 use Rattle.board.specs.Form.{well_formed}
 use Rattle.board.specs.Kept.{cells_on}
 use Rattle.board.specs.declared.Board.{Board}
 use Rattle.groups.specs.Groups.{Joined, labels, group}
-use Rattle.shades.specs.declared.Shaded.{Shaded}
 
 -- ---- the shade of a cell
 
@@ -50,6 +49,19 @@ shades_on g cells = flat_map (shade_of g cells) (cells_of g)
 -- numbers kept in an array of 2,048 places: 0 stands behind them
 unfoldable pub in_places : List ℕ → List ℕ
 in_places l = l ++ drop (length l) (replicate 2048 0)
+
+-- an answer with shades: numbers in an array of 2,048 places, which are all 0 where the answer is a refusal
+pub record Shaded : Type 0 where
+  pub answer : Answer
+  pub shades : List ℕ
+
+-- the shades where the answer is Done, else the refusal
+abbrev pub told : Answer → List ℕ → Outcome (List ℕ)
+told Done shades = ok shades
+told (Refused k) shades = refused k
+
+abbrev pub shaded_as : Shaded → Outcome (List ℕ)
+shaded_as s = told s.answer s.shades
 
 -- what `shades` answers: 6 for a board that no list of calls could leave
 unfoldable pub shades_of : Board → Shaded

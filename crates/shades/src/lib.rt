@@ -1,36 +1,23 @@
 // Shades: for each cell the first cell of its block and the block's count of squares, by which the app numbers and tints blocks.
 #![tactic(auto)]
 
-ghost use Rattle.std.specs.Prelude.{◌≡◌, ◌++◌, ◌*◌, ◌≤◌, length, take, drop, replicate};
+ghost use Rattle.std.specs.Prelude.{◌≡◌, ◌++◌, ◌*◌, ◌≤◌, take, drop};
 ghost use Rattle.grid.specs.Side.{sized};
-ghost use Rattle.shades.specs.Shades.{shades_on, shades_of};
+ghost use Rattle.refusal.specs.Refusals.{outcome_of};
+ghost use Rattle.shades.specs.Shades.{shades_on, shades_of, shaded_as};
 ghost use Rattle.shades.specs.Inside.{pairs_by};
 
 use board::Board;
-use groups::Members;
-use record::Answer;
+use grid::Grid;
+use groups::{Groups, Members};
+use refusal::Refusal;
 
 // The number that stands for no group.
 const NO_GROUP: u16 = 1024;
 
-// The answer of `shades`. Two numbers for each cell of the grid in row order, the first cell of its block and the block's count of
-// squares, with 0 behind them; all are 0 where the answer is a refusal.
-#[derive(Clone, Copy)]
-pub struct Shaded {
-    pub answer: Answer,
-    pub shades: [u16; 2048],
-}
-
-// Room for the shades of every board, for a caller that has none.
-pub fn no_shades() -> [u16; 2048]
-    ensures { result ≡ replicate 2048 0 }
-{
-    [0u16; 2048]
-}
-
 // Writes the two numbers of each cell below n, from the name of its block and the counts of squares by name.
 fn write_pairs(groups: &[u16; 1024], squares: &[u16; 1024], n: usize, shades: &mut [u16; 2048])
-    requires { (n ≤ 1024) × (length shades.old ≡ 2048) }
+    requires { n ≤ 1024 }
     ensures { shades.new ≡ pairs_by groups.now squares.now n ++ drop (2 * n) shades.old }
 {
     for i in 0..n {
@@ -43,49 +30,29 @@ fn write_pairs(groups: &[u16; 1024], squares: &[u16; 1024], n: usize, shades: &m
     }
 }
 
-// The shades of a board of h by w cells in the first places, from the states of its cells. Arrows don't matter to it.
-pub fn shade_cells(cells: &[u8; 1024], h: usize, w: usize, shades: &mut [u16; 2048])
-    requires { (h ≤ 32) × (w ≤ 32) × (length shades.old ≡ 2048) }
-    ensures { shades.new ≡ shades_on (sized h w) (take (h * w) cells.now) ++ drop (2 * (h * w)) shades.old }
+// The shades of a board on a grid in the first places, from the states of its cells. Arrows don't matter to it.
+pub fn shade_cells(grid: Grid, cells: &[u8; 1024], shades: &mut [u16; 2048])
+    ensures { shades.new ≡ shades_on (sized grid.height grid.width) (take (grid.height * grid.width) cells.now) ++ drop (2 * (grid.height * grid.width)) shades.old }
 {
     let onarrow = [0u8; 1024];
-    let mut groups = [0u16; 1024];
-    let mut firsts = [0u16; 1024];
-    let mut squares = [0u16; 1024];
-    let mut arrowed = [0u16; 1024];
-    groups::compute_connected_components(
-        cells,
-        &onarrow,
-        Members::Squares,
-        h,
-        w,
-        &mut groups,
-        &mut firsts,
-        &mut squares,
-        &mut arrowed,
-    );
-    write_pairs(&groups, &squares, h * w, shades);
+    let mut blocks = Groups::new();
+    blocks.compute_connected_components(grid, cells, &onarrow, Members::Squares);
+    write_pairs(&blocks.labels, &blocks.squares, grid.size(), shades);
 }
 
-// The shades of a board. Refused: 6 a board that no list of calls could leave.
-pub fn shades(board: Board) -> Shaded
-    ensures { result ≡ shades_of board }
+// The shades of a board: two numbers for each cell of the grid in row order, the first cell of its block and the block's count of squares, with 0 behind
+// them. Refused: 6 a board that no list of calls could leave.
+pub fn shades(board: Board) -> Result<[u16; 2048], Refusal>
+    ensures { outcome_of result ≡ shaded_as (shades_of board) }
 {
-    let mut shades = no_shades();
-    if !board.well_formed() {
-        return Shaded {
-            answer: Answer::Refused(6),
-            shades,
-        };
+    if !board.is_formed() {
+        return Err(Refusal::Board);
     }
-    shade_cells(
-        &board.cells,
-        board.problem.height,
-        board.problem.width,
-        &mut shades,
-    );
-    Shaded {
-        answer: Answer::Done,
-        shades,
-    }
+    let grid = Grid {
+        height: board.problem.height,
+        width: board.problem.width,
+    };
+    let mut shades = [0; 2048];
+    shade_cells(grid, &board.cells, &mut shades);
+    Ok(shades)
 }

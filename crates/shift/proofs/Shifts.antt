@@ -84,12 +84,10 @@ module _ {w : ℕ} {b rows columns : List ℕ} {count : ℕ} (q : BlockPlaces w 
   column_at = sym (get_or-take count columns k 0 h) ∙ rw q.columns_are (map_at (λ j. j % w) b k (omega (arith, q.many)))
 
 -- they are rows and columns of the grid
-pub block_places : (h w : ℕ) {b rows columns : List ℕ} {count : ℕ} → h ≤ 32 → w ≤ 32 → count ≤ 1024 → ((i : ℕ) → Memᴰ i b → i < h * w)
+pub block_places : (h w : ℕ) {b rows columns : List ℕ} {count : ℕ} → count ≤ 1024 → ((i : ℕ) → Memᴰ i b → i < h * w)
     → BlockPlaces w b rows columns count → Places h w rows columns count
 unfolding size
-block_places h w {b} {count = count} p s few inside q = record {
-  tall = p;
-  wide = s;
+block_places h w {b} {count = count} few inside q = record {
   few = few;
   row = λ k l. rw (row_at q k l) ((div-lt_iff_lt-mul (some k l)).1 (cell k l));
   column = λ k l. rw (column_at q k l) (mod-lt (get_or b k 0) (some k l));
@@ -167,5 +165,5 @@ pub Gathered-inside : (h w : ℕ) (kinds owners : List ℕ) (f : ℕ) {r c r' c'
     → Gathered w (block_in kinds owners (h * w) f) r c r' c' k → Places h w r' c' k
 unfolding block_in
 Gathered-inside h w kinds owners f p q s =
-    block_places h w p q (omega (arith, s.many, in_few kinds owners f (h * w), area h w p q))
+    block_places h w (omega (arith, s.many, in_few kinds owners f (h * w), area h w p q))
     (λ i m. upto-mem (h * w) (filter-mem (of_block kinds owners f) (upto (h * w)) m).0) (gathered_places s)

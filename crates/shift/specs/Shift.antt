@@ -4,18 +4,10 @@ use Rattle.std.specs.Prelude.{ℕ, ◌/◌, ◌%◌, ◌≤◌, ◌<◌, ◌≡�
 use Rattle.grid.specs.Lists.{upto, all, filter}
 use Rattle.kinds.specs.Inside.{of_block}
 use Rattle.grid.specs.Side.{shifted_of}
-use Rattle.reach.specs.Chains.{Chains}
 
 -- the cells of the arrow block named f among the first n, by their kinds and owners
 unfoldable pub block_in : List ℕ → List ℕ → ℕ → ℕ → List ℕ
 block_in kinds owners n f = filter (of_block kinds owners f) (upto n)
-
--- `head` and `next` link the cells of the owners of some grid, on which the arrow block named f has so many cells
-pub record Chained (kinds head next : List ℕ) (f count : ℕ) : Type 0 where
-  pub owners : List ℕ
-  pub size : ℕ
-  pub chains : Chains owners head next size
-  pub many : count ≡ length (block_in kinds owners size f)
 
 -- the rows and the columns of the cells b stand in the first places of two arrays, and nothing behind them changed
 pub record Gathered (w : ℕ) (b rows columns rows' columns' : List ℕ) (count : ℕ) : Type 0 where
@@ -29,10 +21,8 @@ pub record BlockPlaces (w : ℕ) (b rows columns : List ℕ) (count : ℕ) : Typ
   pub rows_are : take count rows ≡ map (λ i. i / w) b
   pub columns_are : take count columns ≡ map (λ i. i % w) b
 
--- the first `count` places of the arrays are rows and columns of a grid of at most 32 by 32
+-- the first `count` places of the arrays are rows and columns of a grid
 pub record Places (h w : ℕ) (rows columns : List ℕ) (count : ℕ) : Type 0 where
-  pub tall : h ≤ 32
-  pub wide : w ≤ 32
   pub few : count ≤ 1024
   pub row : (k : ℕ) → k < count → get_or rows k 0 < h
   pub column : (k : ℕ) → k < count → get_or columns k 0 < w
@@ -50,9 +40,3 @@ all_land h w rows columns count test dy dx =
 -- the shift that takes the cell at row fy, column fx to the cell t takes every cell to one that passes
 unfoldable pub fits_at : ℕ → ℕ → List ℕ → List ℕ → ℕ → (ℕ → Bool) → ℕ → ℕ → ℕ → Bool
 fits_at h w rows columns count test fy fx t = all_land h w rows columns count test (pos (t / w) -ℤ pos fy) (pos (t % w) -ℤ pos fx)
-
--- arrays of 1024 places each, which the checks of the pairs use in turn: names of groups, rows and columns
-pub record Work (groups rows columns : List ℕ) : Type 0 where
-  pub groups_long : length groups ≡ 1024
-  pub rows_long : length rows ≡ 1024
-  pub columns_long : length columns ≡ 1024

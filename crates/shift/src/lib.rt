@@ -4,17 +4,46 @@
 ghost use Rattle.std.specs.Prelude.{◌≡◌, cond, List, ℕ, ◌+◌, ◌*◌, ◌/◌, ◌%◌, ◌<◌, length, get_or, set};
 ghost use Rattle.std.specs.Int.Signed.{mag};
 ghost use Rattle.grid.specs.Lists.{any};
-ghost use Rattle.grid.specs.Side.{sized, shifted_of, InPlace};
+ghost use Rattle.grid.specs.Side.{sized, shifted_of};
 ghost use Rattle.kinds.specs.Kinds.{view, block};
-ghost use Rattle.reach.specs.Chains.{Chains, cells_from};
-ghost use Rattle.kinds.specs.Inside.{Limits, puzzle_with, Held};
-ghost use Rattle.reach.specs.Inside.{reaches_at};
+ghost use Rattle.kinds.specs.Inside.{puzzle_with, Held};
 ghost use Rattle.groups.specs.Arrays.{Names};
 ghost use Rattle.reach.specs.Near.{SquaresOf, NearFloats};
 ghost use Rattle.shift.specs.Fits.{shift_fits};
-ghost use Rattle.shift.specs.Shift.{block_in, Chained, Gathered, Places, BlockPlaces, lands_in, all_land, fits_at, Work};
+ghost use Rattle.shift.specs.Shift.{block_in, Gathered, Places, BlockPlaces, lands_in};
 
 use kinds::ARROW_BLOCK;
+use near::Floats;
+use reach::Linked;
+
+// What the shift test works in, whatever stands there: floating groups, and the rows and the columns of a block's cells.
+#[derive(Drop)]
+pub struct Work<'a> {
+    pub floats: Floats<'a>,
+    pub rows: &'a mut [u16; 1024],
+    pub columns: &'a mut [u16; 1024],
+}
+
+// The cells of an arrow block, by their rows and columns in the first `count` places.
+#[derive(Clone, Copy)]
+struct Block<'a, 'b> {
+    linked: Linked<'a>,
+    rows: &'b [u16; 1024],
+    columns: &'b [u16; 1024],
+    count: usize,
+    ghost places: { Places linked.info.grid.height linked.info.grid.width rows.now columns.now count },
+}
+
+// A block whose first cell is at this row and column, and that is to be shifted into the reach of the block named e, in which `near` marks the floating groups.
+#[derive(Clone, Copy)]
+struct ShiftTest<'a, 'b> {
+    block: Block<'a, 'b>,
+    row: usize,
+    column: usize,
+    near: &'b [u8; 1024],
+    e: u16,
+    ghost first: { (row < block.linked.info.grid.height) × (column < block.linked.info.grid.width) },
+}
 
 // Writes the row and the column of cell i behind `count` others if `yes` says so; the new count.
 fn keep_place(
@@ -41,218 +70,149 @@ fn keep_place(
 // The rows and the columns of the cells of the arrow block named f, by rising index. They are the cells of kind 1 of its chain, `count` of
 // them, so that the walk along the chain ends with the last of them.
 fn gather_block(
-    kinds: &[u8; 1024],
-    head: &[u16; 1024],
-    next: &[u16; 1024],
-    w: usize,
+    linked: &Linked<'_>,
     f: u16,
     count: usize,
     rows: &mut [u16; 1024],
     columns: &mut [u16; 1024],
 )
-    requires { Chained kinds.now head.now next.now f count × (f < 1024)
-        × (0 < w) × (length rows.old ≡ 1024) × (length columns.old ≡ 1024) }
-    ensures { (owners : List ℕ) (n : ℕ) → Chains owners head.now next.now n → count ≡ length (block_in kinds.now owners n f)
-        → Gathered w (block_in kinds.now owners n f) rows.old columns.old rows.new columns.new count }
+    requires name { f < linked.now.info.grid.height * linked.now.info.grid.width }
+    requires all { count ≡ length (block_in linked.now.info.kinds.now linked.now.info.owners.now (linked.now.info.grid.height * linked.now.info.grid.width) f) }
+    ensures { Gathered linked.now.info.grid.width
+        (block_in linked.now.info.kinds.now linked.now.info.owners.now (linked.now.info.grid.height * linked.now.info.grid.width) f)
+        rows.old columns.old rows.new columns.new count }
 {
     let mut k = 0;
-    let mut i = usize::from(head[usize::from(f)]);
+    let mut i = usize::from(linked.head[usize::from(f)]);
     // A `while`: the next cell stands in the chain, and in no range.
     while k < count {
-        k = keep_place(rows, columns, k, w, i, kinds[i] == ARROW_BLOCK);
-        i = usize::from(next[i]);
+        k = keep_place(
+            rows,
+            columns,
+            k,
+            linked.info.grid.width,
+            i,
+            linked.info.kinds[i] == ARROW_BLOCK,
+        );
+        i = usize::from(linked.next[i]);
     }
 }
 
-// Whether the cell at row y, column x comes into the reach of the block named e by the offset. `near` marks the floating groups in it.
-fn lands_in(
-    kinds: &[u8; 1024],
-    owners: &[u16; 1024],
-    near: &[u8; 1024],
-    h: usize,
-    w: usize,
-    e: u16,
-    y: usize,
-    x: usize,
-    dy: i32,
-    dx: i32,
-) -> bool
-    requires { InPlace h w y x × (mag dy < 1024) × (mag dx < 1024) }
-    ensures { result ≡ lands_in (reaches_at kinds.now owners.now near.now e) (shifted_of h w y x dy dx) }
-{
-    match grid::shifted(h, w, y, x, dy, dx) {
-        Some(d) => near::reached(kinds, owners, near, e, d),
-        None => false,
-    }
-}
+impl ShiftTest<'_, '_> {
+    ghost use Rattle.shift.specs.Test.{in_reach, fits_by, fits_at, group};
 
-// Whether all of the gathered cells come into the reach by the offset.
-fn fits_by(
-    rows: &[u16; 1024],
-    columns: &[u16; 1024],
-    count: usize,
-    kinds: &[u8; 1024],
-    owners: &[u16; 1024],
-    near: &[u8; 1024],
-    h: usize,
-    w: usize,
-    e: u16,
-    dy: i32,
-    dx: i32,
-) -> bool
-    requires { Places h w rows.now columns.now count × (mag dy < 1024) × (mag dx < 1024) }
-    ensures { result ≡ all_land h w rows.now columns.now count (reaches_at kinds.now owners.now near.now e) dy dx }
-{
-    for k in 0..count {
-        let y = usize::from(rows[k]);
-        let x = usize::from(columns[k]);
-        if !lands_in(kinds, owners, near, h, w, e, y, x, dy, dx) {
-            return false;
+    // Whether the cell at row y, column x comes into the reach by the offset.
+    fn lands_in(&self, y: usize, x: usize, dy: i32, dx: i32) -> bool
+        requires place { (y < self.now.block.linked.info.grid.height) × (x < self.now.block.linked.info.grid.width) }
+        requires offsets { (mag dy < 1024) × (mag dx < 1024) }
+        ensures { result ≡ lands_in (in_reach self.now) (shifted_of self.now.block.linked.info.grid.height self.now.block.linked.info.grid.width y x dy dx) }
+    {
+        let info = self.block.linked.info;
+        match info.grid.shifted(y, x, dy, dx) {
+            Some(d) => near::reached(info.kinds, info.owners, self.near, self.e, d),
+            None => false,
         }
     }
-    true
+
+    // Whether all cells of the block come into the reach by the offset.
+    fn fits_by(&self, dy: i32, dx: i32) -> bool
+        requires offsets { (mag dy < 1024) × (mag dx < 1024) }
+        ensures { result ≡ fits_by self.now dy dx }
+    {
+        for k in 0..self.block.count {
+            let y = usize::from(self.block.rows[k]);
+            let x = usize::from(self.block.columns[k]);
+            if !self.lands_in(y, x, dy, dx) {
+                return false;
+            }
+        }
+        true
+    }
+
+    // Whether the shift that takes the block's first cell to cell t takes all of its cells into the reach.
+    fn fits_at(&self, t: usize) -> bool
+        requires cell { t < self.now.block.linked.info.grid.height * self.now.block.linked.info.grid.width }
+        ensures { result ≡ fits_at self.now t }
+    {
+        let w = self.block.linked.info.grid.width;
+        let dy = grid::offset(self.row, t / w);
+        let dx = grid::offset(self.column, t % w);
+        self.fits_by(dy, dx)
+    }
+
+    // The same for some cell t of the group named m.
+    fn fits_chain(&self, m: u16) -> bool
+        requires name { m < 1024 }
+        ensures { result ≡ any (fits_at self.now) (group self.now m) }
+    {
+        let mut t = usize::from(self.block.linked.head[usize::from(m)]);
+        // A `while`: the next cell stands in the chain, and in no range.
+        while t < 1024 {
+            if self.fits_at(t) {
+                return true;
+            }
+            t = usize::from(self.block.linked.next[t]);
+        }
+        false
+    }
 }
 
-// Whether the shift that takes the cell at row fy, column fx to cell t takes all of the gathered cells into the reach.
-fn fits_at(
-    rows: &[u16; 1024],
-    columns: &[u16; 1024],
-    count: usize,
-    kinds: &[u8; 1024],
-    owners: &[u16; 1024],
-    near: &[u8; 1024],
-    h: usize,
-    w: usize,
-    e: u16,
-    fy: usize,
-    fx: usize,
-    t: usize,
-) -> bool
-    requires { Places h w rows.now columns.now count × (fy < h) × (fx < w) × (t < h * w) }
-    ensures { result ≡ fits_at h w rows.now columns.now count (reaches_at kinds.now owners.now near.now e) fy fx t }
-{
-    let dy = grid::offset(fy, t / w);
-    let dx = grid::offset(fx, t % w);
-    fits_by(rows, columns, count, kinds, owners, near, h, w, e, dy, dx)
-}
-
-// The same for some cell t of the group named m.
-fn fits_chain(
-    rows: &[u16; 1024],
-    columns: &[u16; 1024],
-    count: usize,
-    kinds: &[u8; 1024],
-    owners: &[u16; 1024],
-    head: &[u16; 1024],
-    next: &[u16; 1024],
-    near: &[u8; 1024],
-    h: usize,
-    w: usize,
-    e: u16,
-    fy: usize,
-    fx: usize,
-    m: u16,
-) -> bool
-    requires { Places h w rows.now columns.now count × (fy < h) × (fx < w)
-        × Chains owners.now head.now next.now (h * w) × (m < 1024) }
-    ensures { result ≡ any (fits_at h w rows.now columns.now count (reaches_at kinds.now owners.now near.now e) fy fx) (cells_from owners.now (h * w) m 0) }
-{
-    let mut t = usize::from(head[usize::from(m)]);
-    // A `while`: the next cell stands in the chain, and in no range.
-    while t < 1024 {
-        if fits_at(
-            rows, columns, count, kinds, owners, near, h, w, e, fy, fx, t,
-        ) {
+impl Block<'_, '_> {
+    // Whether some shift of the block, whose first cell is f, lies wholly in the reach of the block named e. The reach has the cells of the chain of that block and
+    // those of the chains of the floating groups near it.
+    fn fits(&self, f: usize, e: u16, floats: &mut Floats<'_>) -> bool
+        requires first { f < self.now.linked.info.grid.height * self.now.linked.info.grid.width }
+        requires name { e < 1024 }
+        ensures { (lines : List (List ℕ)) (cells : List ℕ)
+            → Held (view (puzzle_with (sized self.now.linked.info.grid.height self.now.linked.info.grid.width) lines) cells) self.now.linked.info.kinds.now self.now.linked.info.owners.now
+            → get_or self.now.linked.info.kinds.now e 0 ≡ 1
+            → BlockPlaces self.now.linked.info.grid.width (block (view (puzzle_with (sized self.now.linked.info.grid.height self.now.linked.info.grid.width) lines) cells) f)
+            self.now.rows.now self.now.columns.now self.now.count
+            → result ≡ shift_fits (view (puzzle_with (sized self.now.linked.info.grid.height self.now.linked.info.grid.width) lines) cells) f e }
+    {
+        let total = near::near_floats(&self.linked, e, floats);
+        let groups = &*floats.groups;
+        let test = ShiftTest {
+            block: *self,
+            row: f / self.linked.info.grid.width,
+            column: f % self.linked.info.grid.width,
+            near: floats.near,
+            e,
+        };
+        if test.fits_chain(e) {
             return true;
         }
-        t = usize::from(next[t]);
-    }
-    false
-}
-
-// Whether some shift of the gathered block, whose first cell is f, lies wholly in the reach of the block named e. The reach has the
-// cells of that block's chain and those of the chains of the floating groups near it, of which `groups` has the names.
-fn fits(
-    rows: &[u16; 1024],
-    columns: &[u16; 1024],
-    count: usize,
-    kinds: &[u8; 1024],
-    owners: &[u16; 1024],
-    head: &[u16; 1024],
-    next: &[u16; 1024],
-    near: &[u8; 1024],
-    groups: &[u16; 1024],
-    total: usize,
-    h: usize,
-    w: usize,
-    e: u16,
-    f: usize,
-) -> bool
-    requires { Places h w rows.now columns.now count × (f < h * w)
-        × Chains owners.now head.now next.now (h * w) × (e < 1024) × Names groups.now total }
-    ensures { (lines : List (List ℕ)) (cells : List ℕ)
-        → Held (view (puzzle_with (sized h w) lines) cells) kinds.now owners.now
-        → NearFloats (view (puzzle_with (sized h w) lines) cells) e near.now groups.now total → get_or kinds.now e 0 ≡ 1
-        → BlockPlaces w (block (view (puzzle_with (sized h w) lines) cells) f) rows.now columns.now count
-        → result ≡ shift_fits (view (puzzle_with (sized h w) lines) cells) f e }
-{
-    let fy = f / w;
-    let fx = f % w;
-    if fits_chain(
-        rows, columns, count, kinds, owners, head, next, near, h, w, e, fy, fx, e,
-    ) {
-        return true;
-    }
-    for k in 0..total {
-        if fits_chain(
-            rows, columns, count, kinds, owners, head, next, near, h, w, e, fy, fx, groups[k],
-        ) {
-            return true;
+        for k in 0..total {
+            if test.fits_chain(groups[k]) {
+                return true;
+            }
         }
+        false
     }
-    false
 }
 
 // Whether some shift of the arrow block named f lies wholly in the reach of the arrow block named e. `squares` has the size of the block f.
 pub fn shift_fits(
-    kinds: &[u8; 1024],
-    owners: &[u16; 1024],
-    head: &[u16; 1024],
-    next: &[u16; 1024],
+    linked: &Linked<'_>,
     squares: &[u16; 1024],
-    h: usize,
-    w: usize,
     f: u16,
     e: u16,
-    near: &mut [u8; 1024],
-    groups: &mut [u16; 1024],
-    rows: &mut [u16; 1024],
-    columns: &mut [u16; 1024],
+    work: &mut Work<'_>,
 ) -> bool
-    requires { Limits h w × Chains owners.now head.now next.now (h * w)
-        × (f < h * w) × (e < 1024) × Work groups.old rows.old columns.old × SquaresOf kinds.now owners.now (h * w) squares.now f }
-    ensures answer { (lines : List (List ℕ)) (cells : List ℕ)
-        → Held (view (puzzle_with (sized h w) lines) cells) kinds.now owners.now → get_or kinds.now e 0 ≡ 1
-        → result ≡ shift_fits (view (puzzle_with (sized h w) lines) cells) f e }
-    ensures work { Work groups.new rows.new columns.new }
+    requires blocks { (f < linked.now.info.grid.height * linked.now.info.grid.width) × (e < 1024) }
+    requires squares { SquaresOf linked.now.info.kinds.now linked.now.info.owners.now (linked.now.info.grid.height * linked.now.info.grid.width) squares.now f }
+    ensures { (lines : List (List ℕ)) (cells : List ℕ)
+        → Held (view (puzzle_with (sized linked.now.info.grid.height linked.now.info.grid.width) lines) cells) linked.now.info.kinds.now linked.now.info.owners.now
+        → get_or linked.now.info.kinds.now e 0 ≡ 1
+        → result ≡ shift_fits (view (puzzle_with (sized linked.now.info.grid.height linked.now.info.grid.width) lines) cells) f e }
 {
-    let total = near::near_floats(kinds, owners, head, next, h, w, e, near, groups);
     let count = usize::from(squares[usize::from(f)]);
-    gather_block(kinds, head, next, w, f, count, rows, columns);
-    fits(
-        rows,
-        columns,
+    gather_block(linked, f, count, work.rows, work.columns);
+    let block = Block {
+        linked: *linked,
+        rows: work.rows,
+        columns: work.columns,
         count,
-        kinds,
-        owners,
-        head,
-        next,
-        near,
-        groups,
-        total,
-        h,
-        w,
-        e,
-        usize::from(f),
-    )
+    };
+    block.fits(usize::from(f), e, &mut work.floats)
 }

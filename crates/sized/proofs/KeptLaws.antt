@@ -15,7 +15,8 @@ use Rattle.record.specs.Record.{Puzzle}
 use Rattle.record.specs.Leaf.{Range}
 use Rattle.record.specs.Sizes.{sized_cells, Proper, GoodSizes, kept_at, kept_by, kept_ranges}
 use Rattle.groups.proofs.ArrowLaws.{arrow_So}
-use Rattle.sized.specs.Inside.{range_in, SizesOn}
+use Rattle.sized.specs.Inside.{range_in}
+use Rattle.sizes.specs.Lent.{SizesOn}
 
 module _ (lows highs : List ℕ) where
   abbrev at : ℕ → List Range

@@ -16,6 +16,7 @@ use Rattle.grid.specs.Side.{sized}
 use Rattle.grid.specs.Cells.{square}
 use Rattle.grid.proofs.AppendLaws.{filter-append}
 use Rattle.grid.proofs.CellLaws.{square_taken}
+use Rattle.grid.proofs.SideLaws.{area}
 use Rattle.record.specs.Leaf.{Range}
 use Rattle.record.specs.Sizes.{kept_at, kept_by, kept_ranges}
 use Rattle.kinds.specs.Kinds.{View, view, view_with, block, reach}
@@ -28,19 +29,8 @@ use Rattle.growth.specs.Growth.{block_name, cell_fence}
 use Rattle.growth.specs.Pairs.{view_on}
 use Rattle.growth.proofs.PairNames.{owner_is, name_inside, name_code}
 use Rattle.sized.specs.Sized.{reason_low, reason_high, reason5_at, reason5}
-use Rattle.sized.specs.Inside.{Measured, too_low, too_high, within, range_in, reason5_in, SizesOn, Board}
+use Rattle.sized.specs.Inside.{Measured, too_low, too_high, within, range_in, reason5_in, Board, SizedBoard}
 use Rattle.sized.specs.declared.Measure.TheVariants.{Within, Low, High}
-
--- ---- a board without sizes
-
--- empty slices are sizes of any board
-pub no_SizesOn : (n : ℕ) (lines : List (List ℕ)) → SizesOn n lines [] []
-no_SizesOn n lines = record { few = omega arith; both = refl; are_on_arrow = λ i h _. absurd (omega arith); order = λ i h. absurd (omega arith) }
-
--- and they keep none
-pub none_kept : kept_ranges [] [] 0 ≡ []
-unfolding kept_by flat_map upto range
-none_kept = refl
 
 -- ---- the loop
 
@@ -182,3 +172,10 @@ module _ {h w : ℕ} {lines : List (List ℕ)} {lows highs cells kinds owners : 
           unfolding reason5_at reason_low reason_high reason_if or_else
           high_found t x =
               rw (size_is, ← (e ∙ size_owner), le-ltb (length (reach board f)) (get_or lows i 0) enough, lt-ltb (get_or highs i 0) (length (block board f)) t) (Wrote-found x)
+
+-- where it is sized and square, the name of its block is below 1024
+pub size_low : {h w : ℕ} {lows highs cells kinds owners : List ℕ} (i : ℕ) → SizedBoard h w lows highs cells kinds owners → i < length lows
+    → (get_or lows i 0 ≡ 0 → ⊥) → get_or cells i 0 ≡ 1 → h ≤ 32 → w ≤ 32 → get_or owners i 0 < 1024
+unfolding square
+size_low {h} {w} {lows} {highs} {cells} {kinds} {owners} i b inside sizes filled tall wide =
+    omega (arith, size_name b.board i inside sizes (eq-eqb (get_or cells i 0) 1 filled), area h w tall wide)

@@ -1,10 +1,10 @@
 -- The search for reason 5 on arrays.
 -- Assumes nothing.
-use Rattle.std.specs.Prelude.{ℕ, ◌*◌, ◌≤◌, ◌<◌, ◌≡◌, true, cond, List, eqb, length, get_or}
+use Rattle.std.specs.Prelude.{ℕ, ◌*◌, ◌≤◌, ◌<◌, cond, List, eqb, get_or}
 use Rattle.std.proofs.Math.Option.{none}
 use Rattle.grid.specs.Cells.{square}
 use Rattle.record.specs.Leaf.{Range, range_at}
-use Rattle.groups.specs.Arrows.{on_arrow}
+use Rattle.sizes.specs.Lent.{SizesOn}
 use Rattle.kinds.specs.Kinds.{View}
 use Rattle.kinds.specs.Inside.{Held}
 use Rattle.literals.specs.Literals.{Found}
@@ -26,13 +26,6 @@ range_in lows highs i = range_at i (get_or lows i 0) (get_or highs i 0)
 -- reason 5 for the cell i, if it has sizes and is square
 unfoldable pub reason5_in : View → List ℕ → List ℕ → ℕ → Found
 reason5_in v lows highs i = cond (eqb (get_or lows i 0) 0) none (cond (square v.cells i) (reason5_at v (range_in lows highs i)) none)
-
--- the slices hold sizes for cells of a board of n cells with these arrows: each sized cell is an arrow cell, and no range is upside down
-pub record SizesOn (n : ℕ) (lines : List (List ℕ)) (lows highs : List ℕ) : Type 0 where
-  pub few : length lows ≤ n
-  pub both : length highs ≡ length lows
-  pub are_on_arrow : (i : ℕ) → i < length lows → (get_or lows i 0 ≡ 0 → ⊥) → on_arrow lines i ≡ true
-  pub order : (i : ℕ) → i < length lows → get_or lows i 0 ≤ get_or highs i 0
 
 -- the arrays hold the kinds of the board with the arrows `lines`, and the slices its sizes
 pub record Board (h w : ℕ) (lines : List (List ℕ)) (lows highs cells kinds owners : List ℕ) : Type 0 where

@@ -13,6 +13,7 @@ use Rattle.grid.proofs.ArrayLaws.{array_in}
 use Rattle.grid.proofs.MarkLaws.{Marks-same}
 use Rattle.record.specs.Record.{Puzzle}
 use Rattle.record.specs.Arrows.{on_arrow}
+use Rattle.record.specs.Valid.{Valid}
 use Rattle.record.specs.declared.Problem.{Problem}
 use Rattle.record.specs.Problem.{arrow_cells, problem_of}
 use Rattle.record.proofs.RecordLaws.{Valid-size}
@@ -20,15 +21,15 @@ use Rattle.record.proofs.LinesLaws.{Lines-of}
 use Rattle.form.proofs.ProblemForm.{few_cells, ends_taken, last_end, line_taken, line_below, valid_Formed}
 use Rattle.groups.specs.Arrays.{Line}
 use Rattle.groups.proofs.MarkLaws.{on_arrow_lem}
-use Rattle.sizes.specs.Inside.{Drawn, Keeps, MarkedAll}
+use Rattle.sizes.specs.Inside.{Drawn, MarkedAll}
 
--- the arrays of a problem that keeps the puzzle
-pub Keeps-Drawn : {p : Puzzle} {q : Problem} → Keeps p q → Drawn p q.arrows q.ends q.count
-Keeps-Drawn {p} k = record {
-  valid = k.valid;
-  line = ap (λ (q : Problem). q.arrows) k.is;
-  cuts = ap (λ (q : Problem). q.ends) k.is;
-  number = ap (λ (q : Problem). q.count) k.is;
+-- the arrays of a valid puzzle's problem
+pub problem_Drawn : {p : Puzzle} {q : Problem} → Valid p → q ≡ problem_of p → Drawn p q.arrows q.ends q.count
+problem_Drawn v e = record {
+  valid = v;
+  line = ap (λ (q : Problem). q.arrows) e;
+  cuts = ap (λ (q : Problem). q.ends) e;
+  number = ap (λ (q : Problem). q.count) e;
 }
 
 module _ (p : Puzzle) {arrows ends : List ℕ} {count : ℕ} (d : Drawn p arrows ends count) where

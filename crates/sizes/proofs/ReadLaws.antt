@@ -25,12 +25,7 @@ use Rattle.record.specs.Arrows.{on_arrow}
 use Rattle.record.specs.Leaf.{Range, range_at, range_test, ranges_from, sizes_of}
 use Rattle.sizes.specs.Kept.{lowest_of, highest_of}
 use Rattle.sizes.specs.Bytes.{numbers_in, sizes_in}
-use Rattle.sizes.specs.Inside.{MarkedAll, SizesRead, ranges_said, sizes_said, answer_of}
-use Rattle.std.specs.Prelude.{Ok, Err}
-use Rattle.std.specs.declared.result.Result.{Result}
-use Rattle.refusal.specs.declared.Refusal.{Refusal}
-use Rattle.fields.specs.Inside.{Agrees}
-use Rattle.record.specs.Inside.{done, fault}
+use Rattle.sizes.specs.Inside.{MarkedAll, ranges_said, sizes_said}
 use Rattle.sizes.proofs.KeptLaws.{array_none, array_put}
 
 -- ---- the test of one range, a law for each way out of the code
@@ -223,11 +218,6 @@ pub sizes_marked : {marks : List ℕ} (p : Puzzle) → MarkedAll marks (on_arrow
 unfolding ranges_said sizes_said sizes_of ◌>>=◌
 sizes_marked p m (refused k) = refl
 sizes_marked {marks} p m (ok ns) = ranges_same (marked marks) (on_arrow p.arrows) (marked_on m) 0 ns
-
--- what was read, as an answer
-pub sizes_answer : {o : Outcome (List Range)} {lowest highest : List ℕ} (r : Result (Unit {0}) Refusal) → Agrees o (λ rs _. (lowest ≡ lowest_of rs) × (highest ≡ highest_of rs)) r → SizesRead o lowest highest (answer_of r)
-sizes_answer (Ok u) a = done a.1 a.2
-sizes_answer (Err e) a = fault a
 
 -- the sizes in bytes
 pub sizes_bytes : (p : Puzzle) (bytes : List ℕ) → sizes_said p (numbers_in bytes) ≡ sizes_in p bytes

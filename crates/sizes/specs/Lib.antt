@@ -3,3 +3,5 @@ pub mod Form
 pub mod Bytes
 pub mod Inside
 pub mod Edition
+pub mod Lent
+pub mod LeafOf

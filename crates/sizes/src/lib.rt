@@ -2,22 +2,24 @@
 // And the edition that a puzzle is played in.
 #![tactic(auto)]
 
-ghost use Rattle.std.specs.Prelude.{◌≡◌, cond, ◌&&◌, ℕ, List, eqb, leb, length, replicate, set};
+ghost use Rattle.std.specs.Prelude.{◌≡◌, ◌≤◌, ◌*◌, cond, ◌&&◌, ℕ, List, eqb, leb, length, replicate, set, take};
 ghost use Rattle.refusal.specs.Refusals.{Outcome, ok};
 ghost use Rattle.fields.specs.Fields.{unless};
 ghost use Rattle.fields.specs.Inside.{Agrees};
-ghost use Rattle.groups.specs.Arrays.{marked};
-ghost use Rattle.grid.specs.Lists.{all, upto};
+ghost use Rattle.groups.specs.Arrays.{marked, lines_of};
+ghost use Rattle.grid.specs.Lists.{all, upto, last};
 ghost use Rattle.record.specs.Record.{Puzzle};
 ghost use Rattle.record.specs.Arrows.{on_arrow};
-ghost use Rattle.record.specs.Leaf.{range_at, range_test, sizes_of};
+ghost use Rattle.record.specs.Leaf.{range_at, range_test};
 ghost use Rattle.sizes.specs.Edition.{EditionOf, edition_number};
-ghost use Rattle.sizes.specs.Bytes.{numbers_in, sizes_in};
+ghost use Rattle.sizes.specs.Bytes.{numbers_in};
 ghost use Rattle.sizes.specs.Form.{sized_cell};
+ghost use Rattle.sizes.specs.Lent.{ArrowArrays, SizesOn};
 ghost use Rattle.sizes.specs.Kept.{lowest_of, highest_of};
-ghost use Rattle.sizes.specs.Inside.{Drawn, Keeps, MarkedAll, SizesRead, HasNumber, number_at, ranges_said, sizes_said, answer_of};
+ghost use Rattle.sizes.specs.Inside.{Drawn, HasNumber, number_at, ranges_said, sizes_said};
 
-use record::{Answer, Problem};
+use grid::Grid;
+use record::Problem;
 use refusal::Refusal;
 
 // The edition that a puzzle is played in: 1, or 2 for free growth.
@@ -61,6 +63,34 @@ impl TryFrom<u8> for Edition {
 
     fn try_from(number: u8) -> Result<Edition, Refusal> {
         Edition::try_from(u32::from(number))
+    }
+}
+
+// A leaf as it is lent to what searches it: its problem, its edition, and the lowest and the highest size of each cell, 0 for none. A leaf without sizes
+// lends empty slices.
+#[derive(Clone, Copy)]
+pub struct LentLeaf<'a> {
+    pub problem: &'a Problem,
+    pub edition: u8,
+    pub lowest: &'a [u16],
+    pub highest: &'a [u16],
+    pub ghost tall: { problem.now.height ≤ 32 },
+    pub ghost wide: { problem.now.width ≤ 32 },
+    pub ghost arrows: { ArrowArrays (problem.now.height * problem.now.width) problem.now.arrows problem.now.ends problem.now.count
+        (last 0 (take problem.now.count problem.now.ends)) },
+    pub ghost played: { edition ≡ 0 → ⊥ },
+    pub ghost sized: { SizesOn (problem.now.height * problem.now.width) (lines_of problem.now.arrows problem.now.ends problem.now.count) lowest.now highest.now },
+}
+
+impl LentLeaf<'_> {
+    // Its grid.
+    pub fn grid(&self) -> Grid
+        ensures { (result.height ≡ self.now.problem.now.height) × (result.width ≡ self.now.problem.now.width) }
+    {
+        Grid {
+            height: self.problem.height,
+            width: self.problem.width,
+        }
     }
 }
 
@@ -112,19 +142,26 @@ impl Numbers for Bytes<'_> {
     }
 }
 
+// A range to be put beside a cell.
+#[derive(Clone, Copy)]
+struct SizeRange {
+    cell: usize,
+    least: u16,
+    most: u16,
+}
+
 // Puts one range into the arrays, if it may stand: it sits on an arrow, its cell is `from` or more, it does not start at 0 and is not upside down.
 fn take_range(
     marks: &[u8; 1024],
     from: usize,
-    cell: usize,
-    least: u16,
-    most: u16,
+    range: SizeRange,
     lowest: &mut [u16; 1024],
     highest: &mut [u16; 1024],
 ) -> Result<(), Refusal>
-    ensures { Agrees (unless (range_test (marked marks.now) from (range_at cell least most)) 22)
-        (λ _ _. (lowest.new ≡ set lowest.old cell least) × (highest.new ≡ set highest.old cell most)) result }
+    ensures { Agrees (unless (range_test (marked marks.now) from (range_at range.cell range.least range.most)) 22)
+        (λ _ _. (lowest.new ≡ set lowest.old range.cell range.least) × (highest.new ≡ set highest.old range.cell range.most)) result }
 {
+    let SizeRange { cell, least, most } = range;
     if 1024 <= cell {
         return Err(Refusal::Sizes);
     }
@@ -158,17 +195,13 @@ fn take_ranges<N: Numbers>(
     let count = numbers.count()?;
     let mut from = 0;
     for k in 0..count / 3 {
-        let cell = usize::from(numbers.number(3 * k));
-        take_range(
-            marks,
-            from,
-            cell,
-            numbers.number(3 * k + 1),
-            numbers.number(3 * k + 2),
-            lowest,
-            highest,
-        )?;
-        from = cell + 1;
+        let range = SizeRange {
+            cell: usize::from(numbers.number(3 * k)),
+            least: numbers.number(3 * k + 1),
+            most: numbers.number(3 * k + 2),
+        };
+        take_range(marks, from, range, lowest, highest)?;
+        from = range.cell + 1;
     }
     if count % 3 != 0 {
         return Err(Refusal::Sizes);
@@ -184,8 +217,9 @@ pub fn read<N: Numbers>(
     lowest: &mut [u16; 1024],
     highest: &mut [u16; 1024],
 ) -> Result<(), Refusal>
-    requires { ((p : Puzzle) × Keeps p problem.now) × (lowest.old ≡ replicate 1024 0) × (highest.old ≡ replicate 1024 0) }
-    ensures { (p : Puzzle) → Keeps p problem.now
+    requires drawn { (p : Puzzle) × Drawn p problem.now.arrows problem.now.ends problem.now.count }
+    requires fresh { (lowest.old ≡ replicate 1024 0) × (highest.old ≡ replicate 1024 0) }
+    ensures { (p : Puzzle) → Drawn p problem.now.arrows problem.now.ends problem.now.count
         → Agrees (sizes_said p (N.numbers numbers.now)) (λ rs _. (lowest.new ≡ lowest_of rs) × (highest.new ≡ highest_of rs)) result }
 {
     if numbers.count()? == 0 {
@@ -195,6 +229,7 @@ pub fn read<N: Numbers>(
     groups::mark_arrow_cells(&problem.arrows, problem.arrow_total(), &mut marks);
     take_ranges(numbers, &marks, lowest, highest)
 }
+
 // ---- the test of the arrays
 
 // Whether a cell with this mark may have these sizes: both are 0, or it is marked and they are not upside down.
@@ -225,8 +260,9 @@ fn all_sized(marks: &[u8; 1024], lowest: &[u16; 1024], highest: &[u16; 1024]) ->
 
 // Whether the arrays keep sizes that may stand on a puzzle. Where no cell has a lowest size, as on a leaf without sizes, its arrows are not asked for.
 pub fn may_stand(problem: &Problem, lowest: &[u16; 1024], highest: &[u16; 1024]) -> bool
-    requires { (p : Puzzle) × Keeps p problem.now }
-    ensures { (p : Puzzle) → Keeps p problem.now → result ≡ all (sized_cell (on_arrow p.arrows) lowest.now highest.now) (upto 1024) }
+    requires drawn { (p : Puzzle) × Drawn p problem.now.arrows problem.now.ends problem.now.count }
+    ensures { (p : Puzzle) → Drawn p problem.now.arrows problem.now.ends problem.now.count
+        → result ≡ all (sized_cell (on_arrow p.arrows) lowest.now highest.now) (upto 1024) }
 {
     if form::zeros(lowest, 0) {
         return form::zeros(highest, 0);
@@ -234,47 +270,4 @@ pub fn may_stand(problem: &Problem, lowest: &[u16; 1024], highest: &[u16; 1024])
     let mut marks = [0; 1024];
     groups::mark_arrow_cells(&problem.arrows, problem.arrow_total(), &mut marks);
     all_sized(&marks, lowest, highest)
-}
-
-// ---- the same with the arrows of a puzzle by their arrays
-
-// Marks the arrow cells of a puzzle.
-fn mark_arrows<'a>(
-    arrows: &'a [u16; 1024],
-    ends: &'a [u16; 1024],
-    count: usize,
-    marks: &mut [u8; 1024],
-)
-    requires { (p : Puzzle) × Drawn p arrows.now ends.now count }
-    ensures { (p : Puzzle) → Drawn p arrows.now ends.now count → MarkedAll marks.new (on_arrow p.arrows) }
-{
-    groups::mark_arrow_cells(arrows, record::arrow_total(ends, count), marks);
-}
-
-// What was read, as an answer.
-fn answer(read: Result<(), Refusal>) -> Answer
-    ensures { result ≡ answer_of read }
-{
-    match read {
-        Ok(()) => Answer::Done,
-        Err(refusal) => Answer::Refused(refusal.number()),
-    }
-}
-
-// Reads the sizes in bytes, as `read` does, where the arrows of the puzzle are lent by their arrays.
-pub fn read_size_bytes<'a>(
-    bytes: &'a [u8],
-    arrows: &'a [u16; 1024],
-    ends: &'a [u16; 1024],
-    count: usize,
-    lowest: &mut [u16; 1024],
-    highest: &mut [u16; 1024],
-) -> Answer
-    requires { ((p : Puzzle) × Drawn p arrows.now ends.now count) × (lowest.old ≡ replicate 1024 0) × (highest.old ≡ replicate 1024 0) }
-    ensures { (p : Puzzle) → Drawn p arrows.now ends.now count
-        → SizesRead (sizes_in p bytes.now) lowest.new highest.new result }
-{
-    let mut marks = [0u8; 1024];
-    mark_arrows(arrows, ends, count, &mut marks);
-    answer(take_ranges(&Bytes(bytes), &marks, lowest, highest))
 }

@@ -2,11 +2,11 @@
 // programs read their lists by the same functions.
 #![tactic(auto)]
 
-ghost use Rattle.std.specs.Prelude.{◌≡◌, ◌∷◌, ◌++◌, [], ◌+◌, ◌*◌, ◌/◌, ◌≤◌, ◌<◌, length, take, get_or, decimal, IfOk, IfErr, IfSome};
+ghost use Rattle.std.specs.Prelude.{◌≡◌, ◌∷◌, ◌++◌, [], ◌+◌, ◌*◌, ◌/◌, ◌≤◌, ◌<◌, length, take, get_or, decimal, IfOk, IfSome};
 ghost use Rattle.std.specs.Io.KnownBytes.{Consumes, IsAtEnd};
 ghost use Rattle.grid.specs.Lists.{flat_map};
 ghost use Rattle.text.specs.Told.{told_by, told_text};
-ghost use Rattle.text.specs.Text.{literal_in, literals_in, literal_line};
+ghost use Rattle.text.specs.Text.{digits, literal_in, literals_in, literal_line};
 ghost use Rattle.text.specs.Pushed.{Pushed};
 
 use itoa::Buffer;
@@ -58,6 +58,20 @@ pub fn read_into<R: Read + Drop, const N: usize>(
 {
     let n = read_full(&mut input, room)?;
     Ok(&room[..n])
+}
+
+// The last four digits of a number that has more.
+#[tactic(auto, using(crate::proofs::ToldLaws::digits_above))]
+fn last_digits(n: usize) -> [u8; 4]
+    requires { 10000 ≤ n }
+    ensures { result ≡ digits n }
+{
+    [
+        48 + (n / 1000 % 10) as u8,
+        48 + (n / 100 % 10) as u8,
+        48 + (n / 10 % 10) as u8,
+        48 + (n % 10) as u8,
+    ]
 }
 
 // Text in the front of a lent buffer, and its length. It is no `Display`: that says what is written where it is `Ok`, and never that it is, and
@@ -125,12 +139,16 @@ impl Text<'_> {
     // Writes what the host call says, with the bytes that it left.
     pub fn push_told(&mut self, told: Result<usize, usize>, found: &[u8])
         requires count { IfOk told (λ n. (n ≤ 3073) × (2 * n ≤ length found.now)) }
-        requires number { IfErr told (λ k. k < 10000) }
         requires room { self.old.len + 21523 ≤ length self.old.out.now }
         ensures { Pushed self.old self.new (told_text told found.now) }
     {
         match told {
-            Err(number) => self.push_line(b"refused ", number),
+            Err(number) if number < 10000 => self.push_line(b"refused ", number),
+            Err(number) => {
+                self.push(b"refused ");
+                self.push(&last_digits(number));
+                self.push(b"\n");
+            }
             Ok(0) => self.push(b"none\n"),
             Ok(count) => {
                 self.push_line(b"reason ", count);

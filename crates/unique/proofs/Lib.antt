@@ -1,3 +1,3 @@
 pub mod StepLaws
 pub mod HeadLaws
-pub mod HeldLaws
+pub mod LentLaws

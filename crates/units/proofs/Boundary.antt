@@ -1,20 +1,16 @@
--- The literals of reason 1: the neighbours by direction, the last cell that passes, and what they are of a potential group.
+-- The literals of reason 1: the neighbours one after another, the last cell that passes, and what they are of a potential group.
 -- Assumes nothing.
-use Prim.Native.Nat.{ℕ, ◌+◌, ◌*◌, ◌/◌, ◌%◌, ◌≤◌, ◌<◌}
-use native.Mathlib.Nat.{div-add-mod'}
+use Prim.Native.Nat.{ℕ, ◌+◌, ◌≤◌, ◌<◌}
 use native.Mathlib.Omega.{arith}
 use mathlib.Core.Path.{◌≡◌, refl, sym, ap, ◌∙◌}
-use mathlib.Core.Bool.{Bool, true, false, ◌&&◌, ◌||◌, or-false}
+use mathlib.Core.Bool.{Bool, true, false, ◌&&◌}
 use mathlib.Core.List.{List, [], ◌∷◌, ◌++◌, append-nil, Memᴰ}
 use lib.Dec.{eqb}
 use lib.ListN.{length, get_or, set, take}
 use lib.Seq.{get_or-take}
-use Rattle.grid.specs.Lists.{range, upto, any, filter, last, member}
-use Rattle.grid.specs.Grid.{Grid, size, cells_of, up, down, left, right, neighbours, touches}
+use Rattle.grid.specs.Lists.{upto, any, filter, last, member}
+use Rattle.grid.specs.Grid.{Grid, size, cells_of, neighbours, touches}
 use Rattle.grid.proofs.ListLaws.{filter-mem, upto-mem}
-use Rattle.grid.specs.Side.{sized, towards, beside_of}
-use Rattle.std.specs.Prelude.{Some, None}
-use Rattle.grid.proofs.SideLaws.{beside_at, beside_off}
 use Rattle.grid.proofs.GridLaws.{beside, on_grid}
 use Rattle.grid.proofs.AppendLaws.{any-append, last_more, any_agree, filter-upto, upto_more, filter_more, filter-filter, member-filter}
 use Rattle.grid.specs.Cells.{empty, potential, square, word}
@@ -26,36 +22,16 @@ use Rattle.literals.specs.Inside.{Wrote}
 use Rattle.units.specs.Arrays.{boundary_of}
 use Rattle.literals.proofs.BufferLaws.{Wrote-more}
 
--- ---- some neighbour passes: direction by direction
+-- ---- no neighbour passes: one after another
 
-module _ (t : ℕ → Bool) (g : Grid) (i : ℕ) where
-  -- the neighbour in direction k, or none
-  pub any_at : (k j : ℕ) → Some j ≡ beside_of g i k → t j ≡ any t (towards g i k)
+module _ (t : ℕ → Bool) where
+  pub none_yet : any t [] ≡ false
   unfolding any
-  any_at k j e = rw (beside_at g i k j e) (sym (or-false (t j)))
+  none_yet = refl
 
-  pub any_off : (k : ℕ) → None ≡ beside_of g i k → false ≡ any t (towards g i k)
+  pub none_more : (l : List ℕ) (j : ℕ) → any t l ≡ false → t j ≡ false → any t (l ++ (j ∷ [])) ≡ false
   unfolding any
-  any_off k e = rw (beside_off g i k e) refl
-
-  -- all neighbours
-  any_around : any t (neighbours g i) ≡ any (λ k. any t (towards g i k)) (upto 4)
-  unfolding any upto range towards neighbours
-  any_around =
-      any-append t (up g i) (down g i ++ (left g i ++ right g i))
-      ∙ ap (λ (b : Bool). any t (up g i) || b)
-      (any-append t (down g i) (left g i ++ right g i)
-      ∙ ap (λ (b : Bool). any t (down g i) || b)
-      (any-append t (left g i) (right g i) ∙ ap (λ (b : Bool). any t (left g i) || b) (sym (or-false (any t (right g i))))))
-
--- by the row and the column of the cell
-pub any_placed : (t : ℕ → Bool) (h w i : ℕ) → any t (neighbours (sized h w) i) ≡ any (λ k. any t (towards (sized h w) (i / w * w + i % w) k)) (upto 4)
-any_placed t h w i = any_around t (sized h w) i ∙ ap (λ (m : ℕ). any (λ k. any t (towards (sized h w) m k)) (upto 4)) (sym (div-add-mod' i w))
-
--- no cell is passed yet
-pub any_start : (t : ℕ → Bool) → any t (upto 0) ≡ false
-unfolding any upto range
-any_start t = refl
+  none_more l j e f = any-append t l (j ∷ []) ∙ rw (e, f) refl
 
 -- ---- the last cell that passes: a loop from behind
 

@@ -20,18 +20,13 @@ use Rattle.groups.proofs.TableLaws.{tally_any, name_low}
 use Rattle.literals.specs.Literals.{Found, or_else, reason_if, first_found_of}
 use Rattle.units.specs.Units.{reason1, reason1_at}
 use Rattle.units.specs.Arrays.{PotentialTable, stranded, found_at, boundary_of}
-use Rattle.std.specs.Prelude.{Some, find, All}
-use Rattle.std.proofs.lemmas.List.Elements.{All-from_get_or}
+use Rattle.std.specs.Prelude.{Some, find}
 
 -- ---- the first name that passes
 
 module _ {list : List ℕ} {c : ℕ} (N : Names list c) where
   long : length (take c list) ≡ c
   long = length-take-le c list (omega (arith, N.long, N.few))
-
-  -- each listed name is a cell
-  pub names_small : All (λ f. f < 1024) (take c list)
-  names_small = All-from_get_or (λ f. f < 1024) (take c list) 0 (λ k h. let l : k < c = omega (arith, h, long) in rw (get_or-take c list k 0 l) (N.small k l))
 
 -- the first name that passes is in the list
 pub first_mem : (t : ℕ → Bool) (l : List ℕ) (f : ℕ) → find t l ≡ Some f → Memᴰ f l

@@ -13,7 +13,7 @@ use Rattle.board.proofs.place_all.Goals as goal
 
 pub place-requires : goal.place-requires
 place-requires c =
-    let h = c.requires in
+    let h = c.requires.given in
     let b = with_decisions h.board c.loop-left.cells c.loop-left.order c.loop-left.decided in
     let w = Whole-is b (c.loop-left.invariant h.board h.area h.well).well in
     (omega (arith, h.area, whole_most b w), λ i l e. whole_room b w i (rw h.area l) e)
@@ -26,7 +26,7 @@ returns-in_err-place c b e w =
 
 pub overflow_add-decided : goal.overflow_add-decided
 overflow_add-decided c =
-    let h = c.requires in
+    let h = c.requires.given in
     let i = c.loop-left.invariant h.board h.area h.well in
     let r = two_put h.board c.loop-left.cells c.loop-left.order c.args.n c.loop-left.decided h.area i.well c.loop-left.left.now c.in-len2-up.len_at_least c.from_be_bytes.ensures (omega arith) c.in_ok-place.ensures in
     omega (arith, (Whole-is (with_decisions h.board c.place.new.cells c.place.new.order (c.loop-left.decided + 1)) r.1).few)

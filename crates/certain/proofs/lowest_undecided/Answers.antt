@@ -20,8 +20,8 @@ past cells n i long l none =
     let z = length-take-le n cells long in
     sym z ∙ lowest_end (take n cells) (λ j k q. none j (omega (arith, k)) (sym (get_or-take n cells j 0 (omega (arith, k))) ∙ q))
 
-pub returns-then-cells-i-eq2-clause-lowest : goal.returns-then-cells-i-eq2-clause-lowest
-returns-then-cells-i-eq2-clause-lowest c = found c.args.cells.now c.args.n c.loop-i.i (omega (arith, c.requires)) (omega arith) c.loop-i.invariant c.if-cells-i-eq2.true
+pub returns-then-cells-i-eq-UNDECIDED-clause-lowest : goal.returns-then-cells-i-eq-UNDECIDED-clause-lowest
+returns-then-cells-i-eq-UNDECIDED-clause-lowest c = found c.args.cells.now c.args.n c.loop-i.i (omega (arith, c.requires)) (omega arith) c.loop-i.invariant c.if-cells-i-eq-UNDECIDED.true
 
 pub returns-clause-lowest : goal.returns-clause-lowest
 returns-clause-lowest c = past c.args.cells.now c.args.n c.args.n (omega (arith, c.requires)) (omega arith) (λ j k. c.loop-i.invariant j (omega (arith, k)))

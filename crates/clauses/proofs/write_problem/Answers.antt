@@ -9,7 +9,7 @@ pub arrow_total-requires : goal.arrow_total-requires
 arrow_total-requires c = (sheeted c.requires.0 c.requires.1 c.args.problem.now c.requires.2).lines.few
 
 pub mark_arrow_cells-requires : goal.mark_arrow_cells-requires
-mark_arrow_cells-requires c = flat_Line c.requires.0 c.requires.1 c.args.problem.now c.requires.2 c.arrow_total.result c.arrow_total.ensures
+mark_arrow_cells-requires c = record { line = flat_Line c.requires.0 c.requires.1 c.args.problem.now c.requires.2 c.arrow_total.result c.arrow_total.ensures }
 
 pub write_sheet-length-requires : goal.write_sheet-length-requires
 write_sheet-length-requires c = (sheeted c.requires.0 c.requires.1 c.args.problem.now c.requires.2).lines

@@ -1,7 +1,9 @@
--- `clauses::write_sheet` meets its contract.
+-- `clauses::write_sheet` meets its contract: what the sheet that was made here holds is what was lent.
 -- Assumes nothing.
-use Rattle.clauses.proofs.AppendLaws.{sheet_Appends}
+use mathlib.Core.Path.{refl}
+use Rattle.std.proofs.Common.{rules}
+use Rattle.clauses.proofs.AppendLaws.{Appends-whole}
 use Rattle.clauses.proofs.write_sheet.Goals as goal
 
 pub returns : goal.returns
-returns c = sheet_Appends c.args.problem.now c.args.marks.now c.requires c.write_given-a.ensures c.write_touching-b.ensures c.write_between-c.ensures c.write_arrows.ensures
+returns c = Appends-whole refl c.write_parts.ensures (search rules)

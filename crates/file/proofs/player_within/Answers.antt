@@ -1,12 +1,12 @@
--- `file::player_within` meets its contract: a refused record, and one that is read.
+-- `file::player_within` meets its contract: the record's refusals, 11, 20 and the answer, each by its own law.
 -- Assumes nothing.
-use mathlib.Core.Path.{◌≡◌, sym, ap, ◌∙◌}
-use Rattle.fields.specs.Fields.{ok}
+use native.Mathlib.Omega.{arith}
+use mathlib.Core.Path.{sym, ap, ◌∙◌}
 use Rattle.fields.proofs.OutcomeLaws.{outcome_fault}
-use Rattle.record.specs.Problem.{problem_of}
-use Rattle.record.specs.Head.{Head, read_head}
+use Rattle.record.proofs.HeadLaws.{head_Valid, head_length}
+use Rattle.writer.proofs.ArrayLaws.{parts}
 use Rattle.file.specs.Answers.{player_of}
-use Rattle.file.proofs.AnswerLaws.{player_no, head_fault, head_ok, player_unread}
+use Rattle.file.proofs.AnswerLaws.{player_no, head_fault, head_ok, player_unread, length_found, cells_few, behind, player_11, player_20, player_done}
 use Rattle.file.proofs.player_within.Goals as goal
 
 pub returns-in_err-problem : goal.returns-in_err-problem
@@ -14,10 +14,40 @@ returns-in_err-problem c =
     let a = c.args in
     outcome_fault _ _ c.from_residual.ensures.1 (sym (ap player_of (player_unread a.room a.file.now (head_fault a.file.now c.in_err-problem.ensures)) ∙ player_no))
 
-pub player_behind-requires : goal.player_behind-requires
-player_behind-requires c = head_ok c.args.file.now c.in_ok-problem.ensures
+-- 11
+pub returns-then-room-lt1 : goal.returns-then-room-lt1
+returns-then-room-lt1 c =
+    let h = head_ok c.args.file.now c.in_ok-problem.ensures in
+    sym (ap player_of (player_11 c.args.file.now h.1 c.args.room c.if-room-lt1.true) ∙ player_no)
+
+pub record_length-length-requires : goal.record_length-length-requires
+record_length-length-requires c =
+    let h = head_ok c.args.file.now c.in_ok-problem.ensures in
+    let b = parts h.0.puzzle (head_Valid c.args.file.now h.1) c.in_ok-problem.problem h.2 in
+    (b.tall, b.wide, b.few, b.short)
+
+pub overflow_mul-problem : goal.overflow_mul-problem
+overflow_mul-problem c =
+    let h = head_ok c.args.file.now c.in_ok-problem.ensures in
+    omega (arith, cells_few c.args.file.now h.1 c.in_ok-problem.problem h.2)
+
+pub is_tail-requires : goal.is_tail-requires
+is_tail-requires c =
+    let h = head_ok c.args.file.now c.in_ok-problem.ensures in
+    (omega (arith, length_found c.args.file.now h.1 c.in_ok-problem.problem h.2 c.record_length-length.result c.record_length-length.ensures, head_length c.args.file.now h.1), cells_few c.args.file.now h.1 c.in_ok-problem.problem h.2)
+
+-- 20
+pub returns-then-not-is_tail : goal.returns-then-not-is_tail
+returns-then-not-is_tail c =
+    let b = behind c.args.file.now c.in_ok-problem.ensures c.record_length-length.ensures c.is_tail.ensures in
+    sym (ap player_of (player_20 c.args.file.now b.reads c.args.room c.if-room-lt1.false (sym b.tailed ∙ c.if-not-is_tail.true)) ∙ player_no)
+
+pub read_grade-requires : goal.read_grade-requires
+read_grade-requires c =
+    let b = behind c.args.file.now c.in_ok-problem.ensures c.record_length-length.ensures c.is_tail.ensures in
+    omega (arith, b.bytes, head_length c.args.file.now b.reads)
 
 pub returns : goal.returns
 returns c =
-    let h : (h : Head) × (read_head c.args.file.now ≡ ok h) × (c.in_ok-problem.problem ≡ problem_of h.puzzle) = head_ok c.args.file.now c.in_ok-problem.ensures in
-    c.player_behind.ensures h.0 h.1 h.2
+    let b = behind c.args.file.now c.in_ok-problem.ensures c.record_length-length.ensures c.is_tail.ensures in
+    player_done c.args.file.now b.reads c.args.room c.if-room-lt1.false (sym b.tailed ∙ c.if-not-is_tail.false) c.record_length-length.result c.read_grade.result b.bytes c.read_grade.ensures

@@ -1,33 +1,31 @@
 -- `finds::find_differs` holds the answer and then the whole buffer against what the list says.
 -- Assumes nothing.
 use Prim.Native.Nat.{ℕ}
-use mathlib.Core.Path.{◌≡◌, ap, ◌∙◌}
-use mathlib.Core.List.{List, ◌++◌}
 use native.Mathlib.Omega.{arith}
+use mathlib.Core.Path.{ap, ◌∙◌}
+use mathlib.Core.List.{List, ◌++◌}
 use lib.ListN.{drop}
-use Rattle.board.specs.Hints.{after_find}
 use Rattle.replay.specs.Lists.{number_in, differs}
 use Rattle.replay.proofs.ComparisonLaws.{fails}
 use Rattle.finds.proofs.FindLaws.{left_board, other_answer, this_answer}
 use Rattle.finds.proofs.find_differs.Goals as goal
+use Rattle.finds.proofs.find_differs.Goals.{then-finding_differs, else-finding_differs}
 
-pub returns-then-finding_differs : goal.returns-then-finding_differs
-returns-then-finding_differs c =
-    let board-left : let a = c.args in c.find-asked.result.board ≡ after_find a.board a.player a.size = let a = c.args in
-    left_board a.board a.player a.size c.fresh_buffer-buffer.result (omega arith) c.find-asked.ensures.1 in
-    let a = c.args in (
-      board-left,
-      fails (other_answer a.board a.player a.size a.refusal a.count (number_in a.list.now a.at a.count 65535)
-          c.fresh_buffer-buffer.result c.fresh_buffer-buffer.ensures c.finding_differs.result (c.finding_differs.ensures _ c.find-asked.ensures.0) c.if-finding_differs.true),
-    )
-
-pub returns : goal.returns
-returns c =
-    let board-left : let a = c.args in c.find-asked.result.board ≡ after_find a.board a.player a.size = let a = c.args in
-    left_board a.board a.player a.size c.fresh_buffer-buffer.result (omega arith) c.find-asked.ensures.1 in
+pub returns-clause-left : goal.returns-clause-left
+returns-clause-left c =
     let a = c.args in
-    let said = number_in a.list.now a.at a.count 65535 in (
-      board-left,
-      this_answer a.board a.player a.size a.refusal a.count said c.fresh_buffer-buffer.result c.fresh_buffer-buffer.ensures c.finding_differs.result (c.finding_differs.ensures _ c.find-asked.ensures.0) c.if-finding_differs.false c.literals_differ.result
-          (c.literals_differ.ensures ∙ ap (λ (l : List ℕ). differs (l ++ drop a.size c.fresh_buffer-buffer.result) said 0) c.find-asked.ensures.2),
-    )
+    left_board a.board a.find.player a.find.size c.fresh_buffer-buffer.result (omega (arith, a.find.room)) c.make-asked.ensures.1
+
+pub returns-clause-told : goal.returns-clause-told
+returns-clause-told c =
+    let a = c.args in
+    let said = number_in a.literals.list.now a.literals.at a.literals.count 65535 in
+    let fresh = c.fresh_buffer-buffer in
+    let answer = c.finding_differs.ensures _ c.make-asked.ensures.0 in
+    elim c.if-finding_differs.branch [
+      | then-finding_differs w ↦
+          rw (w.differs-is, w.if-finding_differs.true) (fails (other_answer a.board a.find.player a.find.size a.refusal a.literals.count said fresh.result fresh.ensures c.finding_differs.result answer w.if-finding_differs.true))
+      | else-finding_differs w ↦
+          rw w.differs-is (this_answer a.board a.find.player a.find.size a.refusal a.literals.count said fresh.result fresh.ensures c.finding_differs.result answer w.if-finding_differs.false w.literals_differ-differs.result
+          (w.literals_differ-differs.ensures ∙ ap (λ (l : List ℕ). differs (l ++ drop a.find.size fresh.result) said 0) c.make-asked.ensures.2))
+    ]

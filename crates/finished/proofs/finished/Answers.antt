@@ -1,58 +1,26 @@
--- `finished::finished` meets its contract: the board is tested, and then its arrays tell.
+-- `finished::finished` meets its contract: the board lends its leaf, and then that tells.
 -- Assumes nothing.
-use native.Mathlib.Omega.{arith}
-use mathlib.Core.Path.{◌≡◌, sym, ◌∙◌}
-use mathlib.Core.Bool.{Bool, true, false}
+use mathlib.Core.Path.{ap, ◌∙◌}
+use Rattle.std.proofs.lemmas.Result.{err_from_is_err_and}
+use Rattle.form.specs.Form.{problem_formed}
 use Rattle.form.proofs.ProblemForm.{is_Formed}
-use Rattle.board.specs.Form.{well_formed}
 use Rattle.board.proofs.BoardForm.{Whole-is}
-use Rattle.reasons.specs.Find.{leaf_on}
-use Rattle.reasons.proofs.BoardArrays.{board_edition, Lent, Lent-by, lent_few, board_lent, board_kept}
-use Rattle.finished.specs.Verdicts.{verdict, finished_of}
-use Rattle.finished.proofs.VerdictLaws.{few, finished_ill, finished_by}
+use Rattle.finished.proofs.VerdictLaws.{finished_ill, finished_told}
 use Rattle.finished.proofs.finished.Goals as goal
 
-pub returns-then-not-well_formed : goal.returns-then-not-well_formed
-returns-then-not-well_formed c = finished_ill c.args.board (sym c.well_formed-2.ensures ∙ c.if-not-well_formed.true)
+pub returns-in_err-leaf : goal.returns-in_err-leaf
+returns-in_err-leaf c =
+    let e = c.in_err-leaf.ensures.refused in
+    let p = err_from_is_err_and c.from_residual.result c.from_residual.ensures.1 in
+    rw (p.1, p.2, e.1) (finished_ill c.args.board e.0)
 
-pub overflow_mul-height : goal.overflow_mul-height
-overflow_mul-height c =
-    let formed : well_formed c.args.board ≡ true = sym c.well_formed-2.ensures ∙ c.if-not-well_formed.false in
+pub is_finished-requires : goal.is_finished-requires
+is_finished-requires c =
     let b = c.args.board in
-    omega (arith, few b.problem (Whole-is b formed).problem)
-
-pub first_sizes-requires : goal.first_sizes-requires
-first_sizes-requires c =
-    let formed : well_formed c.args.board ≡ true = sym c.well_formed-2.ensures ∙ c.if-not-well_formed.false in
-    (lent_few c.args.board formed c.lent_sizes-n.ensures).0
-
-pub first_sizes-requires-2 : goal.first_sizes-requires-2
-first_sizes-requires-2 c =
-    let formed : well_formed c.args.board ≡ true = sym c.well_formed-2.ensures ∙ c.if-not-well_formed.false in
-    (lent_few c.args.board formed c.lent_sizes-n.ensures).1
-
-pub is_finished-yes-requires : goal.is_finished-yes-requires
-is_finished-yes-requires c =
-    let formed : well_formed c.args.board ≡ true = sym c.well_formed-2.ensures ∙ c.if-not-well_formed.false in
-    let lent : Lent c.args.board c.first_sizes.result.now c.first_sizes-2.result.now = Lent-by c.args.board c.lent_sizes-n.ensures c.first_sizes.ensures c.first_sizes-2.ensures in
-    let b = c.args.board in
-    let q = Whole-is b formed in
-    (board_edition b formed, q.cells_long, is_Formed b.problem q.problem, board_lent b formed lent)
-
-pub returns-then-yes : goal.returns-then-yes
-unfolding leaf_on verdict
-returns-then-yes c =
-    let formed : well_formed c.args.board ≡ true = sym c.well_formed-2.ensures ∙ c.if-not-well_formed.false in
-    let lent : Lent c.args.board c.first_sizes.result.now c.first_sizes-2.result.now = Lent-by c.args.board c.lent_sizes-n.ensures c.first_sizes.ensures c.first_sizes-2.ensures in
-    let told : (t : Bool) → c.is_finished-yes.result ≡ t → let b = c.args.board in verdict t ≡ finished_of b = λ t f. let b = c.args.board in
-    finished_by b formed t (sym f ∙ (rw (board_kept b formed lent) at c.is_finished-yes.ensures)) in
-    told true c.if-yes.true
+    let e = c.in_ok-leaf.ensures.lent in
+    record { formed = ap problem_formed e.2 ∙ is_Formed b.problem (Whole-is b e.0).problem }
 
 pub returns : goal.returns
-unfolding leaf_on verdict
 returns c =
-    let formed : well_formed c.args.board ≡ true = sym c.well_formed-2.ensures ∙ c.if-not-well_formed.false in
-    let lent : Lent c.args.board c.first_sizes.result.now c.first_sizes-2.result.now = Lent-by c.args.board c.lent_sizes-n.ensures c.first_sizes.ensures c.first_sizes-2.ensures in
-    let told : (t : Bool) → c.is_finished-yes.result ≡ t → let b = c.args.board in verdict t ≡ finished_of b = λ t f. let b = c.args.board in
-    finished_by b formed t (sym f ∙ (rw (board_kept b formed lent) at c.is_finished-yes.ensures)) in
-    told false c.if-yes.false
+    let e = c.in_ok-leaf.ensures.lent in
+    finished_told c.args.board e.0 e.1 e.2 c.is_finished.result c.is_finished.ensures

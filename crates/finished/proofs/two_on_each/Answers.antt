@@ -1,36 +1,40 @@
--- `finished::two_on_each` meets its contract: `good` says of the arrows passed that two squares or more stand on each.
+-- `finished::two_on_each` meets its contract: `good` says of the arrows passed that two cells or more of each count.
 -- Assumes nothing.
 use Prim.Native.Nat.{◌<◌}
 use native.Mathlib.Omega.{arith}
 use mathlib.Core.Path.{◌≡◌, sym, ◌∙◌}
 use lib.ListN.{length, get_or, take}
 use lib.Seq.{length-take-le, get_or-take}
-use Rattle.grid.specs.Cells.{square}
 use Rattle.grid.proofs.ArrowSquares.{ahead, has_two, lacks_two}
+use Rattle.grid.proofs.SliceLaws.{slice_taken}
 use Rattle.form.proofs.Steps.{arrows_on, arrows_fail, arrows_end}
-use Rattle.finished.specs.Finished.{two_squares}
+use Rattle.finished.specs.Counting.{two_of}
 use Rattle.finished.proofs.two_on_each.Goals as goal
-use Rattle.finished.proofs.two_on_each.Goals.{else-squares_on-lt2, then-squares_on-lt2}
+use Rattle.finished.proofs.two_on_each.Goals.{else-count_on-lt2, then-count_on-lt2}
 
 pub loop-a-preserved : goal.loop-a-preserved
-unfolding two_squares
-loop-a-preserved c =
-    let cuts-length : length (take c.args.number c.args.ends.now) ≡ c.args.number = length-take-le c.args.number c.args.ends.now c.requires.1.ends_long in
-    let within : c.loop-a.a < c.args.number = omega arith in
-    let cells = c.args.cells.now in
-    let arrows = c.args.arrows.now in
-    let ends = c.args.ends.now in
-    let end : get_or (take c.args.number c.args.ends.now) c.loop-a.a 0 ≡ c.from-to.result = get_or-take c.args.number ends c.loop-a.a 0 within ∙ sym c.from-to.ensures in
-    let counted : c.squares_on.result ≡ ahead (square cells) arrows (get_or ends c.loop-a.a 0) c.loop-a.from = rw c.from-to.ensures at c.squares_on.ensures in
-    let lt : c.loop-a.a < length (take c.args.number c.args.ends.now) = omega (arith, cuts-length, within) in
-    elim c.if-squares_on-lt2.branch [
-      | then-squares_on-lt2 w ↦ rw w.good-is
-          (arrows_fail (two_squares cells) arrows (take c.args.number c.args.ends.now) c.loop-a.good c.loop-a.from c.loop-a.a lt c.loop-a.invariant (lacks_two (square cells) arrows ends c.args.number c.loop-a.from c.loop-a.a within counted w.if-squares_on-lt2.true))
-      | else-squares_on-lt2 w ↦ rw (w.good-is, ← end)
-          (arrows_on (two_squares cells) arrows (take c.args.number c.args.ends.now) c.loop-a.good c.loop-a.from c.loop-a.a lt c.loop-a.invariant (has_two (square cells) arrows ends c.args.number c.loop-a.from c.loop-a.a within counted w.if-squares_on-lt2.false))
-    ]
+loop-a-preserved g c =
+    let q = c.args.problem.now in
+    let a = c.loop-a.a in
+    let d = c.requires.drawn.1 in
+    let cuts-length : length (take q.count q.ends) ≡ q.count = length-take-le q.count q.ends d.ends_long in
+    let within : a < q.count = omega arith in
+    let end : get_or (take q.count q.ends) a 0 ≡ c.from-to.result = get_or-take q.count q.ends a 0 within ∙ sym c.from-to.ensures in
+    let lt : a < length (take q.count q.ends) = omega (arith, cuts-length, within) in (
+      λ test h.
+          let counted : c.count_on.result ≡ ahead test q.arrows (get_or q.ends a 0) c.loop-a.from = rw (c.from-to.ensures, slice_taken q.arrows c.loop-a.from (get_or q.ends a 0)) at c.count_on.ensures test h in
+          elim c.if-count_on-lt2.branch [
+            | then-count_on-lt2 w ↦ rw w.good-is
+                (arrows_fail (two_of test) q.arrows (take q.count q.ends) c.loop-a.good c.loop-a.from a lt (c.loop-a.invariant.0 test h) (lacks_two test q.arrows q.ends q.count c.loop-a.from a within counted w.if-count_on-lt2.true))
+            | else-count_on-lt2 w ↦ rw (w.good-is, ← end)
+                (arrows_on (two_of test) q.arrows (take q.count q.ends) c.loop-a.good c.loop-a.from a lt (c.loop-a.invariant.0 test h) (has_two test q.arrows q.ends q.count c.loop-a.from a within counted w.if-count_on-lt2.false))
+          ],
+      λ m. omega (arith, c.from-to.ensures, d.ends_rise a m),
+      omega (arith, c.from-to.ensures, d.ends_low a within),
+    )
 
 pub returns : goal.returns
-returns c =
-    let cuts-length : length (take c.args.number c.args.ends.now) ≡ c.args.number = length-take-le c.args.number c.args.ends.now c.requires.1.ends_long in
-    arrows_end (two_squares c.args.cells.now) c.args.arrows.now (take c.args.number c.args.ends.now) c.loop-a.good c.loop-a.from c.loop-a.a (omega (arith, cuts-length)) c.loop-a.invariant
+returns g c = λ test h.
+    let q = c.args.problem.now in
+    let cuts-length : length (take q.count q.ends) ≡ q.count = length-take-le q.count q.ends c.requires.drawn.1.ends_long in
+    arrows_end (two_of test) q.arrows (take q.count q.ends) c.loop-a.good c.loop-a.from c.loop-a.a (omega (arith, cuts-length)) (c.loop-a.invariant.0 test h)

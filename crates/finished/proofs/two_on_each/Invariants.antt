@@ -1,14 +1,20 @@
 -- What holds at each turn of the loop of `finished::two_on_each`.
 -- Assumes nothing.
+use Prim.Native.Nat.{ℕ, ◌≤◌, ◌<◌}
 use mathlib.Core.Path.{◌≡◌}
-use mathlib.Core.Bool.{◌&&◌}
-use lib.ListN.{take, drop}
+use mathlib.Core.Bool.{Bool, ◌&&◌}
+use lib.ListN.{get_or, take, drop}
 use Rattle.grid.specs.Lists.{all}
 use Rattle.record.specs.Problem.{arrows_from}
 use Rattle.groups.specs.Arrays.{lines_of}
-use Rattle.finished.specs.Finished.{two_squares}
+use Rattle.finished.specs.Counting.{Tells, two_of}
 use Rattle.finished.proofs.two_on_each.Given as goal
 
 abbrev pub invariant-loop-a : goal.invariant-loop-a
-invariant-loop-a l =
-    all (two_squares l.cells) (lines_of l.arrows l.ends l.number) ≡ (l.good && all (two_squares l.cells) (arrows_from l.arrows l.from (drop l.a (take l.number l.ends))))
+invariant-loop-a g l =
+    let q = l.problem in
+    ((test : ℕ → Bool)
+    → Tells (goal.F-post g l.counts) test
+    → all (two_of test) (lines_of q.arrows q.ends q.count) ≡ (l.good && all (two_of test) (arrows_from q.arrows l.from (drop l.a (take q.count q.ends)))))
+    × (l.a < q.count → l.from ≤ get_or q.ends l.a 0)
+    × (l.from ≤ 1024)

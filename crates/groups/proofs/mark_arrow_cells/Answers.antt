@@ -13,4 +13,4 @@ pub loop-k-preserved : goal.loop-k-preserved
 loop-k-preserved c =
     let k = c.loop-k.k in
     let v = c.loop-k.invariant in
-    rw c.from.ensures (Marks-next c.args.arrows.now k (omega (arith, c.requires.long)) (c.requires.cells k c.loop-k-test.true) v)
+    rw c.from.ensures (Marks-next c.args.arrows.now k (omega (arith, c.requires.line.long)) (c.requires.line.cells k c.loop-k-test.true) v)

@@ -13,7 +13,7 @@ loop-k-init c = λ p. Offers-none (omega (arith, c.requires.room))
 
 pub offer-waiting-requires : goal.offer-waiting-requires
 offer-waiting-requires c = record {
-  cell = beside_small c.loop-k.k (top c.requires c.from-i.ensures) c.in-Some.ensures;
+  cell = beside_small c.loop-k.k (top c.args.grid.tall c.args.grid.wide c.requires c.from-i.ensures) c.in-Some.ensures;
   seed = c.requires.seed;
   room = (c.loop-k.invariant (λ _. true)).room;
 }
@@ -27,4 +27,4 @@ loop-k-preserved c = λ p. Offers-more c.requires.seed (c.loop-k.invariant p) (e
 pub returns : goal.returns
 returns c =
     let all : c.loop-k.k ≡ 4 = omega (arith, c.loop-k.auto.k-end, c.loop-k-test.false) in
-    λ p. Spread-does c.requires c.from-i.ensures (rw all at (c.loop-k.invariant p))
+    λ p. Spread-does c.args.grid.tall c.args.grid.wide c.requires c.from-i.ensures (rw all at (c.loop-k.invariant p))

@@ -8,4 +8,4 @@ use Rattle.groups.proofs.spread.Given as goal
 
 abbrev pub invariant-loop-k : goal.invariant-loop-k
 invariant-loop-k l =
-    (p : ℕ → Bool) → Offers (sized l.h l.w) p l.s (l.y * l.w + l.x) l.k l.initial.labels l.initial.stack l.initial.waiting l.labels l.stack l.waiting
+    (p : ℕ → Bool) → Offers (sized l.grid.height l.grid.width) p l.s (l.y * l.grid.width + l.x) l.k l.initial.labels l.initial.stack l.initial.waiting l.labels l.stack l.waiting

@@ -1,13 +1,32 @@
--- `groups_replay::run_board` is safe: what it hands on is as long as its type says.
+-- `groups_replay::run_board` meets its contract: the leaf of the board, and its groups.
 -- Assumes nothing.
-use borrow.Author.Rules.{rules}
-use Prim.Native.Nat.{◌*◌, ◌≤◌}
-use native.Mathlib.Omega.{arith}
-use Rattle.groups_replay.proofs.BlockLaws.{area_low}
+use Prim.Native.Nat.{◌*◌}
+use lib.ListN.{take}
+use Rattle.grid.specs.Grid.{size}
+use Rattle.record.specs.Problem.{grid_of}
+use Rattle.board.specs.Decide.{area}
+use Rattle.board.specs.Kept.{cells_on}
+use Rattle.groups_replay.proofs.BoardLaws.{ok_told, board_told}
 use Rattle.groups_replay.proofs.run_board.Goals as goal
 
-pub potential_groups_differ-differs-requires : goal.potential_groups_differ-differs-requires
-potential_groups_differ-differs-requires c =
-    let p = c.args.b.problem in
-    let low : c.area-n.result ≤ p.height * p.width = omega (arith, c.area-n.ensures.0, area_low p.height p.width) in
-    search (rules, low)
+pub returns-then-list-at : goal.returns-then-list-at
+unfolding area size grid_of
+returns-then-list-at c =
+    let told = ok_told _ c.leaf.result c.in_ok-leaf.ensures.value c.leaf.ensures.lent in
+    let less = rw (c.size-n.ensures.value, c.grid-grid.ensures.0, c.grid-grid.ensures.1, told.2) at c.if-list-at.true in
+    λ _. less
+
+pub returns : goal.returns
+unfolding area size grid_of cells_on
+returns c =
+    let told = ok_told _ c.leaf.result c.in_ok-leaf.ensures.value c.leaf.ensures.lent in
+    let a = c.args in
+    let lent = c.in_ok-leaf.leaf in
+    let n = lent.problem.now.height * lent.problem.now.width in
+    let same = c.grid-grid.ensures in
+    let marks = rw c.arrow_total.ensures at c.mark_arrow_cells.ensures in (
+      rw (c.size-n.ensures.value, same.0, same.1, told.2) at c.if-list-at.false,
+      rw told.2 at (board_told lent.problem.now lent.arrows lent.tall lent.wide a.rounds (take n a.board.now.cells) marks n a.list.now a.at
+          c.potential_groups_differ-differs.result (rw (same.0, same.1) at c.potential_groups_differ-differs.ensures)
+          c.run_arrows-found.result (rw (c.size-n.ensures.value, same.0, same.1) at c.run_arrows-found.ensures) c.also.ensures),
+    )

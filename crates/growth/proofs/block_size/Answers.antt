@@ -5,4 +5,4 @@ use Rattle.growth.proofs.block_size.Goals as goal
 
 pub returns : goal.returns
 unfolding block_in
-returns c = λ kinds owners n blocks k. rw (c.from-2.ensures, c.from.ensures) (blocks c.args.f c.requires k)
+returns c = λ kinds owners n blocks k. rw (c.from-2.ensures, c.from.ensures) (blocks c.args.f c.requires.name k)

@@ -2,7 +2,9 @@
 -- Assumes nothing.
 use Rattle.growth.proofs.count_reach.Goals as goal
 
-pub returns-clause-answer : goal.returns-clause-answer
-returns-clause-answer c =
-    let a = c.args in
-    (λ lines cells held sizes own arrow. c.reach_size.ensures a.h a.w lines cells a.kinds.now a.owners.now _ c.requires.0 held sizes own (c.near_floats-count.ensures.answer lines cells held) arrow)
+pub returns : goal.returns
+returns c =
+    let i = c.args.linked.now.info in
+    λ lines cells held sizes own arrow.
+    c.reach_size.ensures i.grid.height i.grid.width lines cells i.kinds.now i.owners.now _ (record { tall = i.grid.tall; wide = i.grid.wide }) held sizes own
+    (c.near_floats-count.ensures.answer lines cells held) arrow

@@ -1,14 +1,15 @@
--- What holds at each turn of the loop of `growth::gap_count`, and what falls from turn to turn.
+-- What holds at each turn of the loop of `growth::gap_count`.
 -- Assumes nothing.
 use mathlib.Core.Path.{◌≡◌}
 use mathlib.Core.Bool.{false}
-use Prim.Native.Nat.{◌+◌, ◌-◌, ◌≤◌}
-use lib.Seq.{slice}
+use Prim.Native.Nat.{◌+◌, ◌≤◌}
+use lib.ListN.{drop}
 use Rattle.growth.specs.Growth.{most_apart}
 use Rattle.growth.proofs.gap_count.Given as goal
 
-abbrev pub invariant-loop-k : goal.invariant-loop-k
-invariant-loop-k l = (l.count + most_apart l.cells false (slice l.k l.to l.arrows) ≡ most_apart l.cells false (slice l.from l.to l.arrows)) × (l.count ≤ l.k)
-
-abbrev pub decreases-loop-k : goal.decreases-loop-k
-decreases-loop-k l = l.to - l.k
+-- what is counted and the most of what is left make the most of all
+abbrev pub invariant-loop-i : goal.invariant-loop-i
+invariant-loop-i l = record {
+  all : l.count + most_apart l.cells l.counted (drop l.i-index l.gap) ≡ most_apart l.cells false l.gap;
+  few : l.count ≤ l.i-index;
+}

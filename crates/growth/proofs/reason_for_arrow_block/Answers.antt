@@ -2,11 +2,10 @@
 -- Assumes nothing.
 use mathlib.Core.Path.{◌≡◌, subst, ◌∙◌}
 use mathlib.Core.List.{List}
-use Prim.Native.Nat.{ℕ}
+use Prim.Native.Nat.{ℕ, ◌+◌, ◌*◌}
 use native.Mathlib.Omega.{arith}
 use Rattle.literals.specs.Literals.{each}
 use Rattle.literals.specs.Inside.{Wrote}
-use Rattle.literals.proofs.BufferLaws.{wrote_length}
 use Rattle.literals.proofs.Pass.{cells_none, cells_count, cells_more}
 use Rattle.kinds.proofs.BlockArrays.{block_by}
 use Rattle.kinds.specs.Inside.{of_block}
@@ -14,24 +13,18 @@ use Rattle.growth.proofs.reason_for_arrow_block.Goals as goal
 
 pub loop-i-init : goal.loop-i-init
 loop-i-init c =
-    let a = c.args in
-    cells_none (of_block a.kinds.now a.owners.now a.f) 1 a.buffer.now
-
-pub push-count-requires : goal.push-count-requires
-push-count-requires c =
-    let few = cells_count (of_block c.args.kinds.now c.args.owners.now c.args.f) 1 c.loop-i.i c.loop-i.invariant in
-    let i< = c.loop-i-test.true in
-    let long = wrote_length c.loop-i.invariant (omega (arith, few, i<, c.requires.1)) in
-    (omega (arith, few, long, i<, c.requires.1), omega (arith, i<, c.requires.0), omega arith)
+    let i = c.args.info.now in
+    record { wrote = cells_none (of_block i.kinds.now i.owners.now c.args.f) 1 c.args.buffer.now; few = omega arith }
 
 pub loop-i-preserved : goal.loop-i-preserved
 loop-i-preserved c =
-    let i< = c.loop-i-test.true in
-    let p = of_block c.args.kinds.now c.args.owners.now c.args.f in
-    cells_more p 1 c.loop-i.i c.loop-i.invariant (omega (arith, cells_count p 1 c.loop-i.i c.loop-i.invariant, i<, c.requires.1)) c.in_block.ensures c.push-count.ensures.0 c.push-count.ensures.1
+    let i = c.args.info.now in
+    let p = of_block i.kinds.now i.owners.now c.args.f in
+    let wrote = cells_more p 1 c.loop-i.i c.loop-i.invariant.wrote (omega arith) c.in_block.ensures c.push-count.ensures.0 c.push-count.ensures.1 in
+    record { wrote = wrote; few = cells_count p 1 (c.loop-i.i + 1) wrote }
 
-pub returns : goal.returns
-returns c =
-    let e : c.loop-i.i ≡ c.args.n = omega (arith, c.loop-i-test.false, c.loop-i.auto.i-end) in
-    λ v k z. subst (λ (l : List ℕ). Wrote (each 1 l) c.args.buffer.now c.loop-i.buffer c.loop-i.count)
-    (block_by v c.args.f c.args.kinds.now c.args.owners.now c.loop-i.i k (e ∙ z)) c.loop-i.invariant
+pub returns-clause-wrote : goal.returns-clause-wrote
+returns-clause-wrote c =
+    let i = c.args.info.now in
+    let e : c.loop-i.i ≡ i.grid.height * i.grid.width = omega arith in
+    λ v k z. subst (λ (l : List ℕ). Wrote (each 1 l) c.args.buffer.now c.loop-i.buffer c.loop-i.count) (block_by v c.args.f i.kinds.now i.owners.now c.loop-i.i k (e ∙ z)) c.loop-i.invariant.wrote

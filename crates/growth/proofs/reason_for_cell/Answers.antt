@@ -13,11 +13,10 @@ use Rattle.growth.proofs.reason_for_cell.Goals as goal
 
 pub returns : goal.returns
 returns c =
-    let one-fits : c.push-one.result ≤ length c.args.buffer.now = omega (arith, c.push-one.ensures.0, c.requires.3) in
-    let first : let a = c.args in
-    Wrote (each 1 (a.i ∷ [])) a.buffer.now c.push-one.new.buffer c.push-one.result = rw (c.push-one.ensures.0, c.push-one.ensures.1) (cell_Wrote (Wrote-none c.args.buffer.now) c.args.i (omega (arith, c.requires.3))) in
     let a = c.args in
-    let low = one-fits in
+    let g = a.info.now.grid in
+    let one-fits : c.push-one.result ≤ length a.buffer.now = omega (arith, c.push-one.ensures.0) in
+    let first : Wrote (each 1 (a.i ∷ [])) a.buffer.now c.push-one.new.buffer c.push-one.result = rw (c.push-one.ensures.0, c.push-one.ensures.1) (cell_Wrote (Wrote-none a.buffer.now) a.i (omega arith)) in
     λ lines k.
-    Wrote-part first low
-    (rw (lent first low) at (fence-Wrote (c.reason_for_adjacent_floating_boundary-more.ensures lines k (c.compute_reach.ensures lines (take (a.h * a.w) a.cells.now) k).marked)))
+    Wrote-part first one-fits
+    (rw (lent first one-fits) at (fence-Wrote (c.reason_for_adjacent_floating_boundary-more.ensures lines k (c.compute_reach.ensures lines (take (g.height * g.width) a.info.now.cells.now) k).marked)))

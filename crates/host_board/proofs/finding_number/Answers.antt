@@ -1,6 +1,6 @@
 -- `host_board::finding_number` meets its contract: a count of literals is small enough for the number.
 -- Assumes nothing.
-use Prim.Native.Nat.{ℕ, ◌<◌}
+use Prim.Native.Nat.{◌<◌}
 use native.Mathlib.Omega.{arith}
 use mathlib.Core.Path.{◌≡◌, ap, ◌∙◌}
 use mir.Syntax.{w32}
@@ -11,7 +11,7 @@ use Rattle.host_board.proofs.finding_number.Goals as goal
 
 pub returned-requires : goal.returned-requires
 returned-requires c =
-    let few : c.unwrap_or.result < 2147483648 = rw c.unwrap_or.ensures (few_found c.in-Ok.found (λ k e. c.requires k (ap outcome_of c.in-Ok.is ∙ ap (λ o. Rattle.refusal.specs.Refusals.ok o) e))) in
+    let few : c.unwrap_or.result < 2147483648 = rw c.unwrap_or.ensures (few_found c.in-Ok.found _ (omega arith) (λ k e. c.requires k (ap outcome_of c.in-Ok.is ∙ ap (λ o. Rattle.refusal.specs.Refusals.ok o) e))) in
     λ x e. let z : c.unwrap_or.result ≡ x = cc in omega (arith, few, z)
 
 pub returns-in-Ok : goal.returns-in-Ok

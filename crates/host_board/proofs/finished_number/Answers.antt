@@ -1,19 +1,13 @@
 -- `host_board::finished_number` meets its contract.
 -- Assumes nothing.
-use mathlib.Core.Path.{sym, ap, ◌∙◌}
+use mathlib.Core.Path.{◌∙◌}
 use mir.Syntax.{w32}
 use mir.ValLaws.{to_z-of_z}
-use Rattle.host_board.specs.Lent.{verdict_number}
+use Rattle.finished.specs.Verdicts.{finished_of}
+use Rattle.host_board.proofs.LentLaws.{verdict_returned}
 use Rattle.host_board.proofs.finished_number.Goals as goal
 
-pub returns-in-Yes : goal.returns-in-Yes
-unfolding verdict_number
-returns-in-Yes c = ap verdict_number (sym c.in-Yes.is ∙ c.finished-verdict.ensures)
-
-pub returns-in-No : goal.returns-in-No
-unfolding verdict_number
-returns-in-No c = ap verdict_number (sym c.in-No.is ∙ c.finished-verdict.ensures)
-
-pub returns-in-Refused : goal.returns-in-Refused
-unfolding verdict_number
-returns-in-Refused c = to_z-of_z w32 c.negated.result (record { sfits = c.negated.type_inv }) ∙ c.negated.ensures ∙ ap verdict_number (sym c.in-Refused.is ∙ c.finished-verdict.ensures)
+pub returns : goal.returns
+returns c =
+    to_z-of_z w32 c.returned.result (record { sfits = c.returned.type_inv }) ∙ c.returned.ensures
+    ∙ verdict_returned c.finished.result c.map.result (finished_of c.args.board.now) c.map.ensures.cases c.finished.ensures

@@ -1,70 +1,62 @@
 -- `inconsistency::find_inconsistency` meets its contract: one search after the other, and the first reason that applies.
 -- Assumes nothing.
-use mathlib.Core.Path.{◌∙◌}
 use Rattle.grid.specs.Side.{sized}
-use Rattle.groups.specs.Arrays.{lines_of}
-use Rattle.literals.proofs.Findings.{nothing_found, found_first, found_next}
 use Rattle.grid.proofs.GridLaws.{size_most}
 use Rattle.groups.proofs.TableLaws.{table_few}
+use Rattle.literals.proofs.Findings.{found_first, found_next}
 use Rattle.inconsistency.specs.Reasons.{find_reason}
-use Rattle.inconsistency.proofs.Checks.{table_long, potentials_held, blocks_held, Arrows-counted, Fit-after}
+use Rattle.inconsistency.proofs.Checks.{lines, potentials_held, blocks_held, first_of, second_of, view_of}
 use Rattle.inconsistency.proofs.find_inconsistency.Goals as goal
 
-pub check_potential_groups-first-requires : goal.check_potential_groups-first-requires
-check_potential_groups-first-requires c =
-    let fit = c.requires.0 in
-    (fit, table_few (sized c.args.h c.args.w) _ c.compute_connected_components-potentials.ensures (size_most (sized c.args.h c.args.w) fit.tall fit.wide))
+pub check_potential_groups-first-requires-clause-names : goal.check_potential_groups-first-requires-clause-names
+check_potential_groups-first-requires-clause-names c =
+    let g = c.grid-grid.result in
+    table_few (sized g.height g.width) _ c.compute_connected_components.ensures (size_most (sized g.height g.width) g.tall g.wide)
 
 pub returns-in-Some : goal.returns-in-Some
 unfolding find_reason
 returns-in-Some c =
-    let a = c.args in
-    let fit = c.requires.0 in
-    let drawn = Arrows-counted c.requires.1 c.arrow_total-total.ensures in
-    found_first _ _ (c.in-Some.ensures (lines_of a.arrows.now a.ends.now a.number) (potentials_held a.h a.w fit.tall fit.wide drawn a.cells.now c.compute_connected_components-potentials.ensures c.mark_arrow_cells.ensures))
+    let lent = c.args.leaf.now in
+    let g = c.grid-grid.result in
+    let same = c.grid-grid.ensures in
+    let marks = rw c.arrow_total-total.ensures at c.mark_arrow_cells.ensures in
+    found_first _ _ (first_of lent g same c.args.cells.now (c.in-Some.ensures (lines lent g same) (potentials_held lent g same c.args.cells.now marks c.compute_connected_components.ensures)))
 
-pub check_blocks-second-requires : goal.check_blocks-second-requires
-check_blocks-second-requires c =
-    let a = c.args in
-    let fit = c.requires.0 in
-    let drawn = Arrows-counted c.requires.1 c.arrow_total-total.ensures in
-    let one = c.in_default.ensures (lines_of a.arrows.now a.ends.now a.number) (potentials_held a.h a.w fit.tall fit.wide drawn a.cells.now c.compute_connected_components-potentials.ensures c.mark_arrow_cells.ensures) in (
-      Fit-after fit (nothing_found _ one).1,
-      record { arrows = lines_of a.arrows.now a.ends.now a.number; squares = _; held = blocks_held a.h a.w fit.tall fit.wide drawn a.cells.now c.compute_connected_components-blocks.ensures c.mark_arrow_cells.ensures },
-    )
+pub check_blocks-second-requires-clause-blocked : goal.check_blocks-second-requires-clause-blocked
+check_blocks-second-requires-clause-blocked c =
+    let lent = c.args.leaf.now in
+    let g = c.grid-grid.result in
+    let same = c.grid-grid.ensures in
+    let marks = rw c.arrow_total-total.ensures at c.mark_arrow_cells.ensures in
+    record { arrows = lines lent g same; squares = c.compute_connected_components-2.new.self.squares; held = blocks_held lent g same c.args.cells.now marks c.compute_connected_components-2.ensures }
 
 pub returns-in-Some-second : goal.returns-in-Some-second
 unfolding find_reason
 returns-in-Some-second c =
-    let a = c.args in
-    let fit = c.requires.0 in
-    let drawn = Arrows-counted c.requires.1 c.arrow_total-total.ensures in
-    let one = c.in_default.ensures (lines_of a.arrows.now a.ends.now a.number) (potentials_held a.h a.w fit.tall fit.wide drawn a.cells.now c.compute_connected_components-potentials.ensures c.mark_arrow_cells.ensures) in
-    let blocks = blocks_held a.h a.w fit.tall fit.wide drawn a.cells.now c.compute_connected_components-blocks.ensures c.mark_arrow_cells.ensures in
-    found_next _ _ one (found_first _ _ (c.in-Some-second.ensures (lines_of a.arrows.now a.ends.now a.number) _ blocks))
+    let lent = c.args.leaf.now in
+    let g = c.grid-grid.result in
+    let same = c.grid-grid.ensures in
+    let marks = rw c.arrow_total-total.ensures at c.mark_arrow_cells.ensures in
+    let first = c.in_default.ensures (lines lent g same) (potentials_held lent g same c.args.cells.now marks c.compute_connected_components.ensures) in
+    let second = c.in-Some-second.ensures (lines lent g same) c.compute_connected_components-2.new.self.squares (blocks_held lent g same c.args.cells.now marks c.compute_connected_components-2.ensures) in
+    found_next _ _ (first_of lent g same c.args.cells.now first) (found_first _ _ (second_of lent g same c.args.cells.now second))
 
-pub check_arrows-requires : goal.check_arrows-requires
-check_arrows-requires c =
-    let a = c.args in
-    let fit = c.requires.0 in
-    let drawn = Arrows-counted c.requires.1 c.arrow_total-total.ensures in
-    let one = c.in_default.ensures (lines_of a.arrows.now a.ends.now a.number) (potentials_held a.h a.w fit.tall fit.wide drawn a.cells.now c.compute_connected_components-potentials.ensures c.mark_arrow_cells.ensures) in
-    let blocks = blocks_held a.h a.w fit.tall fit.wide drawn a.cells.now c.compute_connected_components-blocks.ensures c.mark_arrow_cells.ensures in
-    let two = c.in_default-second.ensures (lines_of a.arrows.now a.ends.now a.number) _ blocks in
-    let t = blocks.table in (
-      Fit-after fit ((nothing_found _ two).1 ∙ (nothing_found _ one).1),
-      record { drawn = c.requires.1.drawn; held = record { named = t.groups_are; counted = t.arrowed_are }; counted = t.squares_are },
-      c.requires.2,
-      record { groups_long = t.firsts_long; rows_long = table_long t (size_most (sized a.h a.w) fit.tall fit.wide); columns_long = t.arrowed_are.long },
-      c.requires.3,
-    )
+pub check_arrows-requires-clause-blocks : goal.check_arrows-requires-clause-blocks
+check_arrows-requires-clause-blocks c =
+    let lent = c.args.leaf.now in
+    let g = c.grid-grid.result in
+    let same = c.grid-grid.ensures in
+    let marks = rw c.arrow_total-total.ensures at c.mark_arrow_cells.ensures in
+    rw (same.0, same.1) at (blocks_held lent g same c.args.cells.now marks c.compute_connected_components-2.ensures).table
 
 pub returns : goal.returns
 unfolding find_reason
 returns c =
-    let a = c.args in
-    let fit = c.requires.0 in
-    let drawn = Arrows-counted c.requires.1 c.arrow_total-total.ensures in
-    let one = c.in_default.ensures (lines_of a.arrows.now a.ends.now a.number) (potentials_held a.h a.w fit.tall fit.wide drawn a.cells.now c.compute_connected_components-potentials.ensures c.mark_arrow_cells.ensures) in
-    let blocks = blocks_held a.h a.w fit.tall fit.wide drawn a.cells.now c.compute_connected_components-blocks.ensures c.mark_arrow_cells.ensures in
-    found_next _ _ one (found_next _ _ (c.in_default-second.ensures (lines_of a.arrows.now a.ends.now a.number) _ blocks) c.check_arrows.ensures)
+    let lent = c.args.leaf.now in
+    let g = c.grid-grid.result in
+    let same = c.grid-grid.ensures in
+    let marks = rw c.arrow_total-total.ensures at c.mark_arrow_cells.ensures in
+    let first = c.in_default.ensures (lines lent g same) (potentials_held lent g same c.args.cells.now marks c.compute_connected_components.ensures) in
+    let second = c.in_default-second.ensures (lines lent g same) c.compute_connected_components-2.new.self.squares (blocks_held lent g same c.args.cells.now marks c.compute_connected_components-2.ensures) in
+    found_next _ _ (first_of lent g same c.args.cells.now first)
+    (found_next _ _ (second_of lent g same c.args.cells.now second) (rw (← (view_of lent.problem.now c.args.cells.now)) c.check_arrows.ensures))

@@ -13,4 +13,4 @@ decreases-traverse_grid l = free l.owners.now
 
 abbrev pub invariant-loop-k : goal.invariant-loop-k
 invariant-loop-k l =
-    (p : ℕ → Bool) → So (p l.i) → Only p l.initial.owners → Turn (sized l.h l.w) p l.i l.name l.initial.owners l.owners (gathered (sized l.h l.w) l.i l.k)
+    (p : ℕ → Bool) → So (p l.i) → Only p l.initial.owners → Turn (sized l.grid.height l.grid.width) p l.i l.name l.initial.owners l.owners (gathered (sized l.grid.height l.grid.width) l.i l.k)

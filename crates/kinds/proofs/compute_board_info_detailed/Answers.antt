@@ -6,6 +6,6 @@ use Rattle.kinds.proofs.compute_board_info_detailed.Goals as goal
 
 pub returns : goal.returns
 returns c =
-    let fits = area c.args.h c.args.w c.requires.0.tall c.requires.0.wide in
-    λ arrows given. detailed c.args.h c.args.w fits c.args.cells.now c.args.blocks.now c.args.arrowed.now _ _ _
-    c.compute_cell_kinds.ensures.0 c.compute_cell_kinds.ensures.1 (c.name_floating_groups.ensures _ (none_named _ _ _ _ _ fits _ _ c.compute_cell_kinds.ensures.0 c.compute_cell_kinds.ensures.1)) arrows given
+    let fits = area c.args.grid.height c.args.grid.width c.args.grid.tall c.args.grid.wide in
+    λ arrows given. detailed c.args.grid.height c.args.grid.width fits c.args.cells.now c.args.blocks.now.labels c.args.blocks.now.arrowed _ _ _
+    c.compute_cell_kinds.ensures.kinds c.compute_cell_kinds.ensures.owners (c.name_floating_groups.ensures _ (none_named _ _ _ _ _ fits _ _ c.compute_cell_kinds.ensures.kinds c.compute_cell_kinds.ensures.owners)) arrows given

@@ -8,13 +8,13 @@ use Rattle.kinds.proofs.Filled.{codes_none, codes_more, owners_none, owners_more
 use Rattle.kinds.proofs.compute_cell_kinds.Goals as goal
 
 pub loop-i-init : goal.loop-i-init
-loop-i-init c = (c.requires.1 ∙ codes_none _ _ _ _, c.requires.2 ∙ owners_none _ _ _ _)
+loop-i-init c = (c.requires.0 ∙ codes_none _ _ _ _, c.requires.1 ∙ owners_none _ _ _ _)
 
 pub loop-i-preserved : goal.loop-i-preserved
 loop-i-preserved c =
     let v = c.loop-i.invariant in
     let i = c.loop-i.i in
-    let small : i < 1024 = omega (arith, area c.args.h c.args.w c.requires.0.tall c.requires.0.wide, c.loop-i-test.true) in (
+    let small : i < 1024 = omega (arith, area c.args.grid.height c.args.grid.width c.args.grid.tall c.args.grid.wide, c.loop-i-test.true) in (
       rw (c.code.ensures, c.kind_at-kind.ensures) (codes_more _ _ _ _ _ i small v.0),
       rw (c.owner.ensures, c.kind_at-kind.ensures) (owners_more _ _ _ _ _ i small v.1),
     )

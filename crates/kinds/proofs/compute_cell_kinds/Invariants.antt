@@ -6,4 +6,4 @@ use Rattle.kinds.specs.Inside.{codes_in, owners_in}
 use Rattle.kinds.proofs.compute_cell_kinds.Given as goal
 
 abbrev pub invariant-loop-i : goal.invariant-loop-i
-invariant-loop-i l = (l.kinds ≡ codes_in l.blocks l.arrowed (sized l.h l.w) l.cells l.i) × (l.owners ≡ owners_in l.blocks l.arrowed (sized l.h l.w) l.cells l.i)
+invariant-loop-i l = (l.kinds ≡ codes_in l.blocks.labels l.blocks.arrowed (sized l.grid.height l.grid.width) l.cells l.i) × (l.owners ≡ owners_in l.blocks.labels l.blocks.arrowed (sized l.grid.height l.grid.width) l.cells l.i)

@@ -3,35 +3,40 @@
 use Prim.Native.Nat.{ℕ}
 use mathlib.Core.List.{List}
 use native.Mathlib.Omega.{arith}
-use Rattle.grid.specs.Side.{sized}
+use Rattle.grid.specs.Side.{sized, InGrid}
 use Rattle.grid.proofs.SideLaws.{cell_small}
 use Rattle.grid.proofs.AroundLaws.{side_cell, side_at, side_off, sides_none, sides_all}
 use Rattle.kinds.specs.Inside.{Owned, arrow_blocks_at}
 use Rattle.kinds.specs.declared.Owner.TheVariants.{Nobody}
 use Rattle.kinds.proofs.Owners.{Owned-none}
 use Rattle.kinds.proofs.look_around.Goals as goal
-use Rattle.kinds.proofs.look_around.Goals.{in-Some, in_default}
+use Rattle.kinds.proofs.look_around.Goals.{Start, in-Some, in_default}
+
+-- the cell that is looked around
+here : (c : Start) → InGrid c.args.grid.height c.args.grid.width c.args.i
+here c = record { tall = c.args.grid.tall; wide = c.args.grid.wide; within = c.requires }
 
 pub loop-k-init : goal.loop-k-init
 loop-k-init c =
     let a = c.args in
-    sides_none (λ (l : List ℕ). Owned (arrow_blocks_at a.blocks.now a.arrowed.now l) Nobody) _ _ (Owned-none _ _)
+    sides_none (λ (l : List ℕ). Owned (arrow_blocks_at a.blocks.now.labels a.blocks.now.arrowed l) Nobody) _ _ (Owned-none _ _)
 
 pub meet_at-owner-requires : goal.meet_at-owner-requires
-meet_at-owner-requires c = cell_small (side_cell c.requires c.loop-k.k c.toward.result c.toward.ensures _ c.in-Some.is)
+meet_at-owner-requires c = cell_small (side_cell (here (goal.at.meet_at-owner-requires c).Start) c.loop-k.k c.toward.result c.toward.ensures _ c.in-Some.is)
 
 pub loop-k-preserved : goal.loop-k-preserved
 loop-k-preserved c =
     let a = c.args in
+    let cell = here (goal.at.loop-k-preserved c).Start in
     elim c.match-toward.branch [
-      | in-Some v ↦ side_at c.requires c.loop-k.k c.toward.result c.toward.ensures (λ (m : List ℕ). Owned (arrow_blocks_at a.blocks.now a.arrowed.now m) c.match-toward.owner) _ v.in-Some.is
+      | in-Some v ↦ side_at cell c.loop-k.k c.toward.result c.toward.ensures (λ (m : List ℕ). Owned (arrow_blocks_at a.blocks.now.labels a.blocks.now.arrowed m) c.match-toward.owner) _ v.in-Some.is
           (rw v.owner-is (v.meet_at-owner.ensures _ c.loop-k.invariant))
-      | in_default v ↦ side_off c.requires c.loop-k.k c.toward.result c.toward.ensures (λ (m : List ℕ). Owned (arrow_blocks_at a.blocks.now a.arrowed.now m) c.match-toward.owner) v.in_default.is
+      | in_default v ↦ side_off cell c.loop-k.k c.toward.result c.toward.ensures (λ (m : List ℕ). Owned (arrow_blocks_at a.blocks.now.labels a.blocks.now.arrowed m) c.match-toward.owner) v.in_default.is
           (rw v.owner-is c.loop-k.invariant)
     ]
 
 pub returns : goal.returns
 returns c =
     let a = c.args in
-    sides_all (λ (m : List ℕ). Owned (arrow_blocks_at a.blocks.now a.arrowed.now m) c.loop-k.owner) (sized a.h a.w) a.i c.loop-k.k
+    sides_all (λ (m : List ℕ). Owned (arrow_blocks_at a.blocks.now.labels a.blocks.now.arrowed m) c.loop-k.owner) (sized a.grid.height a.grid.width) a.i c.loop-k.k
     (omega (arith, c.loop-k.auto.k-end)) c.loop-k-test.false c.loop-k.invariant

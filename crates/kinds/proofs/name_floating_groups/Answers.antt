@@ -14,11 +14,11 @@ loop-i-preserved c =
     let t = c.loop-i-test.true in
     λ p u.
     let S = c.loop-i.invariant p u in
-    let small : c.loop-i.i < 1024 = omega (arith, area c.args.h c.args.w c.requires.tall c.requires.wide, t) in
+    let small : c.loop-i.i < 1024 = omega (arith, area c.args.grid.height c.args.grid.width c.args.grid.tall c.args.grid.wide, t) in
     elim c.if-owners-i-eq-UNNAMED.branch [ then-owners-i-eq-UNNAMED v ↦ rw v.owners-is (Sofar-more S (v.traverse_grid.ensures.walked p S.only)) | else-owners-i-eq-UNNAMED v ↦ rw v.owners-is (Sofar-more S (Walked-not small (λ _ e. v.if-owners-i-eq-UNNAMED.false e))) ]
 
 pub returns : goal.returns
 returns c =
     let v = c.loop-i.invariant in
-    let e : c.loop-i.i ≡ c.args.h * c.args.w = omega (arith, c.loop-i.auto.i-end, c.loop-i-test.false) in
+    let e : c.loop-i.i ≡ c.args.grid.height * c.args.grid.width = omega (arith, c.loop-i.auto.i-end, c.loop-i-test.false) in
     λ p u. rw e at (v p u)

@@ -4,4 +4,4 @@ use Rattle.reach.proofs.NearLaws.{Sizes-none}
 use Rattle.near.proofs.count_cells.Goals as goal
 
 pub loop-i-init : goal.loop-i-init
-loop-i-init c = rw c.requires.1 (Sizes-none _ _)
+loop-i-init c = rw c.requires.fresh.1 (Sizes-none _ _)

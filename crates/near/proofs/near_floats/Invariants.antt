@@ -6,7 +6,9 @@ use Rattle.reach.proofs.NearLaws.{Nearby}
 use Rattle.near.proofs.near_floats.Given as goal
 
 abbrev pub invariant-loop-i : goal.invariant-loop-i
-invariant-loop-i l = Nearby l.kinds l.owners (sized l.h l.w) (l.h * l.w) l.f l.i l.near l.groups l.total
+invariant-loop-i l =
+    Nearby l.linked.info.kinds.now l.linked.info.owners.now (sized l.linked.info.grid.height l.linked.info.grid.width) (l.linked.info.grid.height * l.linked.info.grid.width)
+    l.f l.i l.floats.near.now l.floats.groups.now l.total
 
 abbrev pub decreases-loop-i : goal.decreases-loop-i
 decreases-loop-i l = 1024 - l.i

@@ -20,4 +20,4 @@ pub returns : goal.returns
 returns c =
     let all : c.loop-k.k ≡ c.args.count = omega (arith, c.loop-k.auto.k-end, c.loop-k-test.false) in
     λ h w arrows cells kinds owners near limits held S Q N block.
-    (rw all at c.loop-k.invariant.1) ∙ reach_sum h w limits arrows cells kinds owners held c.args.f near c.args.groups.now c.args.count N block c.requires.0 c.args.sizes.now c.args.squares.now S Q
+    (rw all at c.loop-k.invariant.1) ∙ reach_sum h w limits arrows cells kinds owners held c.args.f near c.args.groups.now c.args.count N block c.requires.names.0 c.args.sizes.now c.args.squares.now S Q

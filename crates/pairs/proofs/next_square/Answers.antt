@@ -1,24 +1,26 @@
--- `pairs::next_square` meets its contract: no place from `from` up to k holds a square.
+-- `pairs::next_square` meets its contract: no place before the one found holds a square.
 -- Assumes nothing.
 use native.Mathlib.Omega.{arith}
-use borrow.Author.Count.{below_more}
-use borrow.Author.Tests.{eq-eqb, ne_eqb}
-use lib.ListN.{get_or}
+use Rattle.std.proofs.Common.{rules, tests, ◌≡◌, ℕ, ◌≤◌, ◌<◌, false, true, List, get_or, Option, None, Some, MatchOption}
+use Rattle.std.proofs.lemmas.Iterator.{first_from_Range}
+use Rattle.std.proofs.lemmas.List.{get_or_read}
 use Rattle.grid.specs.Cells.{square}
+use Rattle.growth.specs.Pairs.{NextSquare}
 use Rattle.pairs.proofs.next_square.Goals as goal
 
-pub returns-then-cells-from-eq1 : goal.returns-then-cells-from-eq1
-unfolding square
-returns-then-cells-from-eq1 c = record {
-  low = omega arith;
-  high = omega (arith, c.loop-k-test.true);
-  none = λ j l h. c.loop-k.invariant j h l;
-  some = λ _. eq-eqb (get_or c.args.cells.now (get_or c.args.arrows.now c.loop-k.k 0) 0) 1 (rw (← c.from.ensures) c.if-cells-from-eq1.true);
-}
-
-pub loop-k-preserved : goal.loop-k-preserved
-unfolding square
-loop-k-preserved c = below_more _ c.loop-k.k c.loop-k.invariant (λ _. ne_eqb (get_or c.args.cells.now (get_or c.args.arrows.now c.loop-k.k 0) 0) 1 (rw (← c.from.ensures) c.if-cells-from-eq1.false))
+next : (cells arrows : List ℕ) (from to : ℕ) (r : Option ℕ) → from ≤ to
+    → MatchOption r ((k : ℕ) → from ≤ k → k < to → square cells (get_or arrows k 0) ≡ false)
+    (λ i. (from ≤ i) × (i < to) × (square cells (get_or arrows i 0) ≡ true) × ((k : ℕ) → from ≤ k → k < i → square cells (get_or arrows k 0) ≡ false))
+    → MatchOption r (NextSquare cells arrows from to to) (λ k. (k < to) × NextSquare cells arrows from to k)
+next cells arrows from to None order x = record { low = order; high = omega arith; none = x; some = λ h. absurd (omega (arith, h)) }
+next cells arrows from to (Some i) order x = (x.1, record { low = x.0; high = omega (arith, x.1); none = x.3; some = λ _. x.2 })
 
 pub returns : goal.returns
-returns c = record { low = c.requires.0; high = omega arith; none = λ j l h. c.loop-k.invariant j (omega (arith, h, c.loop-k-test.false)) l; some = λ h. absurd (omega (arith, h)) }
+unfolding square
+returns c =
+    let cells = c.args.cells.now in
+    let arrows = c.args.arrows.now in
+    next cells arrows _ _ _ c.requires.order
+    (first_from_Range _ _ _ _ (λ k. square cells (get_or arrows k 0) ≡ true) (λ k. square cells (get_or arrows k 0) ≡ false) c.find.ensures.ran
+    (λ x q k. grind (arith, tests, get_or_read))
+    (λ x q k. (search rules, grind (arith, tests, get_or_read))))

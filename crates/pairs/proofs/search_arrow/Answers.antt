@@ -1,54 +1,48 @@
 -- `pairs::search_arrow` meets its contract: the pairs before `last` give no reason, so that the first from there on is the first of all.
 -- Assumes nothing.
-use Prim.Native.Nat.{◌≤◌, ◌<◌}
 use native.Mathlib.Omega.{arith}
 use mathlib.Core.Path.{refl, ◌∙◌}
-use lib.Arith.{lt_of_le-ne}
-use lib.ListN.{length}
 use Rattle.literals.proofs.Findings.{found_same, found_none, nothing_found}
-use Rattle.growth.proofs.PairNames.{Scene-part}
+use Rattle.growth.proofs.PairNames.{Stretch-part}
 use Rattle.pairs.proofs.PairSearch.{search_start, search_done, search_more, search_found, search_end}
 use Rattle.pairs.proofs.search_arrow.Goals as goal
 
-pub loop-last-init : goal.loop-last-init
-loop-last-init c =
-    let long : c.args.to ≤ length c.args.arrows.now = omega (arith, c.requires.1.short, c.requires.1.places.long) in
-    let n = c.next_square-last.ensures in
-    record { low = n.low; high = n.high; first = n.some; work = c.requires.3; same = refl; passed = λ lines k. search_start c.args.stage k long n }
+pub returns-in_err-last : goal.returns-in_err-last
+returns-in_err-last g c =
+    let finds = g.R.PairReason.finds c.args.by.now in
+    λ lines k. rw (c.from_residual.ensures, search_start finds k (omega arith) c.in_err-last.ensures ∙ search_done finds k (omega arith) c.args.places.end (omega arith)) (found_none c.args.buffer.now)
 
-pub returns-then-cur-to-clause-answer : goal.returns-then-cur-to-clause-answer
-returns-then-cur-to-clause-answer c =
-    let long : c.args.to ≤ length c.args.arrows.now = omega (arith, c.requires.1.short, c.requires.1.places.long) in
-    (λ lines k.
-    rw (c.loop-last.invariant.passed lines k ∙ search_end c.args.stage k long c.loop-last.last c.loop-last.invariant.low c.loop-last-test.true (c.loop-last.invariant.first c.loop-last-test.true) c.next_square-cur.ensures c.if-cur-to.true, c.loop-last.invariant.same)
-    (found_none c.args.buffer.now))
+pub loop-cur-init : goal.loop-cur-init
+loop-cur-init g c =
+    let finds = g.R.PairReason.finds c.args.by.now in
+    let next = c.in_ok-last.ensures in
+    record { low = next.1.low; within = next.0; first = next.1.some next.0; same = refl; passed = λ lines k. search_start finds k (omega arith) next.1 }
 
-pub loop-last-preserved : goal.loop-last-preserved
-loop-last-preserved c =
-    let more : c.next_square-cur.result < c.args.to = lt_of_le-ne c.next_square-cur.ensures.high c.if-cur-to.false in
-    let long : c.args.to ≤ length c.args.arrows.now = omega (arith, c.requires.1.short, c.requires.1.places.long) in
-    let n = c.next_square-cur.ensures in
-    let within = c.loop-last-test.true in
+pub returns-in-Some-check : goal.returns-in-Some-check
+returns-in-Some-check g c =
+    let finds = g.R.PairReason.finds c.args.by.now in
+    let i = c.loop-cur.invariant in
+    let next = c.in-Some.ensures in
+    λ lines k. rw (i.passed lines k)
+    (found_same i.same (search_found finds k (omega arith) c.loop-cur.last i.low i.within i.first next.1 next.0
+    (c.in-Some-check.ensures lines (Stretch-part k i.low (omega (arith, next.0))))))
+
+pub loop-cur-preserved : goal.loop-cur-preserved
+loop-cur-preserved g c =
+    let finds = g.R.PairReason.finds c.args.by.now in
+    let i = c.loop-cur.invariant in
+    let next = c.in-Some.ensures in
+    let line = c.requires.line in
     record {
-      low = omega (arith, n.low, c.loop-last.invariant.low);
-      high = n.high;
-      first = n.some;
-      work = c.check_pair-finding.ensures.work;
-      same = (nothing_found _ ((c.in_default.ensures.answer c.requires.1.lines (Scene-part c.requires.1.scene c.loop-last.invariant.low (omega (arith, more)))))).1 ∙ c.loop-last.invariant.same;
-      passed = λ lines k. c.loop-last.invariant.passed lines k
-          ∙ search_more c.args.stage k long c.loop-last.last c.loop-last.invariant.low within (c.loop-last.invariant.first within) n more ((c.in_default.ensures.answer lines (Scene-part k c.loop-last.invariant.low (omega (arith, more)))));
+      low = omega (arith, i.low, next.1.low);
+      within = next.0;
+      first = next.1.some next.0;
+      same = (nothing_found _ (c.in_default-check.ensures line.lines (Stretch-part line.stretch i.low (omega (arith, next.0))))).1 ∙ i.same;
+      passed = λ lines k. i.passed lines k ∙ search_more finds k (omega arith) c.loop-cur.last i.low i.within i.first next.1 next.0 (c.in_default-check.ensures lines (Stretch-part k i.low (omega (arith, next.0))));
     }
 
-pub returns-in-Some-clause-answer : goal.returns-in-Some-clause-answer
-returns-in-Some-clause-answer c =
-    let long : c.args.to ≤ length c.args.arrows.now = omega (arith, c.requires.1.short, c.requires.1.places.long) in
-    let more : c.next_square-cur.result < c.args.to = lt_of_le-ne c.next_square-cur.ensures.high c.if-cur-to.false in
-    let within = c.loop-last-test.true in
-    (λ lines k.
-    rw (c.loop-last.invariant.passed lines k) (found_same c.loop-last.invariant.same (search_found c.args.stage k long c.loop-last.last c.loop-last.invariant.low within (c.loop-last.invariant.first within) c.next_square-cur.ensures more
-    ((c.in-Some.ensures.answer lines (Scene-part k c.loop-last.invariant.low (omega (arith, more))))))))
-
-pub returns-clause-answer : goal.returns-clause-answer
-returns-clause-answer c =
-    let long : c.args.to ≤ length c.args.arrows.now = omega (arith, c.requires.1.short, c.requires.1.places.long) in
-    (λ lines k. rw (c.loop-last.invariant.passed lines k ∙ search_done c.args.stage k long c.loop-last.last c.loop-last-test.false, c.loop-last.invariant.same) (found_none c.args.buffer.now))
+pub returns : goal.returns
+returns g c =
+    let finds = g.R.PairReason.finds c.args.by.now in
+    let i = c.loop-cur.invariant in
+    λ lines k. rw (i.passed lines k ∙ search_end finds k (omega arith) c.loop-cur.last i.low i.within i.first c.in_default.ensures refl, i.same) (found_none c.args.buffer.now)

@@ -6,24 +6,25 @@ use mathlib.Core.Bool.{true}
 use mathlib.Core.List.{List}
 use lib.ListN.{get_or}
 use Rattle.grid.specs.Cells.{square}
-use Rattle.pairs.specs.declared.Stage.{Stage}
-use Rattle.growth.specs.Pairs.{Scene}
-use Rattle.shift.specs.Shift.{Work}
+use Rattle.groups.specs.Arrows.{Pair}
+use Rattle.kinds.specs.Kinds.{View}
+use Rattle.literals.specs.Literals.{Found}
+use Rattle.growth.specs.Pairs.{Stretch}
 use Rattle.pairs.proofs.PairSearch.{ahead}
 use Rattle.pairs.proofs.search_arrow.Given as goal
 
--- the pairs before `last` give no reason, and the buffer is as it was
-pub record Amid (stage : Stage) (cells arrows kinds owners : List ℕ) (h w from to : ℕ) (groups rows columns buffer₀ buffer : List ℕ) (last : ℕ) : Type 0 where
+-- the pairs before `last`, which holds a square, give no reason, and the buffer is as it was
+pub record Amid (finds : View → Pair → Found) (cells arrows kinds owners : List ℕ) (h w from to : ℕ) (buffer₀ buffer : List ℕ) (last : ℕ) : Type 0 where
   pub low : from ≤ last
-  pub high : last ≤ to
-  pub first : last < to → square cells (get_or arrows last 0) ≡ true
-  pub work : Work groups rows columns
+  pub within : last < to
+  pub first : square cells (get_or arrows last 0) ≡ true
   pub same : buffer ≡ buffer₀
-  pub passed : (lines : List (List ℕ)) → Scene h w lines cells arrows kinds owners from to → ahead stage h w lines cells arrows to from ≡ ahead stage h w lines cells arrows to last
+  pub passed : (lines : List (List ℕ)) → Stretch h w lines cells arrows kinds owners from to → ahead finds h w lines cells arrows to from ≡ ahead finds h w lines cells arrows to last
 
-abbrev pub invariant-loop-last : goal.invariant-loop-last
-invariant-loop-last l =
-    Amid l.stage l.cells l.arrows l.kinds l.owners l.h l.w l.from l.to l.groups l.rows l.columns l.initial.buffer l.buffer l.last
+abbrev pub invariant-loop-cur : goal.invariant-loop-cur
+invariant-loop-cur g l =
+    let info = l.scene.linked.info in
+    Amid (g.R.PairReason.finds l.by) l.cells l.arrows info.kinds.now info.owners.now info.grid.height info.grid.width l.fn.places.start l.end l.initial.buffer l.buffer l.last
 
-abbrev pub decreases-loop-last : goal.decreases-loop-last
-decreases-loop-last l = l.to - l.last
+abbrev pub decreases-loop-cur : goal.decreases-loop-cur
+decreases-loop-cur g l = l.end - l.last

@@ -1,59 +1,43 @@
 -- `pairs::search_arrows` meets its contract: the arrows passed give no reason, so that the first from there on is the first of all.
 -- Assumes nothing.
 use Prim.Native.Nat.{◌*◌}
-use mathlib.Core.Path.{subst, ◌∙◌}
-use lib.ListN.{get_or, take}
-use lib.Seq.{slice}
-use Rattle.groups.specs.Arrows.{pairs}
+use mathlib.Core.Path.{◌∙◌}
+use lib.ListN.{take}
 use Rattle.groups.specs.Arrays.{lines_of}
-use Rattle.growth.specs.Pairs.{view_on, Scene}
-use Rattle.pairs.specs.Stages.{reason_at}
-use Rattle.literals.specs.Literals.{first_found_of}
-use Rattle.literals.specs.Inside.{FoundAs}
+use Rattle.growth.specs.Pairs.{view_on}
 use Rattle.literals.proofs.Findings.{found_same, found_none, nothing_found}
-use Rattle.pairs.proofs.PairSearch.{rest_end, rest_more, rest_found, sub_more, next_Scene, next_Line}
+use Rattle.pairs.proofs.PairSearch.{rest_end, rest_more, rest_found, sub_more, next_Stretch, next_Line}
 use Rattle.pairs.proofs.search_arrows.Goals as goal
 
-pub search_arrow-finding-requires : goal.search_arrow-finding-requires
-search_arrow-finding-requires c = (
-  record { tall = c.requires.0.tall; wide = c.requires.0.wide; room = rw c.loop-a.invariant.same c.requires.0.room },
-  rw c.from-to.ensures (next_Line c.requires.1 c.loop-a.from c.loop-a.a c.loop-a-test.true c.loop-a.invariant.sub (c.loop-a.invariant.rise c.loop-a-test.true)),
-  c.requires.2,
-  c.loop-a.invariant.work,
-)
+pub search_arrow-requires-clause-line : goal.search_arrow-requires-clause-line
+search_arrow-requires-clause-line g c =
+    let i = c.loop-a.invariant in
+    next_Line c.requires.whole c.loop-a.from c.loop-a.a c.loop-a-test.true i.sub (i.rise c.loop-a-test.true)
 
 pub loop-a-preserved : goal.loop-a-preserved
-loop-a-preserved c =
-    let scene : Scene c.args.h c.args.w (lines_of c.args.arrows.now c.args.ends.now c.args.number) c.args.cells.now c.args.arrows.now c.args.kinds.now c.args.owners.now c.loop-a.from c.from-to.result = rw c.from-to.ensures (next_Scene c.requires.1 c.loop-a.from c.loop-a.a c.loop-a-test.true c.loop-a.invariant.sub (c.loop-a.invariant.rise c.loop-a-test.true)) in
-    let found : FoundAs (first_found_of (reason_at c.args.stage (view_on c.args.h c.args.w (lines_of c.args.arrows.now c.args.ends.now c.args.number) c.args.cells.now)) (pairs (take (c.args.h * c.args.w) c.args.cells.now) (slice c.loop-a.from (get_or c.args.ends.now c.loop-a.a 0) c.args.arrows.now))) c.loop-a.buffer
-    c.search_arrow-finding.new.buffer c.search_arrow-finding.result = subst
-    (λ to. FoundAs (first_found_of (reason_at c.args.stage (view_on c.args.h c.args.w (lines_of c.args.arrows.now c.args.ends.now c.args.number) c.args.cells.now)) (pairs (take (c.args.h * c.args.w) c.args.cells.now) (slice c.loop-a.from to c.args.arrows.now))) c.loop-a.buffer
-    c.search_arrow-finding.new.buffer c.search_arrow-finding.result)
-    c.from-to.ensures
-    (c.search_arrow-finding.ensures.answer (lines_of c.args.arrows.now c.args.ends.now c.args.number) scene) in
+loop-a-preserved g c =
+    let whole = c.requires.whole in
+    let i = c.loop-a.invariant in
     let within = c.loop-a-test.true in
-    let end = c.from-to.ensures in
-    let none = subst (FoundAs _ _ _) c.in_default.is found in
+    let none = c.in_default.ensures _ (next_Stretch whole c.loop-a.from c.loop-a.a within i.sub (i.rise within)) in
     record {
-      rise = λ h. rw end (c.requires.1.drawn.ends_rise c.loop-a.a h);
-      work = c.search_arrow-finding.ensures.work;
-      same = (nothing_found _ none).1 ∙ c.loop-a.invariant.same;
-      sub = rw end (sub_more c.requires.1 c.loop-a.from c.loop-a.a within c.loop-a.invariant.sub);
-      passed = rw end (c.loop-a.invariant.passed ∙ rest_more (reason_at c.args.stage (view_on c.args.h c.args.w (lines_of c.args.arrows.now c.args.ends.now c.args.number) c.args.cells.now)) (take (c.args.h * c.args.w) c.args.cells.now) c.args.arrows.now c.args.ends.now c.args.number c.loop-a.from c.loop-a.a within c.requires.1.drawn.ends_long none);
+      rise = λ h. whole.drawn.ends_rise c.loop-a.a h;
+      same = (nothing_found _ none).1 ∙ i.same;
+      sub = sub_more whole c.loop-a.from c.loop-a.a within i.sub;
+      passed = i.passed ∙ rest_more _ _ c.args.problem.now.arrows c.args.problem.now.ends c.args.problem.now.count c.loop-a.from c.loop-a.a within whole.drawn.ends_long none;
     }
 
-pub returns-in-Some-clause-found_as : goal.returns-in-Some-clause-found_as
-returns-in-Some-clause-found_as c =
-    let scene : Scene c.args.h c.args.w (lines_of c.args.arrows.now c.args.ends.now c.args.number) c.args.cells.now c.args.arrows.now c.args.kinds.now c.args.owners.now c.loop-a.from c.from-to.result = rw c.from-to.ensures (next_Scene c.requires.1 c.loop-a.from c.loop-a.a c.loop-a-test.true c.loop-a.invariant.sub (c.loop-a.invariant.rise c.loop-a-test.true)) in
-    let found : FoundAs (first_found_of (reason_at c.args.stage (view_on c.args.h c.args.w (lines_of c.args.arrows.now c.args.ends.now c.args.number) c.args.cells.now)) (pairs (take (c.args.h * c.args.w) c.args.cells.now) (slice c.loop-a.from (get_or c.args.ends.now c.loop-a.a 0) c.args.arrows.now))) c.loop-a.buffer
-    c.search_arrow-finding.new.buffer c.search_arrow-finding.result = subst
-    (λ to. FoundAs (first_found_of (reason_at c.args.stage (view_on c.args.h c.args.w (lines_of c.args.arrows.now c.args.ends.now c.args.number) c.args.cells.now)) (pairs (take (c.args.h * c.args.w) c.args.cells.now) (slice c.loop-a.from to c.args.arrows.now))) c.loop-a.buffer
-    c.search_arrow-finding.new.buffer c.search_arrow-finding.result)
-    c.from-to.ensures
-    (c.search_arrow-finding.ensures.answer (lines_of c.args.arrows.now c.args.ends.now c.args.number) scene) in
-    let some = subst (FoundAs _ _ _) c.in-Some.is found in rw c.loop-a.invariant.passed (found_same c.loop-a.invariant.same (rest_found (reason_at c.args.stage (view_on c.args.h c.args.w (lines_of c.args.arrows.now c.args.ends.now c.args.number) c.args.cells.now)) (take (c.args.h * c.args.w) c.args.cells.now) c.args.arrows.now c.args.ends.now c.args.number c.loop-a.from c.loop-a.a c.loop-a-test.true c.requires.1.drawn.ends_long some))
+pub returns-in-Some : goal.returns-in-Some
+returns-in-Some g c =
+    let whole = c.requires.whole in
+    let i = c.loop-a.invariant in
+    let within = c.loop-a-test.true in
+    let some = c.in-Some.ensures _ (next_Stretch whole c.loop-a.from c.loop-a.a within i.sub (i.rise within)) in
+    rw i.passed (found_same i.same (rest_found _ _ c.args.problem.now.arrows c.args.problem.now.ends c.args.problem.now.count c.loop-a.from c.loop-a.a within whole.drawn.ends_long some))
 
-pub returns-clause-found_as : goal.returns-clause-found_as
-returns-clause-found_as c =
-    let n = c.args in
-    rw (c.loop-a.invariant.passed ∙ rest_end (reason_at c.args.stage (view_on c.args.h c.args.w (lines_of c.args.arrows.now c.args.ends.now c.args.number) c.args.cells.now)) (take (n.h * n.w) n.cells.now) n.arrows.now n.ends.now n.number c.loop-a.from c.loop-a.a c.loop-a-test.false, c.loop-a.invariant.same) (found_none n.buffer.now)
+pub returns : goal.returns
+returns g c =
+    let info = c.args.scene.now.linked.info in
+    let p = c.args.problem.now in
+    let i = c.loop-a.invariant in
+    rw (i.passed ∙ rest_end (g.R.PairReason.finds c.args.by.now (view_on info.grid.height info.grid.width (lines_of p.arrows p.ends p.count) info.cells.now)) (take (info.grid.height * info.grid.width) info.cells.now) p.arrows p.ends p.count c.loop-a.from c.loop-a.a c.loop-a-test.false, i.same) (found_none c.args.buffer.now)

@@ -6,4 +6,4 @@ use Rattle.paths.specs.Ends.{arrow_cells_from}
 use Rattle.paths.proofs.next_arrow_cell.Given as goal
 
 abbrev pub invariant-loop-i : goal.invariant-loop-i
-invariant-loop-i l = get_or (arrow_cells_from l.blocks l.onarrow l.n l.f l.from) 0 l.n ≡ get_or (arrow_cells_from l.blocks l.onarrow l.n l.f l.i) 0 l.n
+invariant-loop-i l = get_or (arrow_cells_from l.blocks.labels l.onarrow l.n l.f l.from) 0 l.n ≡ get_or (arrow_cells_from l.blocks.labels l.onarrow l.n l.f l.i) 0 l.n

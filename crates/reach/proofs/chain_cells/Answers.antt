@@ -7,7 +7,7 @@ use Rattle.reach.proofs.ChainLaws.{chains_none}
 use Rattle.reach.proofs.chain_cells.Goals as goal
 
 pub loop-i-init : goal.loop-i-init
-loop-i-init c = rw (c.requires.1, c.requires.2) (chains_none c.args.owners.now c.args.n c.requires.0)
+loop-i-init c = rw (c.requires.fresh.1, c.requires.fresh.2) (chains_none c.args.owners.now c.args.n c.requires.fresh.0)
 
 pub loop-i-preserved : goal.loop-i-preserved
 loop-i-preserved c =

@@ -1,8 +1,10 @@
 -- `reach::mark_floats_beside` meets its contract: the floating groups of the neighbours in the directions passed are marked.
 -- Assumes nothing.
+use Prim.Native.Nat.{ℕ, ◌*◌, ◌<◌}
 use native.Mathlib.Omega.{arith}
 use borrow.Author.Tests.{ne_eqb}
-use Rattle.grid.specs.Side.{sized}
+use Rattle.grid.specs.Side.{sized, InGrid}
+use Rattle.grid.specs.declared.Grid.{Grid}
 use Rattle.grid.proofs.SideLaws.{cell_small}
 use Rattle.grid.proofs.AroundLaws.{side_cell, side_at, side_off, sides_none, sides_all}
 use Rattle.reach.proofs.Counting.{near_off, near_none, near_more, near_all}
@@ -10,26 +12,30 @@ use Rattle.reach.proofs.mark_floats_beside.Goals as goal
 use Rattle.reach.proofs.mark_floats_beside.Invariants.{Near}
 use Rattle.reach.proofs.mark_floats_beside.Goals.{in-Some, in_default}
 
-pub returns-then-kinds-i-ne-ARROW_BLOCK_NEIGHBOR : goal.returns-then-kinds-i-ne-ARROW_BLOCK_NEIGHBOR
-returns-then-kinds-i-ne-ARROW_BLOCK_NEIGHBOR c = λ t q. near_off c.args.kinds.now c.args.owners.now c.args.f t c.args.i _ (rw (ne_eqb _ 2 c.if-kinds-i-ne-ARROW_BLOCK_NEIGHBOR.true)) q
+-- a cell of a grid, as the laws of the four neighbours take it
+cell : (g : Grid) (i : ℕ) → i < g.height * g.width → InGrid g.height g.width i
+cell g i h = record { tall = g.tall; wide = g.wide; within = h }
 
-pub returns-then-owners-i : goal.returns-then-owners-i
-returns-then-owners-i c = λ t q. near_off c.args.kinds.now c.args.owners.now c.args.f t c.args.i _ (rw (c.if-kinds-i-ne-ARROW_BLOCK_NEIGHBOR.false, ne_eqb _ _ c.if-owners-i.true)) q
+pub returns-then-info-i-ne-ARROW_BLOCK_NEIGHBOR : goal.returns-then-info-i-ne-ARROW_BLOCK_NEIGHBOR
+returns-then-info-i-ne-ARROW_BLOCK_NEIGHBOR c = λ t q. near_off c.args.info.now.kinds.now c.args.info.now.owners.now c.args.f t c.args.i _ (rw (ne_eqb _ 2 c.if-info-i-ne-ARROW_BLOCK_NEIGHBOR.true)) q
+
+pub returns-then-info-i : goal.returns-then-info-i
+returns-then-info-i c = λ t q. near_off c.args.info.now.kinds.now c.args.info.now.owners.now c.args.f t c.args.i _ (rw (c.if-info-i-ne-ARROW_BLOCK_NEIGHBOR.false, ne_eqb _ _ c.if-info-i.true)) q
 
 pub loop-k-init : goal.loop-k-init
-loop-k-init c = λ t. sides_none (Near c.args.kinds.now c.args.owners.now c.args.near.now c.args.near.now t) _ _ (λ q. near_none c.args.kinds.now c.args.owners.now c.args.f t q)
+loop-k-init c = λ t. sides_none (Near c.args.info.now.kinds.now c.args.info.now.owners.now c.args.near.now c.args.near.now t) _ _ (λ q. near_none c.args.info.now.kinds.now c.args.info.now.owners.now c.args.f t q)
 
-pub mark_name-requires : goal.mark_name-requires
-mark_name-requires c = cell_small (side_cell c.requires c.loop-k.k c.toward.result c.toward.ensures _ c.in-Some.is)
+pub mark_owner-requires : goal.mark_owner-requires
+mark_owner-requires c = record { cell = cell_small (side_cell (cell c.args.info.now.grid c.args.i c.requires.cell) c.loop-k.k c.toward.result c.toward.ensures _ c.in-Some.is) }
 
 pub loop-k-preserved : goal.loop-k-preserved
 loop-k-preserved c = λ t. elim c.match-toward.branch [
-  | in-Some v ↦ side_at c.requires c.loop-k.k c.toward.result c.toward.ensures (Near c.args.kinds.now c.args.owners.now c.args.near.now c.match-toward.near t) _ v.in-Some.is
-      (λ q. rw v.near-is (near_more c.args.kinds.now c.args.owners.now c.args.f t _ _ (v.mark_name.ensures _ (c.loop-k.invariant t q))))
-  | in_default v ↦ side_off c.requires c.loop-k.k c.toward.result c.toward.ensures (Near c.args.kinds.now c.args.owners.now c.args.near.now c.match-toward.near t) v.in_default.is
+  | in-Some v ↦ side_at (cell c.args.info.now.grid c.args.i c.requires.cell) c.loop-k.k c.toward.result c.toward.ensures (Near c.args.info.now.kinds.now c.args.info.now.owners.now c.args.near.now c.match-toward.near t) _ v.in-Some.is
+      (λ q. rw v.near-is (near_more c.args.info.now.kinds.now c.args.info.now.owners.now c.args.f t _ _ (v.mark_owner.ensures _ (c.loop-k.invariant t q))))
+  | in_default v ↦ side_off (cell c.args.info.now.grid c.args.i c.requires.cell) c.loop-k.k c.toward.result c.toward.ensures (Near c.args.info.now.kinds.now c.args.info.now.owners.now c.args.near.now c.match-toward.near t) v.in_default.is
       (λ q. rw v.near-is (c.loop-k.invariant t q))
 ]
 
 pub returns : goal.returns
-returns c = λ t q. near_all c.args.kinds.now c.args.owners.now c.args.f t c.args.i _ c.if-kinds-i-ne-ARROW_BLOCK_NEIGHBOR.false c.if-owners-i.false
-    (sides_all (Near c.args.kinds.now c.args.owners.now c.args.near.now c.loop-k.near t) (sized c.args.h c.args.w) c.args.i c.loop-k.k (omega (arith, c.loop-k.auto.k-end)) c.loop-k-test.false (c.loop-k.invariant t) q)
+returns c = λ t q. near_all c.args.info.now.kinds.now c.args.info.now.owners.now c.args.f t c.args.i _ c.if-info-i-ne-ARROW_BLOCK_NEIGHBOR.false c.if-info-i.false
+    (sides_all (Near c.args.info.now.kinds.now c.args.info.now.owners.now c.args.near.now c.loop-k.near t) (sized c.args.info.now.grid.height c.args.info.now.grid.width) c.args.i c.loop-k.k (omega (arith, c.loop-k.auto.k-end)) c.loop-k-test.false (c.loop-k.invariant t) q)

@@ -14,4 +14,4 @@ abbrev pub Near : List ℕ → List ℕ → List ℕ → List ℕ → (ℕ → B
 Near kinds owners near₀ near t js = Marks near₀ t → Marks near (λ m. t m || float_among kinds owners js m)
 
 abbrev pub invariant-loop-k : goal.invariant-loop-k
-invariant-loop-k l = (t : ℕ → Bool) → Near l.kinds l.owners l.initial.near l.near t (gathered (sized l.h l.w) l.i l.k)
+invariant-loop-k l = (t : ℕ → Bool) → Near l.info.kinds.now l.info.owners.now l.initial.near l.near t (gathered (sized l.info.grid.height l.info.grid.width) l.i l.k)

@@ -6,4 +6,4 @@ use Rattle.reach.specs.Inside.{near_among}
 use Rattle.reach.proofs.mark_near_floats.Given as goal
 
 abbrev pub invariant-loop-i : goal.invariant-loop-i
-invariant-loop-i l = Marks l.near (near_among l.kinds l.owners (sized l.h l.w) l.f l.i)
+invariant-loop-i l = Marks l.near (near_among l.info.kinds.now l.info.owners.now (sized l.info.grid.height l.info.grid.width) l.f l.i)

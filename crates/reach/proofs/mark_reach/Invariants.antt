@@ -4,4 +4,4 @@ use Rattle.reach.specs.Inside.{Reached}
 use Rattle.reach.proofs.mark_reach.Given as goal
 
 abbrev pub invariant-loop-i : goal.invariant-loop-i
-invariant-loop-i l = Reached l.kinds l.owners l.near l.f l.i l.marks l.count
+invariant-loop-i l = Reached l.info.kinds.now l.info.owners.now l.near l.f l.i l.marks l.count

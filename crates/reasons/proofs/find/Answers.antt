@@ -1,7 +1,7 @@
 -- `reasons::find` meets its contract: a find that is not refused is counted.
 -- Assumes nothing.
 use mathlib.Core.Path.{◌∙◌}
-use Rattle.reasons.proofs.BoardArrays.{find_counted, find_kept}
+use Rattle.reasons.proofs.FindLaws.{find_counted, find_kept}
 use Rattle.reasons.proofs.find.Goals as goal
 
 pub hinted-requires : goal.hinted-requires

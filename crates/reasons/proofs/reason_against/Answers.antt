@@ -1,46 +1,31 @@
 -- `reasons::reason_against` meets its contract: the board, the player and the buffer are tested, then the first reason is looked for.
 -- Assumes nothing.
-use native.Mathlib.Omega.{arith}
-use mathlib.Core.Path.{◌≡◌, sym, ◌∙◌}
-use mathlib.Core.Bool.{true}
-use Rattle.board.specs.Form.{well_formed}
-use Rattle.reasons.proofs.BoardArrays.{board_sizes, board_arrays, board_edition, Lent, Lent-by, lent_few, board_lent, find_ill, find_stranger, find_short, find_found}
+use Prim.Native.Nat.{◌*◌, ◌+◌, ◌<◌, ◌≤◌}
+use mathlib.Core.Path.{◌≡◌}
+use lib.ListN.{length}
+use Rattle.std.proofs.lemmas.Result.{err_from_is_err_and}
+use Rattle.reasons.proofs.FindLaws.{find_ill, find_stranger, find_short, find_found}
 use Rattle.reasons.proofs.reason_against.Goals as goal
 
-pub returns-then-not-is_formed : goal.returns-then-not-is_formed
-returns-then-not-is_formed c = find_ill c.args.board.now c.args.player c.args.buffer.now (sym c.is_formed.ensures ∙ c.if-not-is_formed.true)
+pub returns-in_err-leaf : goal.returns-in_err-leaf
+returns-in_err-leaf c =
+    let e = c.in_err-leaf.ensures.refused in
+    let p = err_from_is_err_and c.from_residual.result c.from_residual.ensures.1 in
+    rw (p.1, p.2, e.1) (find_ill c.args.board.now c.args.player c.args.buffer.now e.0)
 
 pub returns-then-player-gt3 : goal.returns-then-player-gt3
-returns-then-player-gt3 c =
-    let formed : well_formed c.args.board.now ≡ true = sym c.is_formed.ensures ∙ c.if-not-is_formed.false in
-    find_stranger c.args.board.now c.args.player c.args.buffer.now formed c.if-player-gt3.true
+returns-then-player-gt3 c = find_stranger c.args.board.now c.args.player c.args.buffer.now c.in_ok-leaf.ensures.lent.0 c.if-player-gt3.true
 
-pub returns-then-buffer-h : goal.returns-then-buffer-h
-returns-then-buffer-h c =
-    let formed : well_formed c.args.board.now ≡ true = sym c.is_formed.ensures ∙ c.if-not-is_formed.false in
-    find_short c.args.board.now c.args.player c.args.buffer.now formed c.if-player-gt3.false c.if-buffer-h.true
-
-pub first_sizes-requires : goal.first_sizes-requires
-first_sizes-requires c =
-    let formed : well_formed c.args.board.now ≡ true = sym c.is_formed.ensures ∙ c.if-not-is_formed.false in
-    (lent_few c.args.board.now formed c.lent_sizes-n.ensures).0
-
-pub first_sizes-requires-2 : goal.first_sizes-requires-2
-first_sizes-requires-2 c =
-    let formed : well_formed c.args.board.now ≡ true = sym c.is_formed.ensures ∙ c.if-not-is_formed.false in
-    (lent_few c.args.board.now formed c.lent_sizes-n.ensures).1
-
-pub find_inconsistency-found-requires : goal.find_inconsistency-found-requires
-find_inconsistency-found-requires c =
-    let b = c.args.board.now in
-    let formed : well_formed b ≡ true = sym c.is_formed.ensures ∙ c.if-not-is_formed.false in
-    let lent : Lent b c.first_sizes.result.now c.first_sizes-2.result.now = Lent-by b c.lent_sizes-n.ensures c.first_sizes.ensures c.first_sizes-2.ensures in
-    let z = board_sizes b formed in
-    (record { tall = z.0; wide = z.1; room = c.if-buffer-h.false }, board_arrays b formed, board_edition b formed, board_lent b formed lent)
+pub returns-then-buffer-size : goal.returns-then-buffer-size
+returns-then-buffer-size c =
+    let e = c.in_ok-leaf.ensures.lent in
+    let short : length c.args.buffer.now < 3 * (c.args.board.now.problem.height * c.args.board.now.problem.width) + 1 =
+    rw (c.size.ensures.value, c.grid.ensures.0, c.grid.ensures.1, e.2) at c.if-buffer-size.true in
+    find_short c.args.board.now c.args.player c.args.buffer.now e.0 c.if-player-gt3.false short
 
 pub returns : goal.returns
 returns c =
-    let b = c.args.board.now in
-    let formed : well_formed b ≡ true = sym c.is_formed.ensures ∙ c.if-not-is_formed.false in
-    let lent : Lent b c.first_sizes.result.now c.first_sizes-2.result.now = Lent-by b c.lent_sizes-n.ensures c.first_sizes.ensures c.first_sizes-2.ensures in
-    find_found b c.args.player c.args.buffer.now formed c.if-player-gt3.false c.if-buffer-h.false lent c.find_inconsistency-found.ensures
+    let e = c.in_ok-leaf.ensures.lent in
+    let long : 3 * (c.args.board.now.problem.height * c.args.board.now.problem.width) + 1 ≤ length c.args.buffer.now =
+    rw (c.size.ensures.value, c.grid.ensures.0, c.grid.ensures.1, e.2) at c.if-buffer-size.false in
+    find_found c.args.board.now c.args.player c.args.buffer.now e.0 c.if-player-gt3.false long e.1 e.2 c.find_inconsistency-found.ensures

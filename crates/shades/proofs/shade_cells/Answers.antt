@@ -12,6 +12,7 @@ use Rattle.shades.proofs.shade_cells.Goals as goal
 pub returns : goal.returns
 unfolding counts size
 returns c =
-    let few : c.args.h * c.args.w ≤ 1024 = area c.args.h c.args.w c.requires.0 c.requires.1 in
+    let g = c.args.grid in
+    let few : g.height * g.width ≤ 1024 = area g.height g.width g.tall g.wide in
     let T = c.compute_connected_components.ensures in
-    pairs_shades (sized c.args.h c.args.w) (take (c.args.h * c.args.w) c.args.cells.now) _ _ T.groups_are T.squares_are.at few c.args.shades.now c.write_pairs.ensures
+    pairs_shades (sized g.height g.width) (take (g.height * g.width) c.args.cells.now) _ _ T.groups_are T.squares_are.at few c.args.shades.now (rw c.size.ensures.value at c.write_pairs.ensures)

@@ -1,8 +1,7 @@
 -- What holds at each turn of the loop of `shift::gather_block`, and what falls from turn to turn.
 -- Assumes nothing.
-use Prim.Native.Nat.{ℕ, ◌-◌}
+use Prim.Native.Nat.{ℕ, ◌-◌, ◌*◌}
 use mathlib.Core.List.{List}
-use Rattle.reach.specs.Chains.{Chains}
 use Rattle.shift.specs.Shift.{Gathered}
 use Rattle.reach.proofs.ChainWalks.{Walk}
 use Rattle.shift.proofs.Passed.{block_of}
@@ -16,7 +15,8 @@ pub record Amid (kinds owners : List ℕ) (n w f : ℕ) (rows₀ columns₀ rows
 
 abbrev pub invariant-loop-k : goal.invariant-loop-k
 invariant-loop-k l =
-    (owners : List ℕ) (n : ℕ) → Chains owners l.head l.next n → Amid l.kinds owners n l.w l.f l.initial.rows l.initial.columns l.rows l.columns l.k l.i
+    Amid l.linked.info.kinds.now l.linked.info.owners.now (l.linked.info.grid.height * l.linked.info.grid.width) l.linked.info.grid.width l.f
+    l.initial.rows l.initial.columns l.rows l.columns l.k l.i
 
 abbrev pub decreases-loop-k : goal.decreases-loop-k
 decreases-loop-k l = 1024 - l.i

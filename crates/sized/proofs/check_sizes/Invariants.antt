@@ -10,11 +10,12 @@ use Rattle.sized.proofs.SizeLaws.{ahead}
 use Rattle.sized.proofs.check_sizes.Given as goal
 
 -- the cells before i give no reason, and the buffer is as it was
-pub record Amid (h w : ℕ) (lows highs cells kinds owners groups buffer₀ : List ℕ) (n : ℕ) (buffer : List ℕ) (i : ℕ) : Type 0 where
-  pub long : length groups ≡ 1024
+pub record Amid (h w : ℕ) (lows highs cells kinds owners buffer₀ buffer : List ℕ) (i : ℕ) : Type 0 where
   pub same : buffer ≡ buffer₀
-  pub passed : (lines : List (List ℕ)) → Board h w lines lows highs cells kinds owners → ahead (view_on h w lines cells) lows highs n 0 ≡ ahead (view_on h w lines cells) lows highs n i
+  pub passed : (lines : List (List ℕ)) → Board h w lines lows highs cells kinds owners
+      → ahead (view_on h w lines cells) lows highs (length lows) 0 ≡ ahead (view_on h w lines cells) lows highs (length lows) i
 
 abbrev pub invariant-loop-i : goal.invariant-loop-i
 invariant-loop-i l =
-    Amid l.h l.w l.lowest l.highest l.cells l.kinds l.owners l.groups l.initial.buffer l.n l.buffer l.i
+    let info = l.scene.linked.info in
+    Amid info.grid.height info.grid.width l.lowest l.highest info.cells.now info.kinds.now info.owners.now l.initial.buffer l.buffer l.i

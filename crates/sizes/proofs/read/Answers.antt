@@ -5,7 +5,7 @@ use mathlib.Core.Path.{◌∙◌}
 use mathlib.Core.List.{[]}
 use Rattle.fields.proofs.OutcomeLaws.{agrees_fault}
 use Rattle.sizes.proofs.KeptLaws.{array_none}
-use Rattle.sizes.proofs.DrawnLaws.{Keeps-Drawn, drawn_few, drawn_Line, drawn_Marks}
+use Rattle.sizes.proofs.DrawnLaws.{drawn_few, drawn_Line, drawn_Marks}
 use Rattle.sizes.proofs.ReadLaws.{sizes_refused, sizes_none, sizes_marked}
 use Rattle.sizes.proofs.read.Goals as goal
 
@@ -15,13 +15,13 @@ returns-in_err-count g c = λ p k. agrees_fault _ _ _ c.from_residual.ensures.1 
 pub returns-then-branch-eq0 : goal.returns-then-branch-eq0
 returns-then-branch-eq0 g c = λ p k.
     let n = c.in_ok-count.ensures in
-    ([], sizes_none p n.1 (omega (arith, n.2, c.if-branch-eq0.true)), (c.requires.1 ∙ array_none (λ r. r.lowest), c.requires.2 ∙ array_none (λ r. r.highest)))
+    ([], sizes_none p n.1 (omega (arith, n.2, c.if-branch-eq0.true)), (c.requires.fresh.0 ∙ array_none (λ r. r.lowest), c.requires.fresh.1 ∙ array_none (λ r. r.highest)))
 
 pub arrow_total-requires : goal.arrow_total-requires
-arrow_total-requires g c = (drawn_few c.requires.0.0 (Keeps-Drawn c.requires.0.1)).0
+arrow_total-requires g c = (drawn_few c.requires.drawn.0 c.requires.drawn.1).0
 
 pub mark_arrow_cells-requires : goal.mark_arrow_cells-requires
-mark_arrow_cells-requires g c = drawn_Line c.requires.0.0 (Keeps-Drawn c.requires.0.1) c.arrow_total.result c.arrow_total.ensures
+mark_arrow_cells-requires g c = record { line = drawn_Line c.requires.drawn.0 c.requires.drawn.1 c.arrow_total.result c.arrow_total.ensures }
 
 pub returns : goal.returns
-returns g c = λ p k. rw (← sizes_marked p (drawn_Marks p (Keeps-Drawn k) c.arrow_total.result c.arrow_total.ensures c.mark_arrow_cells.ensures) (g.N.Numbers.numbers c.args.numbers.now)) c.take_ranges.ensures
+returns g c = λ p k. rw (← sizes_marked p (drawn_Marks p k c.arrow_total.result c.arrow_total.ensures c.mark_arrow_cells.ensures) (g.N.Numbers.numbers c.args.numbers.now)) c.take_ranges.ensures

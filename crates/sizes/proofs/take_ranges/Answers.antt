@@ -22,8 +22,8 @@ pub returns-in_err-take_range : goal.returns-in_err-take_range
 returns-in_err-take_range g c =
     let v = c.loop-k.invariant in
     let h : 3 * c.loop-k.k + 2 < length v.0 = omega (arith, v.2, c.loop-k-test.true) in
-    let rest = next_refused v.0 (3 * c.loop-k.k) c.from-cell.result c.number-in-loop-k.result c.number-in-loop-k-2.result h
-    (c.from-cell.ensures ∙ rw v.1 at c.number.ensures) (rw v.1 at c.number-in-loop-k.ensures) (rw v.1 at c.number-in-loop-k-2.ensures) (marked c.args.marks.now) c.loop-k.from c.in_err-take_range.ensures in
+    let rest = next_refused v.0 (3 * c.loop-k.k) c.from.result c.number-in-loop-k.result c.number-in-loop-k-2.result h
+    (c.from.ensures ∙ rw v.1 at c.number.ensures) (rw v.1 at c.number-in-loop-k.ensures) (rw v.1 at c.number-in-loop-k-2.ensures) (marked c.args.marks.now) c.loop-k.from c.in_err-take_range.ensures in
     agrees_fault _ _ _ c.from_residual-in_err-take_range.ensures.1 (ranges_are (marked c.args.marks.now) v.1 ∙ amid_refused v.3 rest)
 
 pub loop-k-preserved : goal.loop-k-preserved
@@ -32,10 +32,10 @@ loop-k-preserved g c =
     let t = c.in_ok-take_range.ensures in
     let h : 3 * c.loop-k.k + 2 < length v.0 = omega (arith, v.2, c.loop-k-test.true) in
     let q : 3 * (c.loop-k.k + 1) ≡ 3 * c.loop-k.k + 3 = omega arith in
-    let rest = next_passed v.0 (3 * c.loop-k.k) c.from-cell.result c.number-in-loop-k.result c.number-in-loop-k-2.result h
-    (c.from-cell.ensures ∙ rw v.1 at c.number.ensures) (rw v.1 at c.number-in-loop-k.ensures) (rw v.1 at c.number-in-loop-k-2.ensures) (marked c.args.marks.now) c.loop-k.from t.1 in
-    let low = test_low c.args.marks.now c.loop-k.from c.from-cell.result c.number-in-loop-k.result c.number-in-loop-k-2.result (unless-ok _ 22 t.1) in
-    (v.0, v.1, v.2, rw (q, t.2.0, t.2.1) (Amid-more v.3 (range_at c.from-cell.result c.number-in-loop-k.result c.number-in-loop-k-2.result) _ rest (omega (arith, low.0, c.told-marks)) low.1))
+    let rest = next_passed v.0 (3 * c.loop-k.k) c.from.result c.number-in-loop-k.result c.number-in-loop-k-2.result h
+    (c.from.ensures ∙ rw v.1 at c.number.ensures) (rw v.1 at c.number-in-loop-k.ensures) (rw v.1 at c.number-in-loop-k-2.ensures) (marked c.args.marks.now) c.loop-k.from t.1 in
+    let low = test_low c.args.marks.now c.loop-k.from c.from.result c.number-in-loop-k.result c.number-in-loop-k-2.result (unless-ok _ 22 t.1) in
+    (v.0, v.1, v.2, rw (q, t.2.0, t.2.1) (Amid-more v.3 (range_at c.from.result c.number-in-loop-k.result c.number-in-loop-k-2.result) _ rest (omega (arith, low.0, c.told-marks)) low.1))
 
 pub returns-then-count-ne0 : goal.returns-then-count-ne0
 returns-then-count-ne0 g c =

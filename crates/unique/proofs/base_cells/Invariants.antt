@@ -6,4 +6,4 @@ use Rattle.unique.specs.Unique.{base_cell}
 use Rattle.unique.proofs.base_cells.Given as goal
 
 abbrev pub invariant-loop-i : goal.invariant-loop-i
-invariant-loop-i l = l.cells ≡ array_of 2 (map (λ k. base_cell (get_or l.codes k 0)) (upto l.i))
+invariant-loop-i l = l.cells ≡ array_of 2 (map (λ k. base_cell (get_or l.leaf.problem.now.cells k 0)) (upto l.i))

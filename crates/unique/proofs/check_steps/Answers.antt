@@ -1,73 +1,55 @@
 -- `unique::check_steps` meets its contract: what the steps from here on come to is what they all come to.
 -- Assumes nothing.
-use Rattle.std.proofs.Common.{rules, arith, ℕ, ◌*◌, ◌≤◌, ◌<◌, ◌≡◌, ◌∙◌, refl, sym, length}
+use Rattle.std.proofs.Common.{rules, arith, ℕ, ◌<◌, ◌≡◌, ◌∙◌, refl, sym, length}
 use mathlib.Core.Path.{subst}
 use Rattle.refusal.specs.Refusals.{number_of}
-use Rattle.reasons.proofs.Room.{room_length}
-use Rattle.call.proofs.Holding.{holds_size, holds_few}
 use Rattle.certificate.specs.Certificate.{words_of}
 use Rattle.certificate.specs.Inside.{refusal_number}
 use Rattle.certificate.proofs.Words.{words_length}
-use Rattle.unique.specs.Unique.{step_of, steps_of}
+use Rattle.sizes.specs.LeafOf.{leaf_of}
+use Rattle.call.proofs.Opening.{lent_size}
+use Rattle.unique.specs.Unique.{steps_of}
 use Rattle.unique.proofs.StepLaws.{closed_whole, closed_ends, closed_tagged, refused_counts, Comes, come_past, come_refused, come_done, come_more, come_next}
 use Rattle.unique.proofs.check_steps.Goals as goal
 
 pub loop-at-init : goal.loop-at-init
-loop-at-init c = (room_length c.no_literals-buffer.ensures, λ l x k. record { fuel = length (words_of c.args.certificate.now); enough = omega arith; come = rw (holds_size x) refl })
-
-pub check_step-requires : goal.check_step-requires
-check_step-requires c =
-    let few : c.args.h * c.args.w ≤ 1024 = holds_few c.requires.1 in
-    (c.requires, omega (arith, few, c.loop-at.invariant.0))
+loop-at-init c = record { fuel = length (words_of c.args.certificate.now); enough = omega arith; come = rw (lent_size c.args.leaf.now c.size-at.ensures.value c.grid.ensures) refl }
 
 pub returns-in_err-check_step : goal.returns-in_err-check_step
 returns-in_err-check_step c =
     let r = c.in_err-check_step.field-0.0 in
     let e : refusal_number c.from_residual.result ≡ number_of r = search rules in
     let here : c.loop-at.at < length (words_of c.args.certificate.now) = omega (arith, words_length c.args.certificate.now, c.loop-at-test.true) in
-    λ l x k.
-    let q : number_of r ≡ step_of l (words_of c.args.certificate.now) c.loop-at.at = c.in_err-check_step.ensures l x k in
-    e ∙ q ∙ come_refused (c.loop-at.invariant.1 l x k) here (λ z. omega (arith, q, z, refused_counts r))
+    let q = c.in_err-check_step.ensures in
+    e ∙ q ∙ come_refused c.loop-at.invariant here (λ z. omega (arith, q, z, refused_counts r))
 
 pub unwrap-next-requires : goal.unwrap-next-requires
-unwrap-next-requires c =
-    let e = closed_whole c.requires.0 (words_of c.args.certificate.now) c.loop-at.at (c.in_ok-check_step.ensures c.requires.0 c.requires.1 c.requires.2) in
-    rw (c.step_end.ensures ∙ e) refl
+unwrap-next-requires c = rw (c.step_end.ensures ∙ closed_whole (leaf_of c.args.leaf.now) (words_of c.args.certificate.now) c.loop-at.at c.in_ok-check_step.ensures) refl
 
 pub returns-then-next-count : goal.returns-then-next-count
 returns-then-next-count c =
     let ws = words_of c.args.certificate.now in
     let here : c.loop-at.at < length ws = omega (arith, words_length c.args.certificate.now, c.loop-at-test.true) in
-    λ l x k.
-    let e : 0 ≡ step_of l ws c.loop-at.at = c.in_ok-check_step.ensures l x k in
-    come_done (c.loop-at.invariant.1 l x k) here (sym e) (omega (arith, c.word_at.ensures.0, c.if-word_at-eq-TAG.true))
-    (closed_ends l ws c.loop-at.at e c.unwrap-next.result (sym c.step_end.ensures ∙ c.unwrap-next.ensures) ∙ c.if-next-count.true ∙ sym (words_length c.args.certificate.now))
+    let e = c.in_ok-check_step.ensures in
+    come_done c.loop-at.invariant here (sym e) (omega (arith, c.word_at.ensures.0, c.if-word_at-eq-TAG.true))
+    (closed_ends (leaf_of c.args.leaf.now) ws c.loop-at.at e c.unwrap-next.result (sym c.step_end.ensures ∙ c.unwrap-next.ensures) ∙ c.if-next-count.true ∙ sym (words_length c.args.certificate.now))
 
 pub returns-then-word_at-eq-TAG : goal.returns-then-word_at-eq-TAG
 returns-then-word_at-eq-TAG c =
     let ws = words_of c.args.certificate.now in
     let here : c.loop-at.at < length ws = omega (arith, words_length c.args.certificate.now, c.loop-at-test.true) in
-    λ l x k.
-    let e : 0 ≡ step_of l ws c.loop-at.at = c.in_ok-check_step.ensures l x k in
-    come_more (c.loop-at.invariant.1 l x k) here (sym e) (omega (arith, c.word_at.ensures.0, c.if-word_at-eq-TAG.true))
-    (λ z. c.if-next-count.false (sym (closed_ends l ws c.loop-at.at e c.unwrap-next.result (sym c.step_end.ensures ∙ c.unwrap-next.ensures)) ∙ z ∙ words_length c.args.certificate.now))
-
-pub loop-at-smaller : goal.loop-at-smaller
-loop-at-smaller c =
-    let ws = words_of c.args.certificate.now in
-    let e : 0 ≡ step_of c.requires.0 ws c.loop-at.at = c.in_ok-check_step.ensures c.requires.0 c.requires.1 c.requires.2 in
-    omega (arith, c.loop-at-test.true, closed_ends c.requires.0 ws c.loop-at.at e c.unwrap-next.result (sym c.step_end.ensures ∙ c.unwrap-next.ensures))
+    let e = c.in_ok-check_step.ensures in
+    come_more c.loop-at.invariant here (sym e) (omega (arith, c.word_at.ensures.0, c.if-word_at-eq-TAG.true))
+    (λ z. c.if-next-count.false (sym (closed_ends (leaf_of c.args.leaf.now) ws c.loop-at.at e c.unwrap-next.result (sym c.step_end.ensures ∙ c.unwrap-next.ensures)) ∙ z ∙ words_length c.args.certificate.now))
 
 pub loop-at-preserved : goal.loop-at-preserved
 loop-at-preserved c =
+    let l = leaf_of c.args.leaf.now in
     let ws = words_of c.args.certificate.now in
-    let here : c.loop-at.at < length ws = omega (arith, words_length c.args.certificate.now, c.loop-at-test.true) in (
-      c.check_step.auto.buffer ∙ c.loop-at.invariant.0,
-      λ l x k.
-          let e : 0 ≡ step_of l ws c.loop-at.at = c.in_ok-check_step.ensures l x k in
-          subst (λ (z : ℕ). Comes l ws z (steps_of l ws)) (closed_ends l ws c.loop-at.at e c.unwrap-next.result (sym c.step_end.ensures ∙ c.unwrap-next.ensures))
-          (come_next (c.loop-at.invariant.1 l x k) here (sym e) (λ z. c.if-word_at-eq-TAG.false (omega (arith, c.word_at.ensures.0, closed_tagged l ws c.loop-at.at e)))),
-    )
+    let here : c.loop-at.at < length ws = omega (arith, words_length c.args.certificate.now, c.loop-at-test.true) in
+    let e = c.in_ok-check_step.ensures in
+    subst (λ (z : ℕ). Comes l ws z (steps_of l ws)) (closed_ends l ws c.loop-at.at e c.unwrap-next.result (sym c.step_end.ensures ∙ c.unwrap-next.ensures))
+    (come_next c.loop-at.invariant here (sym e) (λ z. c.if-word_at-eq-TAG.false (omega (arith, c.word_at.ensures.0, closed_tagged l ws c.loop-at.at e))))
 
 pub returns : goal.returns
-returns c = λ l x k. come_past (c.loop-at.invariant.1 l x k) (omega (arith, words_length c.args.certificate.now, c.loop-at-test.false))
+returns c = come_past c.loop-at.invariant (omega (arith, words_length c.args.certificate.now, c.loop-at-test.false))

@@ -11,7 +11,7 @@ use Rattle.grid.specs.Grid.{size}
 use Rattle.record.specs.Problem.{grid_of, puzzle_of}
 use Rattle.form.specs.Form.{problem_formed}
 use Rattle.board.specs.Form.{Counts, sizes_good}
-use Rattle.board.proofs.Verdicts.{edition_none, edition_one, board_edition, board_Keeps, board_sizes, board_area, sizes_cells, board_decisions}
+use Rattle.board.proofs.Verdicts.{edition_none, edition_one, board_edition, board_Drawn, board_sizes, board_area, sizes_cells, board_decisions}
 use Rattle.board.proofs.Board.is_formed.Goals as goal
 
 pub returns-then-is_err : goal.returns-then-is_err
@@ -21,13 +21,13 @@ pub may_stand-requires : goal.may_stand-requires
 may_stand-requires c =
     let b = c.args.self.now in
     let formed : problem_formed b.problem ≡ true = sym c.is_formed.ensures ∙ c.if-not-is_formed.false in
-    (puzzle_of b.problem, board_Keeps b formed)
+    record { drawn = (puzzle_of b.problem, board_Drawn b formed) }
 
 pub returns-then-not-may_stand : goal.returns-then-not-may_stand
 returns-then-not-may_stand c =
     let b = c.args.self.now in
     let formed : problem_formed b.problem ≡ true = sym c.is_formed.ensures ∙ c.if-not-is_formed.false in
-    let sized : c.may_stand.result ≡ sizes_good b = c.may_stand.ensures (puzzle_of b.problem) (board_Keeps b formed) ∙ sizes_cells b (search rules) (search rules) in
+    let sized : c.may_stand.result ≡ sizes_good b = c.may_stand.ensures (puzzle_of b.problem) (board_Drawn b formed) ∙ sizes_cells b (search rules) (search rules) in
     board_sizes b (sym sized ∙ c.if-not-may_stand.true)
 
 pub overflow_mul-problem : goal.overflow_mul-problem
@@ -45,7 +45,7 @@ unfolding grid_of size
 returns c =
     let b = c.args.self.now in
     let formed : problem_formed b.problem ≡ true = sym c.is_formed.ensures ∙ c.if-not-is_formed.false in
-    let sized : c.may_stand.result ≡ sizes_good b = c.may_stand.ensures (puzzle_of b.problem) (board_Keeps b formed) ∙ sizes_cells b (search rules) (search rules) in
+    let sized : c.may_stand.result ≡ sizes_good b = c.may_stand.ensures (puzzle_of b.problem) (board_Drawn b formed) ∙ sizes_cells b (search rules) (search rules) in
     let counts : Counts b.hints = record { four = search rules; low = λ q. let f : Fits w16 (get_or b.hints q 0) = search rules in omega (arith, f.fits) } in
     c.good_decisions.ensures
     ∙ board_decisions b formed (edition_one _ c.try_from.result c.try_from.ensures (sym c.is_err.ensures.value ∙ c.if-is_err.false)) (sym sized ∙ c.if-not-may_stand.false) (search rules) (search rules) counts

@@ -7,6 +7,6 @@ use Rattle.record.proofs.Line.read_steps.Given as goal
 
 abbrev pub invariant-loop-i : goal.invariant-loop-i
 invariant-loop-i l =
-    (l.place.row < l.height)
-    × (l.place.col < l.width)
-    × StepsSoFar l.s (sized l.height l.width) l.initial.self (l.fn.from.row * l.width + l.fn.from.col) l.at l.steps l.i (l.place.row * l.width + l.place.col) l.self
+    (l.place.row < l.grid.height)
+    × (l.place.col < l.grid.width)
+    × StepsSoFar l.s (sized l.grid.height l.grid.width) l.initial.self (l.fn.from.row * l.grid.width + l.fn.from.col) l.at l.steps l.i (l.place.row * l.grid.width + l.place.col) l.self

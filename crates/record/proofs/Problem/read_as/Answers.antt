@@ -30,38 +30,30 @@ overflow_add-width c = omega (arith, field-ok c.args.bytes.now 5 5 (sym c.in_ok-
 pub returns-in_err-count : goal.returns-in_err-count
 returns-in_err-count c = outcome_fault _ _ c.from_residual-in_err-count.ensures.1 (whole_cut_3 c.args.extent c.args.bytes.now c.in_ok-height.ensures c.in_ok-width.ensures c.in_err-count.ensures)
 
-pub overflow_mul-height : goal.overflow_mul-height
-overflow_mul-height c = omega (arith, (limits c).2)
+pub invariant_of-grid : goal.invariant_of-grid
+invariant_of-grid c =
+    let z = limits (goal.at.invariant_of-grid c).In_ok-count in
+    record { tall = omega (arith, z.0); wide = omega (arith, z.1) }
 
 pub read_cells-requires : goal.read_cells-requires
 unfolding array_of
-read_cells-requires c = ((limits (goal.at.read_cells-requires c).In_ok-count).2, refl)
+read_cells-requires c = (c.size.ensures.small, refl)
 
 pub returns-in_err-read_cells : goal.returns-in_err-read_cells
-returns-in_err-read_cells c = outcome_fault _ _ c.from_residual-in_err-read_cells.ensures.1 (whole_cells c.args.extent c.args.bytes.now c.in_ok-height.ensures c.in_ok-width.ensures c.in_ok-count.ensures c.in_err-read_cells.ensures)
-
-pub overflow_mul-height-2 : goal.overflow_mul-height-2
-overflow_mul-height-2 c = omega (arith, (limits (goal.at.overflow_mul-height-2 c).In_ok-count).2)
-
-pub overflow_mul-height-3 : goal.overflow_mul-height-3
-overflow_mul-height-3 c = omega (arith, (limits (goal.at.overflow_mul-height-3 c).In_ok-count).2)
-
-pub overflow_add-height-2 : goal.overflow_add-height-2
-overflow_add-height-2 c = omega (arith, (limits (goal.at.overflow_add-height-2 c).In_ok-count).2)
+returns-in_err-read_cells c = outcome_fault _ _ c.from_residual-in_err-read_cells.ensures.1 (whole_cells c.args.extent c.args.bytes.now c.in_ok-height.ensures c.in_ok-width.ensures c.in_ok-count.ensures (rw c.size.ensures.value at c.in_err-read_cells.ensures))
 
 pub read_arrows-requires : goal.read_arrows-requires
 unfolding array_of
 read_arrows-requires c =
-    let z = limits (goal.at.read_arrows-requires c).In_ok-count in
-    (omega (arith, z.0), omega (arith, z.1), omega (arith, z.2), omega (arith, field-ok c.args.bytes.now 10 11 (sym c.in_ok-count.ensures)), c.new-line.ensures, refl)
+    (omega (arith, field-ok c.args.bytes.now 10 11 (sym c.in_ok-count.ensures)), c.new-line.ensures, refl)
 
 pub returns-in_err-read_arrows : goal.returns-in_err-read_arrows
 returns-in_err-read_arrows c =
     outcome_fault _ _ c.from_residual-in_err-read_arrows.ensures.1
-    (whole_arrows c.args.extent c.args.bytes.now c.in_ok-height.ensures c.in_ok-width.ensures c.in_ok-count.ensures c.in_ok-read_cells.ensures.1 c.in_err-read_arrows.ensures)
+    (whole_arrows c.args.extent c.args.bytes.now c.in_ok-height.ensures c.in_ok-width.ensures c.in_ok-count.ensures (rw c.size.ensures.value at c.in_ok-read_cells.ensures.1) c.in_err-read_arrows.ensures)
 
 pub returns : goal.returns
 returns c =
     let d = c.in_ok-read_cells.ensures in
     let e = c.in_ok-read_arrows.ensures in
-    whole_done c.args.extent c.args.bytes.now c.in_ok-height.ensures c.in_ok-width.ensures c.in_ok-count.ensures d.1 d.2 e.1 (c.into_cells.ensures ∙ ap (array_of 0) e.2.0) e.2.1
+    whole_done c.args.extent c.args.bytes.now c.in_ok-height.ensures c.in_ok-width.ensures c.in_ok-count.ensures (rw c.size.ensures.value at d.1) d.2 e.1 (c.into_cells.ensures ∙ ap (array_of 0) e.2.0) e.2.1

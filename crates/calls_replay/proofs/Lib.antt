@@ -1,2 +1,0 @@
-mod ArrayLaws
-mod BoardLaws

@@ -1,9 +1,0 @@
--- What holds at each turn of the loop of `clauses::write_arrow`.
--- Assumes nothing.
-use Prim.Native.Nat.{◌*◌}
-use Rattle.grid.specs.Lists.{flat_map, upto}
-use Rattle.clauses.specs.Inside.{Appends, clause_piece}
-use Rattle.clauses.proofs.write_arrow.Given as goal
-
-abbrev pub invariant-loop-k : goal.invariant-loop-k
-invariant-loop-k l = Appends l.at (l.k * 2050) (flat_map (clause_piece l.arrow) (upto l.k)) l.initial.out l.out l.end

@@ -1,0 +1,33 @@
+-- `groups_replay::run_arrows` meets its contract: the blocks, and what comes of them.
+-- Assumes nothing.
+use Prim.Native.Nat.{◌*◌}
+use native.Mathlib.Omega.{arith}
+use lib.ListN.{take}
+use Rattle.grid.specs.Cells.{square}
+use Rattle.grid.specs.Grid.{size}
+use Rattle.grid.specs.Side.{sized}
+use Rattle.grid.proofs.SideLaws.{area}
+use Rattle.groups.specs.Arrows.{on_arrow}
+use Rattle.groups.specs.Arrays.{counts}
+use Rattle.groups.proofs.TableLaws.{table_on}
+use Rattle.groups_replay.proofs.BlockLaws.{groups_told}
+use Rattle.groups_replay.proofs.RunLaws.{names_arrowed}
+use Rattle.groups_replay.proofs.run_arrows.Goals as goal
+
+pub returns : goal.returns
+unfolding counts size
+returns c =
+    let a = c.args in
+    let g = sized a.grid.height a.grid.width in
+    let n = a.grid.height * a.grid.width in
+    let cells = take n a.cells.now in
+    λ arrows marks some kinds.
+    let table = table_on g (square cells) arrows marks (c.label.ensures.computed some) in
+    record {
+      rest = c.run_kinds.result;
+      rest_so = rw (c.size-n.ensures.value, names_arrowed g (square cells) table) at (c.run_kinds.ensures arrows kinds (record { named = table.groups_are; counted = table.arrowed_are }));
+      answer = c.groups_differ-differs.result;
+      told = groups_told g (square cells) (square cells) (on_arrow arrows) a.list.now a.at n (omega arith) (area a.grid.height a.grid.width a.grid.tall a.grid.wide) table
+          c.groups_differ-differs.result (rw c.size-n.ensures.value at c.groups_differ-differs.ensures);
+      counted = c.also.ensures;
+    }

@@ -1,9 +1,0 @@
--- `record::no_cells` meets its contract.
--- Assumes nothing.
-use mathlib.Core.Path.{refl}
-use Rattle.grid.specs.Lists.{array_of}
-use Rattle.record.proofs.no_cells.Goals as goal
-
-pub returns : goal.returns
-unfolding array_of
-returns c = refl
