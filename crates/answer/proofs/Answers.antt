@@ -13,7 +13,7 @@ use Rattle.record.specs.Record.{Outcome, refused}
 use Rattle.grid.specs.Cells.{Literal, word}
 use Rattle.literals.specs.Literals.{Found}
 use Rattle.exported.specs.Written.{bytes_of}
-use Rattle.host_find.specs.Host.{returned, output_after}
+use Rattle.calls.specs.Found.{returned, output_after}
 use Rattle.text.specs.Text.{digits, line, two_words, reason_text, literal_line, literal_in, literals_in}
 use Rattle.text.specs.Told.{told_by, told_text}
 use Rattle.answer.specs.Program.{text_of, program_finds, printed}

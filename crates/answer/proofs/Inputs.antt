@@ -16,7 +16,7 @@ use Rattle.std.specs.List.{IsSplitAt}
 use Rattle.refusal.specs.Refusals.{refused, number_of}
 use Rattle.refusal.specs.declared.Refusal.{Refusal}
 use Rattle.refusal.specs.declared.Refusal.TheVariants.{RecordEnds}
-use Rattle.host_find.specs.Host.{host_finds}
+use Rattle.calls.specs.Found.{host_finds}
 use Rattle.answer.specs.Program.{length_said, output_limit, answer_of, input_answer, program_finds}
 
 -- fewer than two bytes

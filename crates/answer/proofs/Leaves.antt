@@ -18,8 +18,8 @@ use Rattle.paths.specs.Paths.{appended, breadth_first, parent, path, reason2_at,
 use Rattle.growth.specs.Growth.{most_apart, block_name, reason_grow, reason3_at, gap, reason_shrink, reason4_at, reason4a_at, reason4b_at, reason34}
 use Rattle.sized.specs.Sized.{reason5}
 use Rattle.reasons.specs.Reasons.{find_reason, find_on}
-use Rattle.call.specs.Call.{accept_or, decide_bytes}
-use Rattle.host_find.specs.Host.{host_finds}
+use Rattle.calls.specs.Call.{accept_or, decide_bytes}
+use Rattle.calls.specs.Found.{host_finds}
 use Rattle.host.proofs.Leaves.{S}
 use Rattle.text.specs.Text.{digits_within, digits, line, none_text, reason_text, refused_text, two_words, literal_line}
 use Rattle.answer.specs.Program.{text_of, output_limit, answer_of, input_answer, program_finds, printed}

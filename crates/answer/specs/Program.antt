@@ -5,7 +5,7 @@ use Rattle.std.proofs.Math.Option.{none, some}
 use Rattle.grid.specs.Lists.{flat_map}
 use Rattle.record.specs.Record.{Outcome, ok, refused}
 use Rattle.literals.specs.Literals.{Found}
-use Rattle.host_find.specs.Host.{host_finds}
+use Rattle.calls.specs.Found.{host_finds}
 use Rattle.text.specs.Text.{digits, line, two_words, none_text, reason_text, refused_text, literal_line}
 
 -- the text for what the host call finds

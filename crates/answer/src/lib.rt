@@ -3,7 +3,7 @@
 
 ghost use Rattle.std.specs.Prelude.{◌≡◌, MatchResult};
 ghost use Rattle.refusal.specs.Refusals.{refused, number_of};
-ghost use Rattle.host_find.specs.Host.{host_finds, returned, output_after};
+ghost use Rattle.calls.specs.Found.{host_finds, returned, output_after};
 ghost use Rattle.answer.specs.Program.{output_limit, program_finds, printed};
 ghost use Rattle.text.specs.Text.{Written};
 ghost use Rattle.text.specs.Told.{told_by};

@@ -5,37 +5,20 @@
 // that many bytes of text. A u16 has its high byte first.
 #![tactic(auto)]
 
-ghost use Rattle.std.specs.Prelude.{◌≤◌, ◌<◌, ◌≡◌, length, replicate};
 ghost use Rattle.replay.specs.Comparisons.{DiffersUnless};
-ghost use Rattle.replay.specs.Lists.{byte_in, differs};
 ghost use Rattle.answer_replay.specs.Answers.{AnswersSo, EntrySo};
 
 use replay::{Cursor, Entries, Run};
 use std::io;
 
-// A byte that no text has stands in every place of a fresh room for the text.
-fn text_room() -> [u8; answer::TEXT]
-    ensures { result ≡ replicate 21523 255 }
+// Whether the answer to the input differs from the next `count` bytes of the list, or something is written behind them.
+fn answer_differs(input: &[u8], count: usize, said: Cursor<'_>) -> bool
+    ensures { DiffersUnless result (AnswersSo input.now said.entry.list.now said.entry.at count) }
 {
-    [255; answer::TEXT]
-}
-
-// Whether what was written differs from the text of the list from `at` on, with nothing written behind it.
-fn text_differs(list: &[u8], at: usize, count: usize, text: &[u8; answer::TEXT]) -> bool
-    requires { at ≤ length list.now }
-    ensures { result ≡ differs text.now (byte_in list.now at count 0 255) 0 }
-{
-    replay::bytes_differ(list, at, count, text, 0, 255)
-}
-
-// Whether the answer to the input differs from the text of the list from `at` on.
-fn entry_differs(list: &[u8], input: &[u8], at: usize, count: usize) -> bool
-    requires { at ≤ length list.now }
-    ensures { DiffersUnless result (AnswersSo input.now list.now at count) }
-{
-    let mut text = text_room();
+    // A byte that no text has stands in every place of the room for the text.
+    let mut text = [255; answer::TEXT];
     let n = answer::respond(input, &mut text);
-    n != count || text_differs(list, at, count, &text)
+    n != count || said.bytes_differ(count, &text, 0, 255)
 }
 
 // Inputs of the program, each with its text.
@@ -53,13 +36,12 @@ impl Entries for Inputs {
         Inputs
     }
 
-    fn run(&self, list: &[u8], at: usize) -> Option<Run> {
-        let mut cursor = Cursor { list, at };
+    fn run(&self, mut cursor: Cursor<'_>) -> Option<Run> {
         let input = cursor.counted()?;
         let count = cursor.number()?;
-        let text = cursor.at;
+        let text = cursor;
         cursor.take(count)?;
-        Some(Run::of(entry_differs(list, input, text, count), cursor.at))
+        Some(Run::of(answer_differs(input, count, text), cursor.at))
     }
 }
 

@@ -36,7 +36,7 @@ use Rattle.groups.specs.Arrays.{lines_of}
 use Rattle.sizes.specs.Lent.{ArrowArrays}
 use Rattle.board.specs.Kept.{sizes_on, leaf_on}
 use Rattle.board.specs.Inside.{lent_sizes}
-use Rattle.board.proofs.LentSizes.{lent_most, lent_on, lent_kept}
+use Rattle.board.proofs.LentSizes.{lent_on, lent_kept}
 
 -- numbers that rise
 rises_step : (at : ℕ) (es : List ℕ) → rises at es ≡ true → (a : ℕ) → suc a < length es → get_or es a 0 ≤ get_or es (suc a) 0
@@ -154,13 +154,6 @@ module _ (b : Board) (h : well_formed b ≡ true) where
   pub board_most : b.problem.height * b.problem.width ≤ 1024
   unfolding cells
   board_most = most
-
-  -- no more than the arrays have
-  pub lent_few : {n : ℕ} → n ≡ lent_sizes b.lowest (b.problem.height * b.problem.width) → (n ≤ length b.lowest) × (n ≤ length b.highest)
-  unfolding cells
-  lent_few e =
-      let l = lent_most b.lowest cells in
-      (omega (arith, e, l, most, arrays.lowest_long), omega (arith, e, l, most, arrays.highest_long))
 
   module _ {lows highs : List ℕ} (lent : Lent b lows highs) where
     -- they sit on its arrows

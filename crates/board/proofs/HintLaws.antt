@@ -71,15 +71,6 @@ no_hints_lem = record { four = refl; low = λ q. rw (none_yet 4 q) (omega arith)
 
 -- ---- one count of them
 
--- one more: at the top it stays, below it rises
-pub raised_top : (n : ℕ) → n ≡ 65535 → 65535 ≡ raised n
-unfolding raised
-raised_top n e = rw e refl
-
-pub raised_more : (n : ℕ) → n < 65535 → n + 1 ≡ raised n
-unfolding raised
-raised_more n h = let l : n + 1 ≤ 65535 = omega arith in sym (min-eq_left l)
-
 -- a count stays a count
 raised_low : (n : ℕ) → raised n ≤ 65535
 unfolding raised

@@ -10,3 +10,4 @@ pub mod OpenLaws
 pub mod Unchanged
 pub mod LentSizes
 pub mod BoardArrays
+pub mod DecisionLaws

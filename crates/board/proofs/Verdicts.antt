@@ -17,7 +17,7 @@ use Rattle.record.specs.Arrows.{on_arrow}
 use Rattle.record.specs.Problem.{grid_of, puzzle_of}
 use Rattle.record.specs.Leaf.{is_edition}
 use Rattle.form.specs.Form.{long, problem_formed, stated, ordered}
-use Rattle.form.proofs.Verdicts.{decisions_formed}
+use Rattle.board.proofs.DecisionLaws.{decisions_formed}
 use Rattle.form.proofs.ProblemForm.{Formed-is, formed_Valid, formed_again}
 use Rattle.sizes.specs.Inside.{Drawn}
 use Rattle.sizes.proofs.DrawnLaws.{problem_Drawn}

@@ -2,6 +2,8 @@
 // opened from a record; decide adds a decision, undo removes the latest.
 #![tactic(auto)]
 
+pub mod decisions;
+
 ghost use Rattle.std.specs.Prelude.{◌≡◌, true, false, ℕ, ◌≤◌, ◌<◌, get_or, IfOk, IfErr};
 ghost use Rattle.grid.specs.Grid.{size};
 ghost use Rattle.record.specs.Problem.{grid_of};
@@ -18,7 +20,7 @@ ghost use Rattle.board.specs.Inside.{Placing, Stands, fresh_of, Held, lent_sizes
 use grid::UNDECIDED;
 use record::Problem;
 use refusal::Refusal;
-use sizes::{Edition, LentLeaf, Words};
+use sizes::{CellSizes, Edition, LentLeaf, Words};
 
 // A problem with its decisions. `edition` is 1, or 2 for free growth; `cells` has the state of each cell (0 empty, 1 square, 2 undecided), with 2 behind the grid;
 // `order` has the decided cells in the order decided, `decided` of them, with 0 behind; `hints` counts for each player, 0 to 3, that
@@ -67,7 +69,7 @@ fn place(
 }
 
 // Adds the decisions in the bytes, two bytes each, to a board of n cells that is known to be well formed, up to the first that is refused; `decided` tells how
-// many then stand. It is for `decide_all`, which has tested its board, and for `call::decide_in_order`, which has the arrays of a fresh one.
+// many then stand. It is for `decide_all`, which has tested its board, and for `calls::decide_in_order`, which has the arrays of a fresh one.
 pub fn place_all(
     cells: &mut [u8; Board::CELLS],
     order: &mut [u16; Board::CELLS],
@@ -92,9 +94,10 @@ pub fn place_all(
 }
 
 // A board of the problem in an edition with these sizes, nothing decided and no hint taken.
-fn fresh(problem: Problem, edition: u8, lowest: [u16; 1024], highest: [u16; 1024]) -> Board
-    ensures { result ≡ fresh_of problem edition lowest highest }
+fn fresh(problem: Problem, edition: u8, sizes: CellSizes) -> Board
+    ensures { result ≡ fresh_of problem edition sizes.lowest sizes.highest }
 {
+    let CellSizes { lowest, highest } = sizes;
     Board {
         problem,
         edition,
@@ -140,10 +143,8 @@ impl Board {
     {
         let problem = Problem::read(bytes)?;
         let edition = Edition::try_from(edition)?;
-        let mut lowest = [0; Board::CELLS];
-        let mut highest = [0; Board::CELLS];
-        sizes::read(&problem, &Words(sizes), &mut lowest, &mut highest)?;
-        Ok(fresh(problem, edition.number(), lowest, highest))
+        let sizes = CellSizes::read(&problem, &Words(sizes))?;
+        Ok(fresh(problem, edition.number(), sizes))
     }
 
     // Whether some list of calls on the board of some record leaves this board. The counts of hints are not asked for: any will do.

@@ -8,7 +8,7 @@ use board::Board;
 use finds::{Find, Literals, Way};
 use record::Problem;
 use refusal::Refusal;
-use replay::Tally;
+use replay::{Cursor, Tally};
 
 // How many damages there are.
 const DAMAGES: usize = 41;
@@ -32,11 +32,11 @@ fn changed(left: Left, b: Board) -> bool {
 // Whether a find of the player on the board, made in this way, is not refused with 6, or changes the board or the lent buffer.
 fn asked_so(b: Board, find: Find, way: Way) -> bool {
     let literals = Literals {
-        list: b"",
-        at: 0,
+        from: Cursor { list: b"", at: 0 },
         count: 0,
     };
-    let made = finds::find_differs(b, find, way, 6, literals);
+    let refusal = usize::from(Refusal::Board.number());
+    let made = finds::find_differs(b, find, way, refusal, literals);
     made.differs || made.board != b
 }
 
@@ -166,13 +166,7 @@ fn damaged(b: Board, k: usize) -> Board {
 fn count_accepted(b: Board) -> usize
     ensures { result ≤ 41 }
 {
-    let mut count = 0;
-    for k in 0..DAMAGES {
-        if accepted(damaged(b, k)) {
-            count += 1;
-        }
-    }
-    count
+    (0..DAMAGES).filter(|&k| accepted(damaged(b, k))).count()
 }
 
 // The board that is damaged: one cell of a strip of five is decided.

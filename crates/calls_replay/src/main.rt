@@ -13,7 +13,7 @@
 mod boards;
 mod damaged;
 
-ghost use Rattle.std.specs.Prelude.{◌≤◌, ◌<◌, length};
+ghost use Rattle.std.specs.Prelude.{◌≤◌, length};
 
 use board::Board;
 use boards::Left;
@@ -26,16 +26,16 @@ use std::io::Write;
 // The most numbers of sizes that an entry may have.
 const SIZES: usize = 4096;
 
-// What a call left: the board, whether something differed, and where the call ends in the list, none where the list ends inside the call.
+// What a call left: the board, and whether something differed.
 #[derive(Clone, Copy)]
 struct Step {
     board: Board,
     differs: bool,
-    end: Option<usize>,
 }
 
 // The step of a call on the board b that by value answers and leaves d, and on a lent board l. A refused call leaves the board as it was.
-fn answered(b: Board, d: Left, l: Left, expected: usize, end: usize) -> Step {
+fn answered(b: Board, d: Left, l: Left, refusal: u8) -> Step {
+    let expected = usize::from(refusal);
     let board = d.board;
     let lent = l.board;
     Step {
@@ -44,56 +44,36 @@ fn answered(b: Board, d: Left, l: Left, expected: usize, end: usize) -> Step {
             || boards::answer_differs(l.answer, expected)
             || lent != board
             || expected != 0 && board != b,
-        end: Some(end),
     }
 }
 
-// The step of a call that the list ends inside of, or that is of no kind.
-fn broken(board: Board) -> Step {
-    Step {
-        board,
-        differs: true,
-        end: None,
-    }
-}
-
-// Makes the decide at `at`.
-fn make_decide(list: &[u8], at: usize, b: Board) -> Step
-    requires { at < length list.now }
-{
-    if list.len() < at + 5 {
-        return broken(b);
-    }
-    let index = replay::number_at(list, at + 1);
-    let value = list[at + 3];
-    answered(
+// Makes the decide at the cursor; none where the list ends inside of it, here and below.
+fn make_decide(cursor: &mut Cursor<'_>, b: Board) -> Option<Step> {
+    let index = cursor.number()?;
+    let value = cursor.byte()?;
+    let refusal = cursor.byte()?;
+    Some(answered(
         b,
         boards::after_call(b, b.decide(index, value)),
         boards::on_lent(b, |lent| lent::decide_in(lent, index, value)),
-        usize::from(list[at + 4]),
-        at + 5,
-    )
+        refusal,
+    ))
 }
 
-// Makes the undo at `at`.
-fn make_undo(list: &[u8], at: usize, b: Board) -> Step
-    requires { at < length list.now }
-{
-    if list.len() < at + 2 {
-        return broken(b);
-    }
-    answered(
+// Makes the undo at the cursor.
+fn make_undo(cursor: &mut Cursor<'_>, b: Board) -> Option<Step> {
+    let refusal = cursor.byte()?;
+    Some(answered(
         b,
         boards::after_call(b, b.undo()),
         boards::on_lent(b, lent::undo_in),
-        usize::from(list[at + 1]),
-        at + 2,
-    )
+        refusal,
+    ))
 }
 
 // The step of a find on the board b, made by value and on a lent board, of which the list says this refusal, or, where that is 0, these literals. A
 // refused one leaves the board as it was.
-fn found(b: Board, find: Find, refusal: usize, literals: Literals<'_>, end: usize) -> Step {
+fn found(b: Board, find: Find, refusal: usize, literals: Literals<'_>) -> Step {
     let m = finds::find_differs(b, find, Way::Value(1), refusal, literals);
     let l = finds::find_differs(b, find, Way::Lent, refusal, literals);
     let board = m.board;
@@ -101,96 +81,83 @@ fn found(b: Board, find: Find, refusal: usize, literals: Literals<'_>, end: usiz
     Step {
         board,
         differs: m.differs || l.differs || lent != board || refusal != 0 && board != b,
-        end: Some(end),
     }
 }
 
-// Makes the find at `at`. A refused one has no literals.
-fn make_find(list: &[u8], at: usize, b: Board) -> Step
-    requires { at < length list.now }
-{
-    if list.len() < at + 5 {
-        return broken(b);
-    }
-    let player = list[at + 1];
-    let size = replay::number_at(list, at + 2);
+// Makes the find at the cursor; none also where its buffer is too long. A refused one has no literals.
+fn make_find(cursor: &mut Cursor<'_>, b: Board) -> Option<Step> {
+    let player = cursor.byte()?;
+    let size = cursor.number()?;
+    let refusal = usize::from(cursor.byte()?);
     if 4096 < size {
-        return broken(b);
+        return None;
     }
     let find = Find { player, size };
-    let refusal = usize::from(list[at + 4]);
-    let at = at + 5;
+    let from = *cursor;
     if refusal != 0 {
-        return found(b, find, refusal, Literals { list, at, count: 0 }, at);
+        return Some(found(b, find, refusal, Literals { from, count: 0 }));
     }
-    let count = replay::number_at(list, at);
-    let at = at + 2;
-    let end = at + 2 * count;
-    if list.len() < end {
-        return broken(b);
-    }
-    found(b, find, 0, Literals { list, at, count }, end)
+    let count = cursor.number()?;
+    let from = *cursor;
+    cursor.take(2 * count)?;
+    Some(found(b, find, 0, Literals { from, count }))
 }
 
-// Compares the cells at `at`.
-fn compare_cells(list: &[u8], at: usize, b: Board) -> Step
-    requires { at < length list.now }
-{
+// Compares the cells at the cursor.
+fn compare_cells(cursor: &mut Cursor<'_>, b: Board) -> Option<Step> {
     let n = replay::area(b.problem.height, b.problem.width);
     let cells = b.cells;
-    Step {
-        board: b,
-        differs: replay::cells_differ(list, at + 1, n, &cells, grid::UNDECIDED),
-        end: Some(at + 1 + n),
+    let differs = cursor.cells_differ(n, &cells, grid::UNDECIDED);
+    cursor.take(n)?;
+    Some(Step { board: b, differs })
+}
+
+// Makes the call at the cursor; none also where it is of no kind.
+fn make_call(cursor: &mut Cursor<'_>, b: Board) -> Option<Step> {
+    match cursor.byte()? {
+        0 => make_decide(cursor, b),
+        1 => make_undo(cursor, b),
+        2 => make_find(cursor, b),
+        3 => compare_cells(cursor, b),
+        _ => None,
     }
 }
 
-// Makes the call at `at`.
-fn make_call(list: &[u8], at: usize, b: Board) -> Step
-    requires { at < length list.now }
-{
-    let kind = list[at];
-    match kind {
-        0 => make_decide(list, at, b),
-        1 => make_undo(list, at, b),
-        2 => make_find(list, at, b),
-        3 => compare_cells(list, at, b),
-        _ => broken(b),
+// Makes the call at the cursor, and holds the counts of hints that its board has against those behind it; none where the list ends before these.
+fn make_counted(cursor: &mut Cursor<'_>, b: Board) -> Option<Step> {
+    let Step { board, differs } = make_call(cursor, b)?;
+    if cursor.at == cursor.list.len() {
+        return None;
     }
-}
-
-// The step, held against the counts of hints that stand behind the call in the list.
-fn counted(list: &[u8], s: Step) -> Step {
-    let board = s.board;
     let hints = board.hints;
-    match s.end {
-        Some(end) if end < list.len() => Step {
-            board,
-            differs: s.differs || replay::numbers_differ(list, end, Board::PLAYERS, &hints, 0),
-            end: Some(end + 2 * Board::PLAYERS),
-        },
-        _ => broken(board),
-    }
+    Some(Step {
+        board,
+        differs: differs || cursor.numbers_differ(Board::PLAYERS, &hints, 0),
+    })
 }
 
-// Makes the calls of an entry, which begin at `start`, on a fresh board of its record.
-fn run_calls(list: &[u8], start: usize, calls: usize, fresh: Board) -> Run {
+// Makes the calls of an entry, which begin at the cursor, on a fresh board of its record.
+fn run_calls(start: Cursor<'_>, calls: usize, fresh: Board) -> Run {
+    let list = start.list;
     let mut b = fresh;
-    let mut made = Run {
-        parts: 0,
-        differ: 0,
-        end: Some(start),
-    };
+    let mut made = Run::of(false, start.at);
     for _i in 0..calls {
         match made.end {
             Some(at) if at < list.len() => {
-                let s = counted(list, make_call(list, at, b));
-                b = s.board;
-                made = made.then(Run {
-                    parts: 0,
-                    differ: usize::from(s.differs),
-                    end: s.end,
-                });
+                let mut cursor = Cursor { list, at };
+                let part = match make_counted(&mut cursor, b) {
+                    Some(step) => {
+                        b = step.board;
+                        let hints = cursor.take(2 * Board::PLAYERS);
+                        Run {
+                            parts: 0,
+                            differ: usize::from(step.differs),
+                            end: hints.map(|_| cursor.at),
+                        }
+                    }
+                    None => Run::broken(),
+                };
+                made = made.then(part);
             }
             _ => return Run::broken(),
         }
@@ -198,40 +165,22 @@ fn run_calls(list: &[u8], start: usize, calls: usize, fresh: Board) -> Run {
     made
 }
 
-// The counts of hints at `at`.
-fn hints_at(list: &[u8], at: usize) -> [u16; Board::PLAYERS]
-    requires { at < length list.now }
-{
-    let mut hints = [0u16; Board::PLAYERS];
-    for player in 0..Board::PLAYERS {
-        hints[player] = replay::number_at(list, at + 2 * player) as u16;
+// The numbers that these bytes are, two bytes each, and 0 in the places behind them.
+fn numbers<const N: usize>(bytes: &[u8]) -> [u16; N] {
+    let mut numbers = [0; N];
+    let (pairs, _) = bytes.as_chunks::<2>();
+    for (number, &pair) in numbers.iter_mut().zip(pairs) {
+        *number = u16::from_be_bytes(pair);
     }
-    hints
+    numbers
 }
 
-// The sizes at `at`, so many numbers.
-fn sizes_at(list: &[u8], at: usize, count: usize) -> [u16; SIZES]
-    requires { (at ≤ length list.now) × (count ≤ 4096) }
+// What opening the record in the edition answers, with these sizes.
+fn opened(record: &[u8], edition: u8, sizes: &[u8]) -> Result<Board, Refusal>
+    requires { length sizes.now ≤ 8192 }
 {
-    let mut sizes = [0u16; SIZES];
-    for i in 0..count {
-        sizes[i] = replay::number_at(list, at + 2 * i) as u16;
-    }
-    sizes
-}
-
-// What opening the record in the edition answers, with the sizes at `at`, so many numbers.
-fn opened(
-    list: &[u8],
-    record: &[u8],
-    edition: u8,
-    at: usize,
-    count: usize,
-) -> Result<Board, Refusal>
-    requires { (at ≤ length list.now) × (count ≤ 4096) }
-{
-    let sizes = sizes_at(list, at, count);
-    Board::open(record, edition, &sizes[..count])
+    let numbers: [u16; SIZES] = numbers(sizes);
+    Board::open(record, edition, &numbers[..sizes.len() / 2])
 }
 
 // Lists of calls, each with the record that they begin on.
@@ -247,34 +196,31 @@ impl Entries for Lists {
         Lists
     }
 
-    // Opens the record of the entry at `at` with its sizes, and where it is accepted makes its calls on the board with the counts of hints that
+    // Opens the record of the entry at the cursor with its sizes, and where it is accepted makes its calls on the board with the counts of hints that
     // it is handed in with.
-    fn run(&self, list: &[u8], at: usize) -> Option<Run> {
-        let mut cursor = Cursor { list, at };
+    fn run(&self, mut cursor: Cursor<'_>) -> Option<Run> {
         let bytes = cursor.counted()?;
         let edition = cursor.byte()?;
         let count = cursor.number()?;
-        let sizes = cursor.at;
-        cursor.take(2 * count)?;
+        let sizes = cursor.take(2 * count)?;
         let refusal = usize::from(cursor.byte()?);
         if SIZES < count {
             return None;
         }
-        let answer = opened(list, bytes, edition, sizes, count);
-        let hints = cursor.at;
+        let answer = opened(bytes, edition, sizes);
         if refusal != 0 {
             let differs = match answer {
                 Ok(_) => true,
                 Err(refused) => usize::from(refused.number()) != refusal,
             };
-            return Some(Run::of(differs, hints));
+            return Some(Run::of(differs, cursor.at));
         }
-        cursor.take(2 * Board::PLAYERS)?;
+        let hints = cursor.take(2 * Board::PLAYERS)?;
         let calls = cursor.number()?;
         let mut board = answer.ok()?;
-        let handed = hints_at(list, hints);
+        let handed = numbers(hints);
         board.hints = handed;
-        Some(run_calls(list, cursor.at, calls, board))
+        Some(run_calls(cursor, calls, board))
     }
 }
 

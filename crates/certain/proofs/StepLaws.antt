@@ -20,7 +20,7 @@ use Rattle.form.proofs.ProblemForm.{Formed}
 use Rattle.groups.specs.Arrays.{lines_of}
 use Rattle.literals.specs.Literals.{Found}
 use Rattle.literals.specs.Inside.{count_of, FoundAs}
-use Rattle.std.specs.Prelude.{Some, None}
+use Rattle.std.specs.Prelude.{Option, Some, None}
 use Rattle.literals.proofs.Findings.{nothing_found}
 use Rattle.reasons.specs.Reasons.{find_reason}
 use Rattle.finished.specs.Finished.{keeps_all, two_squares, finished_test}
@@ -28,8 +28,6 @@ use Rattle.finished.proofs.VerdictLaws.{few, fails_before, no_reason}
 use Rattle.certain.specs.Tree.{lowest, counted}
 use Rattle.certain.specs.Facts.{facts_in}
 use Rattle.certain.specs.Inside.{States, Gathers, Beyond, undecided, noted, passed, Meets, reason, full, undecided as meets_undecided}
-use Rattle.certain.specs.declared.Met.{Met}
-use Rattle.certain.specs.declared.Met.TheVariants.{Reason}
 use Rattle.certain.proofs.LowestLaws.{Lowest, found, full as is_full, Lowest-view, none_left, low_set}
 use Rattle.certain.proofs.FactLaws.{Noted-more}
 
@@ -80,7 +78,7 @@ module _ (q : Problem) (f : Formed q) (edition : ℕ) (sizes : List Range) {stat
       go i (no l) = rw (get_or-eq_default cells 0 {n = i} (omega (arith, cells_long))) (omega arith)
 
   -- back on a reason
-  pub Meets-reason : {b a facts : List ℕ} {k : ℕ} → FoundAs (find_reason leaf cells) b a (Some k) → Meets leaf n states facts facts Reason
+  pub Meets-reason : {b a facts : List ℕ} {k : ℕ} → FoundAs (find_reason leaf cells) b a (Some k) → Meets leaf n states facts facts None
   Meets-reason x = reason (some_found (find_reason leaf cells) x) refl
 
   -- no reason applies
@@ -103,7 +101,7 @@ module _ (q : Problem) (f : Formed q) (edition : ℕ) (sizes : List Range) {stat
         not_two z = none_left cells (none_undecided n cells cells_long e) i (get_or-take n states i 0 l ∙ z)
 
     -- what lies beyond
-    pub Meets-Beyond : {m : Met} {before after : List ℕ} → length before ≡ 1024 → Beyond n states test before after m → Meets leaf n states before after m
+    pub Meets-Beyond : {m : Option ℕ} {before after : List ℕ} → length before ≡ 1024 → Beyond n states test before after m → Meets leaf n states before after m
     Meets-Beyond long (undecided e g h) = meets_undecided quiet e g h
     Meets-Beyond long (noted e t h) =
         full quiet e h.long (rw (boards_are true (no_reason q f edition sizes states s.long good t x)) (λ bs z. Noted-more n (few q f) h (low e) bs z))

@@ -13,9 +13,9 @@ use Rattle.grid.specs.Lists.{how_many}
 use Rattle.record.specs.Leaf.{Leaf}
 use Rattle.literals.specs.Literals.{Found}
 use Rattle.reasons.specs.Reasons.{find_reason}
+use Rattle.std.specs.Prelude.{Some, None}
 use Rattle.certain.specs.Tree.{lowest, Reached, counted, both, stepped, search_in, search_of}
 use Rattle.certain.specs.Inside.{Gathers, Meets, reason, full, undecided, left_after, Searched}
-use Rattle.certain.specs.declared.Met.TheVariants as met
 use Rattle.certain.proofs.LowestLaws.{Lowest, found, full as is_full, Lowest-view, fewer}
 use Rattle.certain.proofs.StepLaws.{none_undecided, Gathers-none}
 
@@ -128,16 +128,13 @@ module _ (n left : ℕ) (l : Leaf) (cells before : List ℕ) (long : length befo
         → Searched n left (search_of l (take n cells)) (suc (left - 1)) cells cells before after
     one_step boards e long' g = rw e (record { same = refl; long = long'; left_is = left_in 1 left (omega arith); gathers = λ _. g })
 
-    -- back on a reason
-    pub way_back : {after : List ℕ} → Meets l n cells before after met.Reason → Searched n left (search_of l (take n cells)) (suc (left - 1)) cells cells before after
+    -- back on a reason, or behind a full board
+    pub way_back : {after : List ℕ} → Meets l n cells before after None → Searched n left (search_of l (take n cells)) (suc (left - 1)) cells cells before after
     way_back (reason q e) = one_step [] (search_back l (take n cells) q) (ap length e ∙ long) (Gathers-none n e)
-
-    -- a full board
-    pub way_full : {after : List ℕ} → Meets l n cells before after met.Full → Searched n left (search_of l (take n cells)) (suc (left - 1)) cells cells before after
-    way_full (full q e long' g) = one_step (counted l (take n cells)).boards (search_full l (take n cells) q (none_undecided n (take n cells) size_is e)) long' g
+    way_back (full q e long' g) = one_step (counted l (take n cells)).boards (search_full l (take n cells) q (none_undecided n (take n cells) size_is e)) long' g
 
     -- an undecided cell
-    module _ {i : ℕ} {after : List ℕ} (m : Meets l n cells before after (met.Undecided i)) where
+    module _ {i : ℕ} {after : List ℕ} (m : Meets l n cells before after (Some i)) where
       -- what is known of it
       record Spot : Type 0 where
         quiet : find_reason l (take n cells) ≡ none
@@ -150,7 +147,7 @@ module _ (n left : ℕ) (l : Leaf) (cells before : List ℕ) (long : length befo
       spot : Spot
       spot = of m
         where
-          of : Meets l n cells before after (met.Undecided i) → Spot
+          of : Meets l n cells before after (Some i) → Spot
           of (undecided q e g k) = go (Lowest-view (take n cells))
             where
               go : Lowest (take n cells) → Spot

@@ -6,8 +6,6 @@ use Rattle.record.specs.Leaf.{Leaf}
 use Rattle.reasons.specs.Reasons.{find_reason}
 use Rattle.certain.specs.Tree.{lowest, Reached, counted}
 use Rattle.certain.specs.Facts.{facts_in}
-use Rattle.certain.specs.declared.Met.{Met}
-use Rattle.certain.specs.declared.Met.TheVariants.{Reason, Full, Undecided}
 
 -- 1,024 states
 pub record States (cells : List ℕ) : Type 0 where
@@ -29,21 +27,21 @@ pub record Noted (n : ℕ) (cells before after : List ℕ) : Type 0 where
   pub each : (i : ℕ) → i < n → get_or after i 0 ≡ joined_of (get_or before i 0) (get_or cells i 0)
   pub behind : (i : ℕ) → n ≤ i → get_or after i 0 ≡ get_or before i 0
 
--- what is met beyond a board of n cells with no reason: its lowest undecided cell; or that it is full, and it is noted where the test passes
-pub data Beyond (n : ℕ) (cells : List ℕ) (test : Bool) (before after : List ℕ) : Met → Type 0 where
-  undecided : {i : ℕ} → i ≡ lowest (take n cells) → (i ≡ n → ⊥) → after ≡ before → Beyond n cells test before after (Undecided i)
-  noted : lowest (take n cells) ≡ n → test ≡ true → Noted n cells before after → Beyond n cells test before after Full
-  passed : lowest (take n cells) ≡ n → test ≡ false → after ≡ before → Beyond n cells test before after Full
+-- what is met beyond a board of n cells with no reason: its lowest undecided cell; or none, since it is full, and it is noted where the test passes
+pub data Beyond (n : ℕ) (cells : List ℕ) (test : Bool) (before after : List ℕ) : Option ℕ → Type 0 where
+  undecided : {i : ℕ} → i ≡ lowest (take n cells) → (i ≡ n → ⊥) → after ≡ before → Beyond n cells test before after (Some i)
+  noted : lowest (take n cells) ≡ n → test ≡ true → Noted n cells before after → Beyond n cells test before after None
+  passed : lowest (take n cells) ≡ n → test ≡ false → after ≡ before → Beyond n cells test before after None
 
 -- where the facts were those of some boards, they are those of these boards too
 abbrev pub Gathers : ℕ → List (List ℕ) → List ℕ → List ℕ → Type 0
 Gathers n boards before after = (bs : List (List ℕ)) → before ≡ facts_in n bs → after ≡ facts_in n (bs ++ boards)
 
--- what one step meets on a board of n cells: a reason, a full board, which is gathered if it counts, or the lowest undecided cell
-pub data Meets (l : Leaf) (n : ℕ) (cells before after : List ℕ) : Met → Type 0 where
-  reason : (find_reason l (take n cells) ≡ none → ⊥) → after ≡ before → Meets l n cells before after Reason
-  full : find_reason l (take n cells) ≡ none → lowest (take n cells) ≡ n → length after ≡ 1024 → Gathers n (counted l (take n cells)).boards before after → Meets l n cells before after Full
-  undecided : {i : ℕ} → find_reason l (take n cells) ≡ none → i ≡ lowest (take n cells) → (i ≡ n → ⊥) → after ≡ before → Meets l n cells before after (Undecided i)
+-- what one step meets on a board of n cells: none where there is a reason, or where the board is full, which is gathered if it counts; or the lowest undecided cell
+pub data Meets (l : Leaf) (n : ℕ) (cells before after : List ℕ) : Option ℕ → Type 0 where
+  reason : (find_reason l (take n cells) ≡ none → ⊥) → after ≡ before → Meets l n cells before after None
+  full : find_reason l (take n cells) ≡ none → lowest (take n cells) ≡ n → length after ≡ 1024 → Gathers n (counted l (take n cells)).boards before after → Meets l n cells before after None
+  undecided : {i : ℕ} → find_reason l (take n cells) ≡ none → i ≡ lowest (take n cells) → (i ≡ n → ⊥) → after ≡ before → Meets l n cells before after (Some i)
 
 -- what is left, as `left_after` counts
 abbrev pub left_number : Option ℕ → ℕ

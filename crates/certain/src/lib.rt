@@ -8,6 +8,7 @@ ghost use Rattle.refusal.specs.Refusals.{outcome_of};
 ghost use Rattle.form.specs.Form.{problem_formed};
 ghost use Rattle.groups.specs.Arrays.{lines_of, Drawn};
 ghost use Rattle.sizes.specs.LeafOf.{leaf_of};
+ghost use Rattle.reasons.specs.Lent.{cell_count, leaf_cells};
 ghost use Rattle.finished.specs.Finished.{keeps_all, two_squares};
 ghost use Rattle.certain.specs.Tree.{lowest, search_of};
 ghost use Rattle.certain.specs.Facts.{certain_by, certain_of};
@@ -29,20 +30,13 @@ pub enum Certainty {
 }
 
 // The answer, the number of steps, and where the cells are told 1 for a cell that is square in every finished board, 0 for one that is
-// empty in every one and 2 for one that is open. 3 stands behind the grid, and at every place where nothing is told.
+// empty in every one and 2 for one that is open. 3 stands behind the grid, and at every place where nothing is told, so that nobody who reads the cells
+// without the answer takes one for a verdict: within the answer they would be no plainer.
 #[derive(Clone, Copy)]
 pub struct Facts {
     pub answer: Certainty,
     pub steps: u64,
     pub cells: [u8; 1024],
-}
-
-// What a step meets: a reason, a full board, or the lowest undecided cell.
-#[derive(Clone, Copy, Debug, PartialEq, Eq)]
-enum Met {
-    Reason,
-    Full,
-    Undecided(usize),
 }
 
 // Stands for a cell of which nothing is known, and for one that is open.
@@ -64,7 +58,8 @@ fn joined(known: u8, value: u8) -> u8
     }
 }
 
-// Joins a board to what is known of the first n cells.
+// Joins a board to what is known of the first n cells. No zip: of the cells that it lends to be
+// written a proof knows nothing afterwards.
 fn note_board(cells: &[u8; 1024], n: usize, facts: &mut [u8; 1024])
     requires { n ≤ 1024 }
     ensures { Noted n cells.now facts.old facts.new }
@@ -80,17 +75,12 @@ fn lowest_undecided(cells: &[u8; 1024], n: usize) -> Option<usize>
     ensures lowest { lowest_or n result ≡ lowest (take n cells.now) }
     ensures below { ForSome result (λ i. i < n) }
 {
-    for i in 0..n {
-        if cells[i] == UNDECIDED {
-            return Some(i);
-        }
-    }
-    None
+    (0..n).find(|&i| cells[i] == UNDECIDED)
 }
 
-// What lies beyond a board with no reason: its lowest undecided cell, or nothing where it is full. Then it is noted, if it meets all that is asked of a
+// What lies beyond a board with no reason: its lowest undecided cell, or none where it is full. Then it is noted, if it meets all that is asked of a
 // finished board but the block rules, which hold where there is no reason.
-fn beyond(problem: &Problem, cells: &[u8; 1024], facts: &mut [u8; 1024]) -> Met
+fn beyond(problem: &Problem, cells: &[u8; 1024], facts: &mut [u8; 1024]) -> Option<usize>
     requires small { problem.now.height * problem.now.width ≤ 1024 }
     requires drawn { Drawn (problem.now.height * problem.now.width) problem.now.arrows problem.now.ends problem.now.count }
     ensures { Beyond (problem.now.height * problem.now.width) cells.now (keeps_all (problem.now.height * problem.now.width) problem.now.cells cells.now
@@ -98,29 +88,29 @@ fn beyond(problem: &Problem, cells: &[u8; 1024], facts: &mut [u8; 1024]) -> Met
 {
     let n = problem.height * problem.width;
     if let Some(i) = lowest_undecided(cells, n) {
-        return Met::Undecided(i);
+        return Some(i);
     }
     let counts = finished::all_but_rules(problem, cells);
     if counts {
         note_board(cells, n, facts);
     }
-    Met::Full
+    None
 }
 
-// One step of the search: find on a board, and what it meets.
+// One step of the search: find on a board, and the lowest undecided cell, from which the search goes on; none where there is a reason or the board is full.
 fn step(
     leaf: &LentLeaf<'_>,
     cells: &[u8; 1024],
     facts: &mut [u8; 1024],
     buffer: &mut [u16; Board::LITERALS],
-) -> Met
+) -> Option<usize>
     requires formed { problem_formed leaf.now.problem.now ≡ true }
     requires states { States cells.now }
-    ensures { Meets (leaf_of leaf.now) (leaf.now.problem.now.height * leaf.now.problem.now.width) cells.now facts.old facts.new result }
+    ensures { Meets (leaf_of leaf.now) (cell_count leaf.now) cells.now facts.old facts.new result }
 {
-    match inconsistency::find_inconsistency(leaf, cells, buffer) {
+    match reasons::inconsistency::find_inconsistency(leaf, cells, buffer) {
         None => beyond(leaf.problem, cells, facts),
-        Some(_) => Met::Reason,
+        Some(_) => None,
     }
 }
 
@@ -135,42 +125,39 @@ fn search_from(
 ) -> Option<u64>
     requires formed { problem_formed leaf.now.problem.now ≡ true }
     requires states { States cells.old }
-    ensures { Searched (leaf.now.problem.now.height * leaf.now.problem.now.width) left
-        (search_of (leaf_of leaf.now) (take (leaf.now.problem.now.height * leaf.now.problem.now.width) cells.old)) (left_number result)
+    ensures { Searched (cell_count leaf.now) left
+        (search_of (leaf_of leaf.now) (leaf_cells leaf.now cells.old)) (left_number result)
         cells.old cells.new facts.old facts.new }
 {
     if left == 0 {
         return None;
     }
-    match step(leaf, cells, facts, buffer) {
-        Met::Reason => Some(left - 1),
-        Met::Full => Some(left - 1),
-        Met::Undecided(i) => {
-            cells[i] = SQUARE;
-            let first = search_from(leaf, cells, facts, buffer, left - 1);
-            match first {
-                None => {
-                    cells[i] = UNDECIDED;
-                    None
-                }
-                Some(rest) => {
-                    cells[i] = EMPTY;
-                    let second = search_from(leaf, cells, facts, buffer, rest);
-                    cells[i] = UNDECIDED;
-                    second
-                }
-            }
+    let Some(i) = step(leaf, cells, facts, buffer) else {
+        return Some(left - 1);
+    };
+    cells[i] = SQUARE;
+    let first = search_from(leaf, cells, facts, buffer, left - 1);
+    match first {
+        None => {
+            cells[i] = UNDECIDED;
+            None
+        }
+        Some(rest) => {
+            cells[i] = EMPTY;
+            let second = search_from(leaf, cells, facts, buffer, rest);
+            cells[i] = UNDECIDED;
+            second
         }
     }
 }
 
 // What `certain` answers, on the leaf that is lent, whose problem is known to be accepted, and the states of its cells, which are left as they were: for
-// `certain`, which has tested its board, and for `host_certain`, which goes by an accepted record.
+// `certain`, which has tested its board, and for `calls::certain_cells`, which goes by an accepted record.
 pub fn certain_cells(leaf: &LentLeaf<'_>, cells: &mut [u8; 1024], budget: u64) -> Facts
     requires formed { problem_formed leaf.now.problem.now ≡ true }
     requires states { States cells.old }
-    ensures facts { facts_as result ≡ certain_by (leaf.now.problem.now.height * leaf.now.problem.now.width) budget
-        (search_of (leaf_of leaf.now) (take (leaf.now.problem.now.height * leaf.now.problem.now.width) cells.old)) }
+    ensures facts { facts_as result ≡ certain_by (cell_count leaf.now) budget
+        (search_of (leaf_of leaf.now) (leaf_cells leaf.now cells.old)) }
     ensures cells { cells.new ≡ cells.old }
 {
     let mut facts = [UNKNOWN; 1024];

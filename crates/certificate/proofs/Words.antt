@@ -1,18 +1,16 @@
 -- The words of a certificate, by its bytes, and the parts of them that the code reads.
 -- Assumes nothing.
-use Prim.Native.Nat.{ℕ, ◌+◌, ◌-◌, ◌*◌, ◌/◌, ◌%◌, ◌<◌, ◌≤◌}
+use Prim.Native.Nat.{ℕ, ◌+◌, ◌-◌, ◌*◌, ◌/◌, ◌<◌, ◌≤◌}
 use native.Mathlib.Omega.{arith}
 use native.Mathlib.Numerals.{add-one}
-use mathlib.Core.Path.{◌≡◌, refl, sym}
-use mathlib.Core.Bool.{false}
-use mathlib.Core.List.{List, ◌∷◌}
-use lib.Dec.{leb}
+use mathlib.Core.Path.{◌≡◌, sym}
+use mathlib.Core.List.{List, [], ◌∷◌}
 use lib.ListN.{length, get_or, take, drop}
 use lib.Seq.{slice, slice-cons, length-slice}
-use borrow.Author.Tests.{eq-eqb, ne_eqb}
+use Rattle.std.specs.Int.{w32, from_be_bytes}
 use Rattle.grid.proofs.ListLaws.{length-map-upto, map-upto_at, map-upto_past}
 use Rattle.grid.proofs.SliceLaws.{slice_taken}
-use Rattle.certificate.specs.Certificate.{word_at, words_of, tag, whole_words}
+use Rattle.certificate.specs.Certificate.{word_at, words_of}
 
 module _ (s : List ℕ) where
   pub words_length : length (words_of s) ≡ length s / 3
@@ -28,9 +26,9 @@ module _ (s : List ℕ) where
   words_past k h = map-upto_past (word_at s) (length s / 3) k 0 h
 
   -- the word of three bytes
-  pub word_is : (k : ℕ) {a b c : ℕ} → 3 * k + 2 < length s → a ≡ get_or s (3 * k) 0 → b ≡ get_or s (3 * k + 1) 0 → c ≡ get_or s (3 * k + 2) 0 → a * 65536 + b * 256 + c ≡ get_or (words_of s) k 0
+  pub word_is : (k : ℕ) {n : ℕ} → 3 * k + 2 < length s → n ≡ from_be_bytes w32 (0 ∷ get_or s (3 * k) 0 ∷ get_or s (3 * k + 1) 0 ∷ get_or s (3 * k + 2) 0 ∷ []) → n ≡ get_or (words_of s) k 0
   unfolding word_at
-  word_is k h e f g = rw (e, f, g) (sym (words_at k (omega arith)))
+  word_is k h e = omega (arith, e, words_at k (omega arith))
 
   -- the words from k on, by the first of them
   module _ (k to : ℕ) (h : k < to) (l : to ≤ length s / 3) where
@@ -39,14 +37,6 @@ module _ (s : List ℕ) where
 
     pub words_left : length (slice (k + 1) to (words_of s)) ≡ to - (k + 1)
     words_left = length-slice (k + 1) to (words_of s) (omega (arith, words_length))
-
-  pub cut_word : (length s % 3 ≡ 0 → ⊥) → false ≡ whole_words s
-  unfolding whole_words
-  cut_word a = rw (ne_eqb (length s % 3) 0 a) refl
-
-  pub no_cut_word : length s % 3 ≡ 0 → leb (length s / 3) tag ≡ whole_words s
-  unfolding whole_words
-  no_cut_word a = rw (eq-eqb (length s % 3) 0 a) refl
 
 -- n words from a on
 pub words_part : (l : List ℕ) (a n : ℕ) → slice a (a + n) l ≡ take n (drop a l)

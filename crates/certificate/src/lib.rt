@@ -30,16 +30,14 @@ pub enum Closing {
     Undecided,
 }
 
-// The word at place k.
+// The word at place k. Loops read by places too, as steps and hints are named by them; chunks of three bytes would be a second list in contracts.
 #[tactic(auto, using(crate::proofs::Words::word_is))]
 pub fn word_at(certificate: &[u8], k: usize) -> usize
     requires { 3 * k + 2 < length certificate.now }
     ensures { (result ≡ get_or (words_of certificate.now) k 0) × (result < 16777216) }
 {
     let at = 3 * k;
-    usize::from(certificate[at]) * 65536
-        + usize::from(certificate[at + 1]) * 256
-        + usize::from(certificate[at + 2])
+    u32::from_be_bytes([0, certificate[at], certificate[at + 1], certificate[at + 2]]) as usize
 }
 
 // Whether the bytes are whole words, and few enough that a place is no tag.
@@ -70,7 +68,7 @@ fn look_step(state: u8, left: Clause, word: usize) -> Clause
 
 // What the clause between two places comes to under the cells.
 #[tactic(auto, using(crate::proofs::Words::words_on, grid::proofs::SliceLaws::slice_none), unfolding(crate::specs::Certificate::look_from))]
-fn look<'a>(certificate: &'a [u8], from: usize, to: usize, cells: &'a [u8; 1024]) -> Clause
+fn look(certificate: &[u8], from: usize, to: usize, cells: &[u8; 1024]) -> Clause
     requires { to ≤ length certificate.now / 3 }
     ensures { clause_number result ≡ look_from cells.now 0 (slice from to (words_of certificate.now)) }
 {
@@ -84,7 +82,7 @@ fn look<'a>(certificate: &'a [u8], from: usize, to: usize, cells: &'a [u8; 1024]
 
 // What the clause of the hint h of the step at p comes to; any other where h is not the place of an earlier step.
 #[tactic(auto, using(crate::proofs::Words::words_part), unfolding(crate::specs::Certificate::hint_of, crate::specs::Certificate::earlier))]
-fn follow_hint<'a>(certificate: &'a [u8], p: usize, h: usize, cells: &'a [u8; 1024]) -> Clause
+fn follow_hint(certificate: &[u8], p: usize, h: usize, cells: &[u8; 1024]) -> Clause
     requires { p ≤ length certificate.now / 3 }
     ensures { clause_number result ≡ hint_of (words_of certificate.now) p cells.now h }
 {
@@ -111,7 +109,7 @@ fn follow(
     to: usize,
     cells: &mut [u8; 1024],
 ) -> Result<Closing, Refusal>
-    requires { (p ≤ length certificate.now / 3) × (to ≤ length certificate.now / 3) × (length cells.old ≡ 1024) }
+    requires { (p ≤ length certificate.now / 3) × (to ≤ length certificate.now / 3) }
     ensures closing { (closing_number result, cells.new) ≡ follow_from (words_of certificate.now) p cells.old (slice from to (words_of certificate.now)) }
     ensures late { ForErr result (λ r. 26 ≤ number_of r) }
 {
@@ -142,7 +140,7 @@ fn assume(
     n: usize,
     cells: &mut [u8; 1024],
 ) -> Result<(), Refusal>
-    requires { (to ≤ length certificate.now / 3) × (length cells.old ≡ 1024) }
+    requires { to ≤ length certificate.now / 3 }
     ensures assumed { (refusal_number result, cells.new) ≡ assume_from n cells.old (slice from to (words_of certificate.now)) }
     ensures late { ForErr result (λ r. 26 ≤ number_of r) }
 {
@@ -188,7 +186,6 @@ pub fn take_step(
     n: usize,
     cells: &mut [u8; 1024],
 ) -> Result<Closing, Refusal>
-    requires { length cells.old ≡ 1024 }
     ensures closing { (closing_number result, cells.new) ≡ step_from n cells.old (words_of certificate.now) at }
     ensures late { ForErr result (λ r. 26 ≤ number_of r) }
 {
@@ -208,7 +205,7 @@ pub fn claimed_cells(certificate: &[u8], n: usize) -> [u8; 1024]
     requires { (n ≤ 1024) × (n + 2 ≤ length (words_of certificate.now)) }
     ensures { result ≡ array_of 2 (claimed n (words_of certificate.now)) }
 {
-    let mut cells = [2u8; 1024];
+    let mut cells = [UNDECIDED; 1024];
     for i in 0..n {
         cells[i] = (1 - word_at(certificate, i + 1) / 32768 % 2) as u8;
     }
@@ -237,14 +234,8 @@ pub fn is_headed(certificate: &[u8], n: usize) -> bool
     requires { n ≤ 1024 }
     ensures { result ≡ headed n (words_of certificate.now) }
 {
-    if certificate.len() / 3 < n + 2 {
-        return false;
-    }
-    if word_at(certificate, 0) != TAG + n {
-        return false;
-    }
-    if word_at(certificate, n + 1) != 0 {
-        return false;
-    }
-    all_literals(certificate, n)
+    n + 2 <= certificate.len() / 3
+        && word_at(certificate, 0) == TAG + n
+        && word_at(certificate, n + 1) == 0
+        && all_literals(certificate, n)
 }

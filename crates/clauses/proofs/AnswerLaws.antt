@@ -1,25 +1,30 @@
 -- What is returned, and what the output holds then.
 -- Assumes nothing.
-use Prim.Native.Nat.{ℕ, ◌≤◌, ◌<◌}
+use Prim.Native.Nat.{ℕ, ◌+◌, ◌*◌, ◌≤◌, ◌<◌}
 use native.Mathlib.Omega.{arith}
-use mathlib.Core.Path.{◌≡◌, refl, ap, subst, ◌∙◌}
-use mathlib.Core.List.{List, ◌++◌}
-use lib.ListN.{length, take, drop}
+use mathlib.Core.Path.{◌≡◌, refl, sym, ap, ◌∙◌}
+use mathlib.Core.Bool.{true}
+use mathlib.Core.List.{List}
+use lib.ListN.{length}
 use borrow.Author.Tests.{le-leb, lt-leb}
-use Rattle.grid.specs.Lists.{last, member}
-use Rattle.grid.specs.Marks.{Marks}
 use Rattle.std.specs.Prelude.{Ok, Err}
 use Rattle.refusal.specs.declared.Refusal.TheVariants.{SheetShort}
 use Rattle.record.specs.Record.{ok, refused, ◌>>=◌, unless, Puzzle, read_record}
 use Rattle.record.specs.Valid.{Valid}
-use Rattle.record.specs.Problem.{problem_of}
+use Rattle.record.specs.Problem.{problem_of, puzzle_of, as_problem, grid_of, total_of}
 use Rattle.record.specs.declared.Problem.{Problem}
-use Rattle.groups.specs.Arrays.{Line}
+use Rattle.record.proofs.ProblemLaws.{problem_ok, problem_puzzle}
+use Rattle.record.proofs.RecordLaws.{record_Valid}
+use Rattle.form.specs.Form.{problem_formed}
+use Rattle.form.proofs.ProblemForm.{Formed, Formed-is, is_Formed, formed_Valid, formed_again, valid_Formed}
+use Rattle.groups.specs.Arrays.{Line, Drawn}
+use Rattle.board.proofs.BoardArrays.{problem_arrays}
 use Rattle.exported.specs.Written.{Writes}
 use Rattle.exported.proofs.WrittenLaws.{Writes-refused, Writes-ok}
+use Rattle.clauses.specs.declared.Sheet.{Sheet}
 use Rattle.clauses.specs.Clauses.{sheet_bytes, sheet_within, sheet_for}
-use Rattle.clauses.specs.Inside.{Sheeted, sheet_piece}
-use Rattle.clauses.proofs.BytesLaws.{sheeted}
+use Rattle.clauses.specs.Inside.{Pushed}
+use Rattle.clauses.proofs.LengthLaws.{Valid_most}
 
 within_13 : (n : ℕ) (p : Puzzle) → n < length (sheet_bytes p) → sheet_within n p ≡ refused 13
 unfolding sheet_within ◌>>=◌ unless
@@ -29,39 +34,54 @@ within_ok : (n : ℕ) (p : Puzzle) → length (sheet_bytes p) ≤ n → sheet_wi
 unfolding sheet_within ◌>>=◌ unless
 within_ok n p h = rw (le-leb (length (sheet_bytes p)) n h) refl
 
-module _ (p : Puzzle) (v : Valid p) (q : Problem) (e : q ≡ problem_of p) (total : ℕ) (t : total ≡ last 0 (take q.count q.ends)) where
-  pub flat_Line : Line q.arrows total
-  flat_Line = rw t (sheeted p v q e).flat
+-- the puzzle that a well-formed problem keeps is valid, and its arrays hold its arrows
+module _ (q : Problem) (r : problem_formed q ≡ true) where
+  formed : Formed q
+  formed = Formed-is q r
 
-  module _ (M : List ℕ) (K : Marks M (λ i. member i (take total q.arrows))) where
-    -- what the code writes
-    abbrev code : List ℕ
-    code = sheet_piece q M
+  pub valid : Valid (puzzle_of q)
+  valid = formed_Valid q formed
 
-    whole : code ≡ sheet_bytes p
-    whole = (sheeted p v q e).piece M (subst (λ n. Marks M (λ i. member i (take n q.arrows))) t K)
+  pub kept : q ≡ problem_of (puzzle_of q)
+  kept = sym (formed_again q formed)
 
-    long : {o u : List ℕ} {n : ℕ} → Sheeted code o u n → n ≡ length (sheet_bytes p)
-    long a = a.counted ∙ ap length whole
+  pub high : (q.height ≤ 32) × (q.width ≤ 32)
+  unfolding grid_of
+  high = formed.sizes.high
 
-    -- too short an output
-    pub Writes-13 : {o u : List ℕ} {n : ℕ} (old : List ℕ) → Sheeted code o u n → length old < n → Writes (sheet_within (length old) p) (Err SheetShort) old old
-    Writes-13 old a h = Writes-refused (sheet_within (length old) p) old SheetShort (within_13 (length old) p (omega (arith, long a)))
+  pub drawn : Drawn (q.height * q.width) q.arrows q.ends q.count
+  drawn = (problem_arrays q formed).drawn
 
-    -- an output with room: what was counted before is what is written
-    pub Writes-sheet : {o u : List ℕ} {n m : ℕ} (old new : List ℕ) → Sheeted code o u n → n ≤ length old → Sheeted code old new m
-        → Writes (sheet_within (length old) p) (Ok m) old new
-    Writes-sheet {n = n} {m = m} old new a h b =
-        let c = long b in
-        let w = b.wrote (omega (arith, long a, c)) in
-        Writes-ok (sheet_within (length old) p) old (sheet_bytes p) new m (within_ok (length old) p (omega (arith, long a))) c (omega (arith, b.most))
-        (w ∙ ap (λ (l : List ℕ). l ++ drop m old) whole ∙ ap (λ (k : ℕ). sheet_bytes p ++ drop k old) c)
+  pub line : Line q.arrows (total_of q)
+  line = record { long = drawn.places.long; within = (problem_arrays q formed).within; cells = λ k h. drawn.places.cells k }
+
+-- what is pushed to a sheet that has nothing yet
+module _ (p : Puzzle) (v : Valid p) {s t : Sheet} (none : s.len ≡ 0) (w : Pushed s t (sheet_bytes p)) (old : List ℕ) where
+  pub long : t.len ≡ length (sheet_bytes p)
+  long = w.counted (omega (arith, none, Valid_most p v)) ∙ omega (arith, none)
+
+  -- too short an output
+  pub Writes-13 : length old < t.len → Writes (sheet_within (length old) p) (Err SheetShort) old old
+  Writes-13 h = Writes-refused (sheet_within (length old) p) old SheetShort (within_13 (length old) p (omega (arith, long)))
+
+  -- an output with room: where the sheet keeps the output that it was made with, what stands there then is the sheet in front
+  pub Writes-sheet : s.out.now ≡ old → length (sheet_bytes p) ≤ length old → (new : List ℕ) → (s.out.ghost_name ≡ t.out.ghost_name → new ≡ t.out.now) → Writes (sheet_within (length old) p) (Ok t.len) old new
+  Writes-sheet o h new back =
+      let z : 0 + length (sheet_bytes p) ≡ length (sheet_bytes p) = omega arith in
+      Writes-ok (sheet_within (length old) p) old (sheet_bytes p) new t.len (within_ok (length old) p h) long (omega (arith, long, Valid_most p v))
+      (back (sym w.same) ∙ w.wrote (omega (arith, none, Valid_most p v)) (rw o (omega (arith, none, h))) ∙ rw (o, none, z) refl)
 
 -- the record's refusals, and its puzzle
 pub sheet_refused : (n : ℕ) (s : List ℕ) (k : ℕ) → read_record s ≡ refused k → sheet_for n s ≡ refused k
 unfolding sheet_for ◌>>=◌
 sheet_refused n s k e = rw e refl
 
-pub sheet_read : (n : ℕ) (s : List ℕ) (p : Puzzle) → read_record s ≡ ok p → sheet_for n s ≡ sheet_within n p
+pub read_formed : (s : List ℕ) {q : Problem} → ok q ≡ as_problem (read_record s) → problem_formed q ≡ true
+read_formed s {q} e = let p = problem_ok (read_record s) e in is_Formed q (rw p.2 (valid_Formed p.0 (record_Valid s p.1)))
+
+pub sheet_read : (n : ℕ) (s : List ℕ) {q : Problem} → ok q ≡ as_problem (read_record s) → sheet_for n s ≡ sheet_within n (puzzle_of q)
 unfolding sheet_for ◌>>=◌
-sheet_read n s p e = rw e refl
+sheet_read n s {q} e =
+    let p = problem_ok (read_record s) e in
+    let kept : puzzle_of q ≡ p.0 = ap puzzle_of p.2 ∙ problem_puzzle p.0 (record_Valid s p.1) in
+    rw (p.1, kept) refl

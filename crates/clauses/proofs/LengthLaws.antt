@@ -14,14 +14,14 @@ use Rattle.grid.specs.Cells.{Literal, word}
 use Rattle.grid.proofs.ListLaws.{upto-mem, filter-length}
 use Rattle.grid.proofs.AppendLaws.{upto-length}
 use Rattle.record.specs.Record.{ok, Puzzle, read_record}
+use Rattle.record.specs.Valid.{Valid}
 use Rattle.record.specs.Problem.{arrow_cells}
 use Rattle.record.proofs.FreshLaws.{one_length, arrows_length}
 use Rattle.record.proofs.RecordLaws.{record_Valid, Valid-size}
 use Rattle.groups.specs.Arrows.{on_arrow}
 use Rattle.exported.proofs.BytesLaws.{bytes_length}
 use Rattle.clauses.specs.Clauses.{Clause, given_at, apart, onwards, touching_at, around, between, pairs_of, between_at, others_of, arrow_clauses, given_part, touching_part, between_part, arrow_part, sheet, clause_bytes, clauses_bytes, sheet_bytes}
-use Rattle.clauses.proofs.PieceLaws.{clauses_append, clauses_one, clauses_none}
-use Rattle.clauses.proofs.NearLaws.{map_pieces, flat_pieces}
+use Rattle.clauses.proofs.PieceLaws.{clauses_append, clauses_one, clauses_none, map_pieces, flat_pieces}
 
 -- two bytes for the count, and two for each literal
 clause_length : (c : Clause) → length (clause_bytes c) ≡ 2 + 2 * length c
@@ -144,11 +144,10 @@ arrows_most (a ∷ as') h =
 parts_length : (l m : List Clause) → length (clauses_bytes (l ++ m)) ≡ length (clauses_bytes l) + length (clauses_bytes m)
 parts_length l m = ap length (clauses_append l m) ∙ length-append (clauses_bytes l) (clauses_bytes m)
 
--- the sheet of an accepted record has at most 2,246,656 bytes
-pub sheet_most : (s : List ℕ) (p : Puzzle) → read_record s ≡ ok p → length (sheet_bytes p) ≤ 2246656
+-- the sheet of a valid puzzle has at most 2,246,656 bytes
+pub Valid_most : (p : Puzzle) → Valid p → length (sheet_bytes p) ≤ 2246656
 unfolding sheet_bytes sheet given_part touching_part between_part arrow_part cells_of
-sheet_most s p e =
-    let v = record_Valid s e in
+Valid_most p v =
     let n = size p.grid in
     let on = on_arrow p.arrows in
     let area = Valid-size v in
@@ -170,3 +169,7 @@ sheet_most s p e =
       ap length (flat_pieces arrow_clauses p.arrows),
       arrows_most p.arrows (λ a m. let one : length a ≤ length (arrow_cells p.arrows) = unfold arrow_cells in one_length p.arrows a m in omega (arith, one, cells, area)),
     )
+
+-- so has that of an accepted record
+pub sheet_most : (s : List ℕ) (p : Puzzle) → read_record s ≡ ok p → length (sheet_bytes p) ≤ 2246656
+sheet_most s p e = Valid_most p (record_Valid s e)

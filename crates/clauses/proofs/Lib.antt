@@ -1,9 +1,10 @@
-pub mod AppendLaws
 pub mod PieceLaws
+pub mod PushLaws
+pub mod ArrowLaws
 pub mod AroundLaws
 pub mod NearLaws
 pub mod BytesLaws
+pub mod LengthLaws
 pub mod AnswerLaws
 pub mod SheetLaws
-pub mod LengthLaws
 pub mod Leaves

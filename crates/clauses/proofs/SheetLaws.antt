@@ -5,6 +5,7 @@ use native.Mathlib.Omega.{arith}
 use mathlib.Core.Logic.{◌↔◌, ◌⊎◌, inl, inr}
 use mathlib.Core.Path.{◌≡◌, refl, sym, ap, subst, ◌∙◌}
 use mathlib.Core.Bool.{Bool, true, false, not}
+use mathlib.Core.List.Memᴰ
 use mathlib.Core.List.{List, [], ◌∷◌, ◌++◌, map, Memᴰ}
 use lib.Dec.{eqb}
 use lib.ListN.{length, get_or}
@@ -31,9 +32,9 @@ use Rattle.clauses.specs.Clauses.{Clause, given_at, apart, onwards, touching_at,
 
 -- an arrow has a cell
 not_empty : {g : Grid} {u : List ℕ} {arrows : List (List ℕ)} → Arrows g u arrows → (a : List ℕ) → Memᴰ a arrows → 0 < length a
-not_empty Arrows.nil a m = absurd (mathlib.Core.List.Memᴰ.not-nil m)
-not_empty (Arrows.cons {a = b} (arrow h w) n r) a (mathlib.Core.List.Memᴰ.head e) = rw e (omega arith)
-not_empty (Arrows.cons (arrow h w) n r) a (mathlib.Core.List.Memᴰ.tail m) = not_empty r a m
+not_empty Arrows.nil a m = absurd (Memᴰ.not-nil m)
+not_empty (Arrows.cons {a = b} (arrow h w) n r) a (Memᴰ.head e) = rw e (omega arith)
+not_empty (Arrows.cons (arrow h w) n r) a (Memᴰ.tail m) = not_empty r a m
 
 -- the places of the other cells
 other_place : (k t n : ℕ) → Memᴰ t (filter (λ s. not (eqb s k)) (upto n)) → (t < n) × (t ≡ k → ⊥)
@@ -50,7 +51,7 @@ place_other k t n h d = mem-filter (λ s. not (eqb s k)) (upto n) (mem-upto n h)
 -- a clause of one literal
 unit_says : (cells : List ℕ) (i w : ℕ) → Satisfied cells ((i, w) ∷ []) → get_or cells i 0 ≡ w
 unit_says cells i w s =
-    let q : ◌≡◌ {A = Literal} (s.index, s.value) (i, w) = mathlib.Core.List.Memᴰ.eq_of_singleton s.among in
+    let q : ◌≡◌ {A = Literal} (s.index, s.value) (i, w) = Memᴰ.eq_of_singleton s.among in
     let a : s.index ≡ i = ap (λ (l : Literal). l.0) q in
     let b : s.value ≡ w = ap (λ (l : Literal). l.1) q in
     sym (ap (λ (k : ℕ). get_or cells k 0) a) ∙ s.agrees ∙ b
@@ -72,22 +73,22 @@ module _ (p : Puzzle) (v : Valid p) (cells : List ℕ) where
     holds_black : (i : ℕ) → i < size p.grid → get_or p.given i 0 ≡ 1 → get_or cells i 0 ≡ 0
     unfolding sheet given_part given_at
     holds_black i h e =
-        let m : Memᴰ ((i, 0) ∷ []) (given_at (get_or p.given i 0) i) = rw e (mathlib.Core.List.Memᴰ.head refl) in
-        unit_says cells i 0 (H ((i, 0) ∷ []) (mathlib.Core.List.Memᴰ.append_left _ (mem-flat_map (λ j. given_at (get_or p.given j 0) j) (cells_of p.grid) (in_cells p.grid i h) m)))
+        let m : Memᴰ ((i, 0) ∷ []) (given_at (get_or p.given i 0) i) = rw e (Memᴰ.head refl) in
+        unit_says cells i 0 (H ((i, 0) ∷ []) (Memᴰ.append_left _ (mem-flat_map (λ j. given_at (get_or p.given j 0) j) (cells_of p.grid) (in_cells p.grid i h) m)))
 
     holds_given : (i : ℕ) → i < size p.grid → get_or p.given i 0 ≡ 2 → get_or cells i 0 ≡ 1
     unfolding sheet given_part given_at
     holds_given i h e =
-        let m : Memᴰ ((i, 1) ∷ []) (given_at (get_or p.given i 0) i) = rw e (mathlib.Core.List.Memᴰ.head refl) in
-        unit_says cells i 1 (H ((i, 1) ∷ []) (mathlib.Core.List.Memᴰ.append_left _ (mem-flat_map (λ j. given_at (get_or p.given j 0) j) (cells_of p.grid) (in_cells p.grid i h) m)))
+        let m : Memᴰ ((i, 1) ∷ []) (given_at (get_or p.given i 0) i) = rw e (Memᴰ.head refl) in
+        unit_says cells i 1 (H ((i, 1) ∷ []) (Memᴰ.append_left _ (mem-flat_map (λ j. given_at (get_or p.given j 0) j) (cells_of p.grid) (in_cells p.grid i h) m)))
 
     -- another square on the arrow
     holds_other : (a : List ℕ) → Memᴰ a p.arrows → (k : ℕ) → k < length a → (t : ℕ) × (t < length a) × (t ≡ k → ⊥) × (square cells (get_or a t 0) ≡ true)
     unfolding sheet arrow_part arrow_clauses others_of
     holds_other a m k h =
-        let c : Memᴰ (others_of a k) (arrow_clauses a) = mathlib.Core.List.Memᴰ.map (others_of a) (mem-upto (length a) h) in
-        let s = H (others_of a k) (mathlib.Core.List.Memᴰ.append_right (given_part p) (mathlib.Core.List.Memᴰ.append_right (touching_part p) (mathlib.Core.List.Memᴰ.append_right (between_part p) (mem-flat_map arrow_clauses p.arrows m c)))) in
-        let r = mathlib.Core.List.Memᴰ.of_map (λ (t : ℕ). (get_or a t 0, 1)) (filter (λ t. not (eqb t k)) (upto (length a))) s.among in
+        let c : Memᴰ (others_of a k) (arrow_clauses a) = Memᴰ.map (others_of a) (mem-upto (length a) h) in
+        let s = H (others_of a k) (Memᴰ.append_right (given_part p) (Memᴰ.append_right (touching_part p) (Memᴰ.append_right (between_part p) (mem-flat_map arrow_clauses p.arrows m c)))) in
+        let r = Memᴰ.of_map (λ (t : ℕ). (get_or a t 0, 1)) (filter (λ t. not (eqb t k)) (upto (length a))) s.among in
         let o = other_place k r.0 (length a) r.1 in
         let x : get_or a r.0 0 ≡ s.index = ap (λ (l : Literal). l.0) r.2 in
         let y : 1 ≡ s.value = ap (λ (l : Literal). l.1) r.2 in
@@ -131,10 +132,10 @@ module _ (p : Puzzle) (v : Valid p) (cells : List ℕ) where
         cell_in k = unfold cells_of in upto-mem (size p.grid) k
 
         go : (i : ℕ) → i < size p.grid → (x : ℕ) → get_or p.given i 0 ≡ x → Memᴰ c (given_at x i) → Satisfied cells c
-        go i h zero e k = absurd (mathlib.Core.List.Memᴰ.not-nil k)
-        go i h (suc zero) e k = rw (mathlib.Core.List.Memᴰ.eq_of_singleton k) (record { index = i; value = 0; among = mathlib.Core.List.Memᴰ.head refl; agrees = F.kept.black i h e })
-        go i h (suc (suc zero)) e k = rw (mathlib.Core.List.Memᴰ.eq_of_singleton k) (record { index = i; value = 1; among = mathlib.Core.List.Memᴰ.head refl; agrees = F.kept.given i h e })
-        go i h (suc (suc (suc x))) e k = absurd (mathlib.Core.List.Memᴰ.not-nil (rw (ne_eqb (suc (suc (suc x))) 1 (λ z. omega (arith, z)), ne_eqb (suc (suc (suc x))) 2 (λ z. omega (arith, z))) at k))
+        go i h zero e k = absurd (Memᴰ.not-nil k)
+        go i h (suc zero) e k = rw (Memᴰ.eq_of_singleton k) (record { index = i; value = 0; among = Memᴰ.head refl; agrees = F.kept.black i h e })
+        go i h (suc (suc zero)) e k = rw (Memᴰ.eq_of_singleton k) (record { index = i; value = 1; among = Memᴰ.head refl; agrees = F.kept.given i h e })
+        go i h (suc (suc (suc x))) e k = absurd (Memᴰ.not-nil (rw (ne_eqb (suc (suc (suc x))) 1 (λ z. omega (arith, z)), ne_eqb (suc (suc (suc x))) 2 (λ z. omega (arith, z))) at k))
 
     -- a cell and its neighbours
     apart_holds : (i j : ℕ) → i < size p.grid → Memᴰ j (neighbours p.grid i) → on i ≡ true → on j ≡ true → Satisfied cells (apart i j)
@@ -144,8 +145,8 @@ module _ (p : Puzzle) (v : Valid p) (cells : List ℕ) where
         never s t = lone i j h s (step (here s) (h, m) t) x y
 
         go : (get_or cells i 0 ≡ 0) ⊎ (square cells i ≡ true) → (get_or cells j 0 ≡ 0) ⊎ (square cells j ≡ true) → Satisfied cells (apart i j)
-        go (inl e) s = record { index = i; value = 0; among = mathlib.Core.List.Memᴰ.head refl; agrees = e }
-        go (inr e) (inl f) = record { index = j; value = 0; among = mathlib.Core.List.Memᴰ.tail (mathlib.Core.List.Memᴰ.head refl); agrees = f }
+        go (inl e) s = record { index = i; value = 0; among = Memᴰ.head refl; agrees = e }
+        go (inr e) (inl f) = record { index = j; value = 0; among = Memᴰ.tail (Memᴰ.head refl); agrees = f }
         go (inr e) (inr f) = absurd (not_Beside p.grid i h (subst (λ k. Beside p.grid i k) (sym (never e f)) (beside p.grid i m)))
 
     touching_holds : (c : Clause) → Memᴰ c (touching_part p) → Satisfied cells c
@@ -159,10 +160,10 @@ module _ (p : Puzzle) (v : Valid p) (cells : List ℕ) where
 
         go : (i : ℕ) → i < size p.grid → (on i ≡ true) ⊎ (on i ≡ false) → Memᴰ c (touching_at on p.grid i) → Satisfied cells c
         go i h (inl x) k =
-            let r = mathlib.Core.List.Memᴰ.of_map (apart i) (filter on (onwards p.grid i)) (rw x at k) in
+            let r = Memᴰ.of_map (apart i) (filter on (onwards p.grid i)) (rw x at k) in
             let q = filter-mem on (onwards p.grid i) r.1 in
             subst (λ d. Satisfied cells d) r.2 (apart_holds i r.0 h (onwards_near p.grid i q.0) x q.1)
-        go i h (inr x) k = absurd (mathlib.Core.List.Memᴰ.not-nil (rw x at k))
+        go i h (inr x) k = absurd (Memᴰ.not-nil (rw x at k))
 
     pair_holds : (i x y : ℕ) → i < size p.grid → Memᴰ x (neighbours p.grid i) → Memᴰ y (neighbours p.grid i) → on x ≡ true → on y ≡ true → (x ≡ y → ⊥)
         → Satisfied cells ((x, 0) ∷ (i, 0) ∷ (y, 0) ∷ [])
@@ -172,9 +173,9 @@ module _ (p : Puzzle) (v : Valid p) (cells : List ℕ) where
         hx = on_grid p.grid h (beside p.grid i m)
 
         go : (get_or cells x 0 ≡ 0) ⊎ (square cells x ≡ true) → (get_or cells i 0 ≡ 0) ⊎ (square cells i ≡ true) → (get_or cells y 0 ≡ 0) ⊎ (square cells y ≡ true) → Satisfied cells ((x, 0) ∷ (i, 0) ∷ (y, 0) ∷ [])
-        go (inl e) s t = record { index = x; value = 0; among = mathlib.Core.List.Memᴰ.head refl; agrees = e }
-        go (inr e) (inl f) t = record { index = i; value = 0; among = mathlib.Core.List.Memᴰ.tail (mathlib.Core.List.Memᴰ.head refl); agrees = f }
-        go (inr e) (inr f) (inl w) = record { index = y; value = 0; among = mathlib.Core.List.Memᴰ.tail (mathlib.Core.List.Memᴰ.tail (mathlib.Core.List.Memᴰ.head refl)); agrees = w }
+        go (inl e) s t = record { index = x; value = 0; among = Memᴰ.head refl; agrees = e }
+        go (inr e) (inl f) t = record { index = i; value = 0; among = Memᴰ.tail (Memᴰ.head refl); agrees = f }
+        go (inr e) (inr f) (inl w) = record { index = y; value = 0; among = Memᴰ.tail (Memᴰ.tail (Memᴰ.head refl)); agrees = w }
         go (inr e) (inr f) (inr w) = absurd (d (lone x y hx e (step (step (here e) (adj_sym p.grid i x (h, m)) f) (h, k) w) a b))
 
     between_holds : (c : Clause) → Memᴰ c (between_part p) → Satisfied cells c
@@ -187,12 +188,12 @@ module _ (p : Puzzle) (v : Valid p) (cells : List ℕ) where
         cell_in k = unfold cells_of in upto-mem (size p.grid) k
 
         go : (i : ℕ) → i < size p.grid → (on i ≡ true) ⊎ (on i ≡ false) → Memᴰ c (between_at on p.grid i) → Satisfied cells c
-        go i h (inl x) k = absurd (mathlib.Core.List.Memᴰ.not-nil (rw x at k))
+        go i h (inl x) k = absurd (Memᴰ.not-nil (rw x at k))
         go i h (inr x) k =
             let l = filter on (around p.grid i) in
             let r = flat_map-mem (λ a. map (between i l a) (upto a)) (upto (length l)) (rw x at k) in
             let a = upto-mem (length l) r.1 in
-            let s = mathlib.Core.List.Memᴰ.of_map (between i l r.0) (upto r.0) r.2 in
+            let s = Memᴰ.of_map (between i l r.0) (upto r.0) r.2 in
             let b = upto-mem r.0 s.1 in
             let t : s.0 < length l = omega (arith, a, b) in
             let u = filter-mem on (around p.grid i) (at_mem l r.0 a) in
@@ -215,19 +216,19 @@ module _ (p : Puzzle) (v : Valid p) (cells : List ℕ) where
     arrow_holds c m =
         let r = flat_map-mem arrow_clauses p.arrows m in
         let a = r.0 in
-        let s = mathlib.Core.List.Memᴰ.of_map (others_of a) (upto (length a)) r.2 in
+        let s = Memᴰ.of_map (others_of a) (upto (length a)) r.2 in
         let o = other_square a s.0 (F.two a r.1) in
         let sat : Satisfied cells (others_of a s.0) = record {
           index = get_or a o.0 0;
           value = 1;
-          among = mathlib.Core.List.Memᴰ.map (λ (t : ℕ). (get_or a t 0, 1)) (place_other s.0 o.0 (length a) o.1 o.2);
+          among = Memᴰ.map (λ (t : ℕ). (get_or a t 0, 1)) (place_other s.0 o.0 (length a) o.1 o.2);
           agrees = of_square (get_or a o.0 0) o.3;
         } in
         subst (λ e. Satisfied cells e) s.2 sat
 
     sheet_holds : SheetHolds p cells
     unfolding sheet
-    sheet_holds c m = first (mathlib.Core.List.Memᴰ.append_cases (given_part p) m)
+    sheet_holds c m = first (Memᴰ.append_cases (given_part p) m)
       where
         third : Memᴰ c (between_part p) ⊎ Memᴰ c (arrow_part p) → Satisfied cells c
         third (inl k) = between_holds c k
@@ -235,11 +236,11 @@ module _ (p : Puzzle) (v : Valid p) (cells : List ℕ) where
 
         second : Memᴰ c (touching_part p) ⊎ Memᴰ c (between_part p ++ arrow_part p) → Satisfied cells c
         second (inl k) = touching_holds c k
-        second (inr k) = third (mathlib.Core.List.Memᴰ.append_cases (between_part p) k)
+        second (inr k) = third (Memᴰ.append_cases (between_part p) k)
 
         first : Memᴰ c (given_part p) ⊎ Memᴰ c (touching_part p ++ (between_part p ++ arrow_part p)) → Satisfied cells c
         first (inl k) = given_holds c k
-        first (inr k) = second (mathlib.Core.List.Memᴰ.append_cases (touching_part p) k)
+        first (inr k) = second (Memᴰ.append_cases (touching_part p) k)
 
 -- a full board of an accepted record satisfies every clause and the block rules of an edition, with any sizes, exactly when it is finished in that edition with these sizes
 pub sheet_Finished : (s : List ℕ) (p : Puzzle) → read_record s ≡ ok p → (e : ℕ) (sizes : List Range) (cells : List ℕ) → Full p.grid cells

@@ -2,29 +2,36 @@
 // counts all. So the length of a sheet is what is counted on an output that has no room.
 #![tactic(auto)]
 
-ghost use Rattle.std.specs.Prelude.{◌≡◌, List, [], ◌∷◌, ◌++◌, map, ℕ, ◌+◌, ◌-◌, ◌*◌, ◌≤◌, ◌<◌, length, get_or, take};
+ghost use Rattle.std.specs.Prelude.{◌≡◌, List, [], ◌++◌, map, ℕ, ◌+◌, ◌*◌, ◌≤◌, ◌<◌, length, get_or, take, option_to_list, true};
 ghost use Rattle.grid.specs.Lists.{flat_map, upto, filter};
 ghost use Rattle.grid.specs.Side.{sized, towards};
-ghost use Rattle.record.specs.Record.{Puzzle};
-ghost use Rattle.record.specs.Valid.{Valid};
-ghost use Rattle.record.specs.Problem.{problem_of};
-ghost use Rattle.record.specs.Lines.{Lines};
-ghost use Rattle.exported.specs.Written.{written, output_with, Writes};
-ghost use Rattle.clauses.specs.Clauses.{given_at, apart, around, clause_bytes, clauses_bytes, sheet_within, sheet_for};
-ghost use Rattle.clauses.specs.Inside.{word_bytes, Appends, Counts, marked, given_piece, touching_piece, between_piece, with_piece, other_piece, clause_piece, arrow_piece, line_piece, IsArrow, sheet_piece, turn_at, ArrowSide, Sheeted};
+ghost use Rattle.grid.specs.Cells.{word};
+ghost use Rattle.record.specs.Problem.{puzzle_of};
+ghost use Rattle.form.specs.Form.{problem_formed};
+ghost use Rattle.groups.specs.Arrays.{CellArray, Drawn, lines_of};
+ghost use Rattle.exported.specs.Written.{bytes_of, written, output_with, Writes};
+ghost use Rattle.clauses.specs.Clauses.{given_at, apart, touching_at, around, between_at, arrow_clauses, clauses_bytes, sheet_bytes, sheet_within, sheet_for};
+ghost use Rattle.clauses.specs.Inside.{Pushed, marked};
 
 use grid::Grid;
 use record::{BLACK, GIVEN, Problem};
 use refusal::Refusal;
 use std::marker::Model;
 
-// Of the directions up, left, down, right, those of the cells behind a cell in row order.
-const BELOW: usize = 2;
+// The directions of a grid's neighbours.
+const UP: usize = 0;
+
+const DOWN: usize = 1;
+
+const LEFT: usize = 2;
 
 const RIGHT: usize = 3;
 
 // The mark of an arrow cell.
 const ON_ARROW: u8 = 1;
+
+// The bit of a literal's value: the literal of a cell as 1 is the cell and this bit, and as 0 it is the cell alone.
+const VALUE: u16 = 32768;
 
 // The arrow cells beside a cell, at most four.
 #[derive(Drop)]
@@ -38,7 +45,7 @@ impl Model for NearCells {
 
     ghost view = { λ near. take near.count near.cells };
 
-    ghost invariant = { λ near. (near.count ≤ 4) × ((k : ℕ) → get_or near.cells k 0 < 1024) };
+    ghost invariant = { λ near. near.count ≤ 4 };
 }
 
 impl NearCells {
@@ -51,306 +58,233 @@ impl NearCells {
         }
     }
 
-    fn len(&self) -> usize
-        ensures { (result ≡ length self.now) × (result ≤ 4) }
+    fn cells(&self) -> &[u16]
+        ensures { result.now ≡ self.now }
     {
-        self.count
-    }
-
-    // The k-th of them.
-    fn cell(&self, k: usize) -> usize
-        requires { k < length self.now }
-        ensures { (result ≡ get_or self.now k 0) × (result < 1024) }
-    {
-        let cells = &self.cells;
-        usize::from(cells[k])
+        &self.cells[..self.count]
     }
 
     // Adds the cell on one side, if there is one.
-    fn add(&mut self, side: Option<usize>)
-        requires { (m : List ℕ) × ArrowSide m side × (length self.old < 4) }
-        ensures { (m : List ℕ) → ArrowSide m side → self.new ≡ self.old ++ m }
+    fn add(&mut self, side: Option<u16>)
+        requires { length self.old < 4 }
+        ensures { self.new ≡ self.old ++ option_to_list side }
     {
         if let Some(j) = side {
-            self.cells[self.count] = j as u16;
+            self.cells[self.count] = j;
             self.count += 1;
         }
     }
 }
 
-// The place among up, down, left, right of the k-th of up, left, down, right.
-fn direction(k: usize) -> usize
-    requires { k < 4 }
-    ensures { (result ≡ turn_at k) × (result < 4) }
-{
-    if k == 1 {
-        return 2;
-    }
-    if k == 2 {
-        return 1;
-    }
-    k
-}
-
-// The arrow cell that the cell at row y, column x has in the k-th direction.
-fn arrow_toward(grid: Grid, marks: &[u8; 1024], y: usize, x: usize, k: usize) -> Option<usize>
+// The arrow cell that the cell at row y, column x has in direction k.
+#[tactic(auto, using(crate::proofs::NearLaws::side_small, crate::proofs::NearLaws::side_on, crate::proofs::NearLaws::side_plain, crate::proofs::NearLaws::side_off))]
+fn arrow_toward(grid: Grid, marks: &[u8; 1024], y: usize, x: usize, k: usize) -> Option<u16>
     requires { (y < grid.height) × (x < grid.width) × (k < 4) }
-    ensures { ArrowSide (filter (marked marks.now) (towards (sized grid.height grid.width) (y * grid.width + x) (turn_at k))) result }
+    ensures { option_to_list result ≡ filter (marked marks.now) (towards (sized grid.height grid.width) (y * grid.width + x) k) }
 {
-    let side = grid.toward(y, x, direction(k));
-    match side {
-        Some(j) => {
-            if marks[j] == ON_ARROW {
-                return Some(j);
-            }
-            None
-        }
-        None => None,
+    let j = grid.toward(y, x, k)?;
+    if marks[j] == ON_ARROW {
+        return Some(j as u16);
     }
+    None
 }
 
-// The arrow cells beside the cell at row y, column x: up, left, down, right.
+// The arrow cells beside the cell at row y, column x, in the order of the sheet.
+#[tactic(auto, using(crate::proofs::NearLaws::side_short, crate::proofs::NearLaws::around_sides))]
 fn gather(grid: Grid, marks: &[u8; 1024], y: usize, x: usize) -> NearCells
     requires { (y < grid.height) × (x < grid.width) }
     ensures { result ≡ filter (marked marks.now) (around (sized grid.height grid.width) (y * grid.width + x)) }
 {
     let mut near = NearCells::new();
-    for k in 0..4 {
-        near.add(arrow_toward(grid, marks, y, x, k));
-    }
+    near.add(arrow_toward(grid, marks, y, x, UP));
+    near.add(arrow_toward(grid, marks, y, x, LEFT));
+    near.add(arrow_toward(grid, marks, y, x, DOWN));
+    near.add(arrow_toward(grid, marks, y, x, RIGHT));
     near
 }
 
-// A sheet that is written: it ends at `at` so far, with room in the output or without.
+// The literals of the cells of an array as 1.
+fn squares(cells: &[u16; 1024]) -> [u16; 1024]
+    requires { CellArray cells.now }
+    ensures { result ≡ map (λ j. word (j, 1)) cells.now }
+{
+    let mut literals = *cells;
+    for literal in literals.iter_mut() {
+        *literal += VALUE;
+    }
+    literals
+}
+
+// A sheet that is written: its first `len` bytes so far, with room in the output or without. It is no `text::Text`, which asks for room.
 #[derive(Drop)]
 struct Sheet<'a> {
     out: &'a mut [u8],
-    at: usize,
+    len: usize,
 }
 
 impl Sheet<'_> {
-    // Writes a 16-bit number, high byte first.
-    fn put(&mut self, word: usize)
-        requires { (word < 65536) × Counts self.old 2 }
-        ensures { Appends 2 (word_bytes word) self.old self.new }
+    // Writes 16-bit numbers, high byte first.
+    fn put(&mut self, words: &[u16])
+        ensures { Pushed self.old self.new (bytes_of words.now) }
     {
-        let at = self.at;
-        self.at = at + 2;
-        if self.out.len() < at + 2 {
+        let from = self.len;
+        self.len = from.saturating_add(2 * words.len());
+        if self.out.len() < self.len {
             return;
         }
-        self.out[at] = (word / 256) as u8;
-        self.out[at + 1] = (word % 256) as u8;
-    }
-
-    // Writes a clause of one literal.
-    fn put_unit(&mut self, literal: usize)
-        requires { (literal < 65536) × Counts self.old 4 }
-        ensures { Appends 4 (word_bytes 1 ++ word_bytes literal) self.old self.new }
-    {
-        self.put(1);
-        self.put(literal);
+        exported::write_numbers(words, words.len(), &mut self.out[from..]);
     }
 
     // Writes that a black cell is 0, or a given cell 1.
-    fn put_given(&mut self, code: u8, i: usize)
-        requires { (i < 1024) × Counts self.old 4 }
-        ensures { Appends 4 (clauses_bytes (given_at code i)) self.old self.new }
+    #[tactic(auto, using(crate::proofs::PieceLaws::given_black, crate::proofs::PieceLaws::given_square, crate::proofs::PieceLaws::given_plain, crate::proofs::PushLaws::push_no_clause))]
+    fn put_given(&mut self, code: u8, i: u16)
+        requires { i < 1024 }
+        ensures { Pushed self.old self.new (clauses_bytes (given_at code i)) }
     {
-        if code == BLACK {
-            return self.put_unit(i);
-        }
-        if code == GIVEN {
-            return self.put_unit(32768 + i);
+        match code {
+            BLACK => self.put(&[1, i]),
+            GIVEN => self.put(&[1, VALUE + i]),
+            _ => {}
         }
     }
 
-    // Writes the first part. Each part keeps its own loop: one over a closure that writes to the sheet would bound `F.step` place by place, in a clause
-    // longer than the loop.
+    // Writes the first part. Each part keeps its own loop: one loop that calls a closure at each cell would say by `FoldsTo` that it was called, and each
+    // part would still have to say what those calls write, in more than its loop.
+    #[tactic(auto, using(crate::proofs::PushLaws::number_by_number))]
     fn write_given(&mut self, codes: &[u8; 1024], n: usize)
-        requires { (n ≤ 1024) × Counts self.old 4096 }
-        ensures { Appends (n * 4) (flat_map (given_piece codes.now) (upto n)) self.old self.new }
+        requires { n ≤ 1024 }
+        ensures { Pushed self.old self.new (clauses_bytes (flat_map (λ i. given_at (get_or codes.now i 0) i) (upto n))) }
     {
         for i in 0..n {
-            self.put_given(codes[i], i);
+            self.put_given(codes[i], i as u16);
         }
     }
 
-    // Writes that the cells i and j are not both square.
-    fn put_apart(&mut self, i: usize, j: usize)
-        requires { (i < 1024) × (j < 1024) × Counts self.old 6 }
-        ensures { Appends 6 (clause_bytes (apart i j)) self.old self.new }
-    {
-        self.put(2);
-        self.put(i);
-        self.put(j);
-    }
-
-    // Writes so of i and the cell on one side, if there is one.
-    fn put_touching(&mut self, i: usize, side: Option<usize>)
-        requires { (m : List ℕ) × ArrowSide m side × (i < 1024) × Counts self.old 6 }
-        ensures { (m : List ℕ) → ArrowSide m side → Appends 6 (clauses_bytes (map (apart i) m)) self.old self.new }
+    // Writes that the cell i and the one on one side, if there is one, are not both square.
+    #[tactic(auto, using(crate::proofs::PieceLaws::apart_bytes, crate::proofs::PushLaws::push_no_clause))]
+    fn put_touching(&mut self, i: u16, side: Option<u16>)
+        ensures { Pushed self.old self.new (clauses_bytes (map (apart i) (option_to_list side))) }
     {
         if let Some(j) = side {
-            self.put_apart(i, j);
+            self.put(&[2, i, j]);
         }
     }
 
-    // Writes so of i and the arrow cells below it and to its right, if i is an arrow cell.
+    // Writes that an arrow cell i and an arrow cell below it or to its right are not both square. Where i is no arrow cell, there is no clause.
     fn touching_at(&mut self, grid: Grid, marks: &[u8; 1024], i: usize)
-        requires { (i < grid.height * grid.width) × Counts self.old 12 }
-        ensures { Appends 12 (touching_piece marks.now (sized grid.height grid.width) i) self.old self.new }
+        requires { i < grid.height * grid.width }
+        ensures { Pushed self.old self.new (clauses_bytes (touching_at (marked marks.now) (sized grid.height grid.width) i)) }
     {
         if marks[i] != ON_ARROW {
             return;
         }
         let y = i / grid.width;
         let x = i % grid.width;
-        self.put_touching(i, arrow_toward(grid, marks, y, x, BELOW));
-        self.put_touching(i, arrow_toward(grid, marks, y, x, RIGHT));
+        self.put_touching(i as u16, arrow_toward(grid, marks, y, x, DOWN));
+        self.put_touching(i as u16, arrow_toward(grid, marks, y, x, RIGHT));
     }
 
     // Writes the second part.
+    #[tactic(auto, using(crate::proofs::PushLaws::number_by_number))]
     fn write_touching(&mut self, grid: Grid, marks: &[u8; 1024])
-        requires { Counts self.old 12288 }
-        ensures { Appends ((grid.height * grid.width) * 12) (flat_map (touching_piece marks.now (sized grid.height grid.width)) (upto (grid.height * grid.width)))
-            self.old self.new }
+        ensures { Pushed self.old self.new (clauses_bytes (flat_map (touching_at (marked marks.now) (sized grid.height grid.width)) (upto (grid.height * grid.width)))) }
     {
         for i in 0..grid.size() {
             self.touching_at(grid, marks, i);
         }
     }
 
-    // Writes that the cells x, i and y are not all square.
-    fn put_between(&mut self, x: usize, i: usize, y: usize)
-        requires { (x < 1024) × (i < 1024) × (y < 1024) × Counts self.old 8 }
-        ensures { Appends 8 (clause_bytes ((x, 0) ∷ (i, 0) ∷ (y, 0) ∷ [])) self.old self.new }
-    {
-        self.put(3);
-        self.put(x);
-        self.put(i);
-        self.put(y);
-    }
-
-    // Writes so of i with the near cell at place a and each before it.
-    fn write_with(&mut self, i: usize, near: &NearCells, a: usize)
-        requires { (i < 1024) × (a < 4) × (a < length near.now) × Counts self.old 32 }
-        ensures { Appends (a * 8) (with_piece i near.now a) self.old self.new }
-    {
-        let later = near.cell(a);
-        for b in 0..a {
-            self.put_between(later, i, near.cell(b));
-        }
-    }
-
-    // Writes so of i with each two of its arrow neighbours, if i is not an arrow cell.
+    // Writes that i and two of its arrow neighbours are not all square, for each two of them, if i is not an arrow cell.
+    #[tactic(auto, using(crate::proofs::PushLaws::number_by_number))]
     fn between_at(&mut self, grid: Grid, marks: &[u8; 1024], i: usize)
-        requires { (i < grid.height * grid.width) × Counts self.old 128 }
-        ensures { Appends 128 (between_piece marks.now (sized grid.height grid.width) i) self.old self.new }
+        requires { i < grid.height * grid.width }
+        ensures { Pushed self.old self.new (clauses_bytes (between_at (marked marks.now) (sized grid.height grid.width) i)) }
     {
         if marks[i] == ON_ARROW {
             return;
         }
         let near = gather(grid, marks, i / grid.width, i % grid.width);
-        for a in 0..near.len() {
-            self.write_with(i, &near, a);
+        let cells = near.cells();
+        for (a, &later) in cells.iter().enumerate() {
+            for &before in &cells[..a] {
+                self.put(&[3, later, i as u16, before]);
+            }
         }
     }
 
     // Writes the third part.
+    #[tactic(auto, using(crate::proofs::PushLaws::number_by_number))]
     fn write_between(&mut self, grid: Grid, marks: &[u8; 1024])
-        requires { Counts self.old 131072 }
-        ensures { Appends ((grid.height * grid.width) * 128) (flat_map (between_piece marks.now (sized grid.height grid.width)) (upto (grid.height * grid.width)))
-            self.old self.new }
+        ensures { Pushed self.old self.new (clauses_bytes (flat_map (between_at (marked marks.now) (sized grid.height grid.width)) (upto (grid.height * grid.width)))) }
     {
         for i in 0..grid.size() {
             self.between_at(grid, marks, i);
         }
     }
 
-    // Writes the cell of an arrow at place t as 1, unless it is that at place k.
-    fn put_other(&mut self, arrow: &[u16], k: usize, t: usize)
-        requires { IsArrow arrow.now × (t < length arrow.now) × Counts self.old 2 }
-        ensures { Appends 2 (other_piece arrow.now k t) self.old self.new }
+    // Writes for each cell of an arrow that there is a square on it beside that cell. The arrow is passed as the literals of its cells as 1.
+    fn write_arrow(&mut self, squares: &[u16])
+        requires { length squares.now ≤ 1024 }
+        ensures { (arrow : List ℕ) → squares.now ≡ map (λ j. word (j, 1)) arrow → Pushed self.old self.new (clauses_bytes (arrow_clauses arrow)) }
     {
-        if t != k {
-            self.put(32768 + usize::from(arrow[t]));
-        }
-    }
-
-    // Writes that there is a square on this arrow beside its cell at place k: its other cells, as 1.
-    fn put_clause(&mut self, arrow: &[u16], k: usize)
-        requires { IsArrow arrow.now × (0 < length arrow.now) × Counts self.old 2050 }
-        ensures { Appends 2050 (clause_piece arrow.now k) self.old self.new }
-    {
-        self.put(arrow.len() - 1);
-        for t in 0..arrow.len() {
-            self.put_other(arrow, k, t);
-        }
-    }
-
-    // Writes so for each of its cells.
-    fn write_arrow(&mut self, arrow: &[u16])
-        requires { IsArrow arrow.now × Counts self.old 2099200 }
-        ensures { Appends (length arrow.now * 2050) (arrow_piece arrow.now) self.old self.new }
-    {
-        for k in 0..arrow.len() {
-            self.put_clause(arrow, k);
+        for k in 0..squares.len() {
+            self.put(&[(squares.len() - 1) as u16]);
+            self.put(&squares[..k]);
+            self.put(&squares[k + 1..]);
         }
     }
 
     // Writes the fourth part.
     fn write_arrows(&mut self, problem: &Problem)
-        requires { Lines problem.now.height problem.now.width problem.now.arrows problem.now.ends problem.now.count × Counts self.old 4198400 }
-        ensures { Appends 2099200 (flat_map (line_piece problem.now.arrows problem.now.ends) (upto problem.now.count)) self.old self.new }
+        requires { Drawn (problem.now.height * problem.now.width) problem.now.arrows problem.now.ends problem.now.count }
+        ensures { Pushed self.old self.new (clauses_bytes (flat_map arrow_clauses (lines_of problem.now.arrows problem.now.ends problem.now.count))) }
     {
+        let squares = squares(&problem.arrows);
         let mut from = 0;
-        for k in 0..problem.count {
-            let to = usize::from(problem.ends[k]);
-            self.write_arrow(&problem.arrows[from..to]);
+        for &end in &problem.ends[..problem.count] {
+            let to = usize::from(end);
+            self.write_arrow(&squares[from..to]);
             from = to;
         }
     }
 
-    // Writes the four parts.
-    fn write_parts(&mut self, problem: &Problem, marks: &[u8; 1024])
-        requires { Lines problem.now.height problem.now.width problem.now.arrows problem.now.ends problem.now.count × (self.old.at ≡ 0) }
-        ensures { Appends 2246656 (sheet_piece problem.now marks.now) self.old self.new }
+    // Writes the sheet of a problem, one part behind the other.
+    fn write_sheet(&mut self, problem: &Problem)
+        requires { problem_formed problem.now ≡ true }
+        ensures { Pushed self.old self.new (sheet_bytes (puzzle_of problem.now)) }
     {
         let grid = Grid {
             height: problem.height,
             width: problem.width,
         };
+        let mut marks = [0; 1024];
+        groups::mark_arrow_cells(&problem.arrows, problem.arrow_total(), &mut marks);
         self.write_given(&problem.cells, grid.size());
-        self.write_touching(grid, marks);
-        self.write_between(grid, marks);
+        self.write_touching(grid, &marks);
+        self.write_between(grid, &marks);
         self.write_arrows(problem);
     }
 }
 
-// Writes the whole sheet, and returns its length.
-fn write_sheet(out: &mut [u8], problem: &Problem, marks: &[u8; 1024]) -> usize
-    requires { Lines problem.now.height problem.now.width problem.now.arrows problem.now.ends problem.now.count }
-    ensures { Sheeted (sheet_piece problem.now marks.now) out.old out.new result }
-{
-    let mut sheet = Sheet { out, at: 0 };
-    sheet.write_parts(problem, marks);
-    sheet.at
-}
-
 // Writes the sheet of a problem; 13 where the output is too short.
 fn write_problem(problem: &Problem, output: &mut [u8]) -> Result<usize, Refusal>
-    requires { (p : Puzzle) × Valid p × (problem.now ≡ problem_of p) }
-    ensures { (p : Puzzle) → Valid p → problem.now ≡ problem_of p → Writes (sheet_within (length output.old) p) result output.old output.new }
+    requires { problem_formed problem.now ≡ true }
+    ensures { Writes (sheet_within (length output.old) (puzzle_of problem.now)) result output.old output.new }
 {
-    let mut marks = [0; 1024];
-    groups::mark_arrow_cells(&problem.arrows, problem.arrow_total(), &mut marks);
-    let mut nowhere = [0; 1];
-    let length = write_sheet(&mut nowhere, problem, &marks);
-    if output.len() < length {
+    let mut count = Sheet {
+        out: &mut [],
+        len: 0,
+    };
+    count.write_sheet(problem);
+    if output.len() < count.len {
         return Err(Refusal::SheetShort);
     }
-    Ok(write_sheet(output, problem, &marks))
+    let mut sheet = Sheet {
+        out: output,
+        len: 0,
+    };
+    sheet.write_sheet(problem);
+    Ok(sheet.len)
 }
 
 // Writes the clause sheet of a record: the record's refusals, then 13 where the output is too short for the whole sheet.

@@ -28,10 +28,6 @@ pub Told-ok : (o : Outcome (List ℕ)) (t old new : List ℕ) (r : ℤ) → o �
 unfolding written output_with
 Told-ok o t old new r e f g = rw e (f, g)
 
--- what is so for an outcome is so for its equal
-pub Told-as : {o p : Outcome (List ℕ)} {r : ℤ} {new : List ℕ} (old : List ℕ) → o ≡ p → Told p r old new → Told o r old new
-Told-as old e t = rw e t
-
 -- ---- before it is returned
 
 module _ (o : Outcome (List ℕ)) (old : List ℕ) where

@@ -5,14 +5,13 @@ ghost use Rattle.std.specs.Prelude.{◌≡◌, ◌+◌, ◌*◌, ◌≤◌, ◌+
 ghost use Rattle.exported.specs.Written.{bytes_of};
 
 // Writes the first `count` numbers to the front of the output, each as two bytes, most significant first.
+#[tactic(auto, using(crate::proofs::OutputLaws::write_next, crate::proofs::OutputLaws::written_none))]
 pub fn write_numbers(numbers: &[u16], count: usize, output: &mut [u8])
     requires { (count ≤ length numbers.now) × (2 * count ≤ length output.old) }
     ensures { output.new ≡ bytes_of (take count numbers.now) ++ drop (2 * count) output.old }
 {
     for k in 0..count {
-        let number = numbers[k];
-        output[2 * k] = (number / 256) as u8;
-        output[2 * k + 1] = (number % 256) as u8;
+        output[2 * k..2 * k + 2].copy_from_slice(&numbers[k].to_be_bytes());
     }
 }
 

@@ -48,9 +48,6 @@ module _ {K base part : List ℕ} {n c : ℕ} {t : ℕ → Bool} (O : Ordered K 
 
 -- ---- one cell of an arrow block
 module _ (K O : List ℕ) (e i : ℕ) where
-  pub cell_off : of_block K O e i ≡ false → (x : ℕ) → (of_block K O e i && eqb i x) ≡ false
-  cell_off h x = rw h
-
   pub cell_added : {base part part' : List ℕ} {n c r : ℕ} {t : ℕ → Bool} → get_or K i 0 ≡ 1 → get_or O i 0 ≡ e → i < n → Ordered K n base t part c → Inserted part c (32768 + i) r part'
       → Ordered K n base (λ x. t x || (of_block K O e i && eqb i x)) part' r
   unfolding lit_at
@@ -64,9 +61,6 @@ module _ (K O : List ℕ) (e : ℕ) where
   -- those below i
   abbrev pub up_to : ℕ → ℕ → Bool
   up_to i x = of_block K O e x && ltb x i
-
-  pub block_none : (x : ℕ) → up_to 0 x ≡ false
-  block_none x = rw (le-ltb x 0 (omega arith)) (and-false (of_block K O e x))
 
   pub block_more : {base part : List ℕ} {n c : ℕ} (t : ℕ → Bool) (i : ℕ) → Ordered K n base (λ x. (t x || up_to i x) || (of_block K O e i && eqb i x)) part c → Ordered K n base (λ x. t x || up_to (i + 1) x) part c
   block_more t i Q = Ordered-same (λ x. (t x || up_to i x) || (of_block K O e i && eqb i x)) (λ x. t x || up_to (i + 1) x) (λ x _. by x (ℕ_discrete i x)) Q

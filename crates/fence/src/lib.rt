@@ -102,6 +102,7 @@ impl Fence<'_> {
     }
 
     // Inserts the arrow block of cell j, if it is in one other than f that is not there yet.
+    #[tactic(auto, using(crate::proofs::Fences::disturbing_none, crate::proofs::Fences::disturbing_own, crate::proofs::Fences::none_added))]
     fn insert_disturbing_block(&mut self, info: &BoardInfo<'_>, f: u16, j: usize)
         requires cell { j < info.now.grid.height * info.now.grid.width }
         requires room { Room info.now self.old }
@@ -138,6 +139,7 @@ impl Fence<'_> {
     }
 
     // Inserts what cell i brings into the fence of the block f, whose reach is marked.
+    #[tactic(auto, using(crate::proofs::Fences::adds_untouched, crate::proofs::Fences::none_added, crate::proofs::Ordering::ordered_room))]
     fn insert_fence_of(&mut self, info: &BoardInfo<'_>, marks: &[u8; 1024], f: u16, i: usize)
         requires cell { i < info.now.grid.height * info.now.grid.width }
         requires room { Room info.now self.old }
@@ -159,6 +161,7 @@ impl Fence<'_> {
     }
 
     // Inserts what the cells bring into the fence of the block f, whose reach is marked.
+    #[tactic(auto, using(crate::proofs::Fences::among_Whole))]
     fn insert_fence(&mut self, info: &BoardInfo<'_>, marks: &[u8; 1024], f: u16)
         requires room { info.now.grid.height * info.now.grid.width < length self.old.part.now }
         requires empty { self.old.count ≡ 0 }

@@ -11,10 +11,6 @@ use Rattle.grid.specs.Grid.{Grid, size, col, only, up, down, left, right}
 use Rattle.grid.specs.Side.{sized}
 use Rattle.fields.specs.Fields.{ok, refused, there, step_from}
 
--- there are four directions
-pub no_direction : (d : ℕ) → d < 4 → (d ≡ 0 → ⊥) → (d ≡ 1 → ⊥) → (d ≡ 2 → ⊥) → (d ≡ 3 → ⊥) → ⊥
-no_direction d l p q r s = omega arith
-
 -- a row further
 below : (y w : ℕ) → (y + 1) * w ≡ y * w + w
 below y w = rw add-one (suc-mul y w)

@@ -35,6 +35,7 @@ fn byte_at(s: &[u8], k: usize) -> u32
 }
 
 // The number in the n bits from at. They lie in three bytes, since n is small; bits behind the end are 0.
+#[tactic(auto, using(crate::proofs::FieldLaws::shifted))]
 pub fn number_at(s: &[u8], at: usize, n: usize) -> usize
     requires { n ≤ 16 }
     ensures { result ≡ number s.now at n }
@@ -48,6 +49,7 @@ pub fn number_at(s: &[u8], at: usize, n: usize) -> usize
 }
 
 // The field of n bits at `at`, if the record does not end before its end.
+#[tactic(auto, using(crate::proofs::FieldLaws::field_cut, crate::proofs::FieldLaws::field_there))]
 pub fn read_field(s: &[u8], at: usize, n: usize) -> Result<usize, Refusal>
     requires { (at ≤ 65536) × (n ≤ 16) }
     ensures { outcome_of result ≡ field s.now at n }
@@ -59,6 +61,7 @@ pub fn read_field(s: &[u8], at: usize, n: usize) -> Result<usize, Refusal>
 }
 
 // The code of a cell: 0 plain, 1 black, 2 given square, 3 refused.
+#[tactic(auto, using(crate::proofs::FieldLaws::no_code), unfolding(crate::specs::Fields::unless, crate::specs::Inside::cell_code))]
 fn cell_code(code: usize) -> Result<u8, Refusal>
     ensures { outcome_of result ≡ cell_code code }
 {
@@ -80,6 +83,7 @@ pub fn read_code(s: &[u8], at: usize) -> Result<u8, Refusal>
 }
 
 // The cell one step from a cell of the grid: 0 up, 1 down, 2 left, 3 right.
+#[tactic(auto, using(crate::proofs::StepLaws::no_down, crate::proofs::StepLaws::no_left, crate::proofs::StepLaws::no_right, crate::proofs::StepLaws::no_up, crate::proofs::StepLaws::step_down, crate::proofs::StepLaws::step_left, crate::proofs::StepLaws::step_right, crate::proofs::StepLaws::step_up))]
 fn step_from(
     height: usize,
     width: usize,
@@ -138,6 +142,7 @@ pub fn read_start(s: &[u8], height: usize, width: usize, at: usize) -> Result<St
 }
 
 // Only zero bits, and fewer than eight of them, from at.
+#[tactic(auto, using(crate::proofs::FieldLaws::filler_bits, crate::proofs::FieldLaws::filler_long, crate::proofs::FieldLaws::filler_none))]
 pub fn is_filler(s: &[u8], at: usize) -> bool
     requires { at ≤ 65536 }
     ensures { result ≡ filler s.now at }
@@ -153,6 +158,7 @@ pub fn is_filler(s: &[u8], at: usize) -> bool
 }
 
 // Only zero bits from at to the end of its byte.
+#[tactic(auto, using(crate::proofs::FieldLaws::rest_bits))]
 pub fn is_rest_zero(s: &[u8], at: usize) -> bool
     requires { at ≤ 65536 }
     ensures { result ≡ rest_zero s.now at }

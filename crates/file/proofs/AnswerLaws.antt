@@ -11,7 +11,7 @@ use lib.ListN.{length, take, drop, set}
 use borrow.Author.Tests.{le-leb, lt-leb, leb-true}
 use Rattle.grid.specs.Lists.{array_of}
 use Rattle.grid.specs.Grid.{size}
-use Rattle.grid.proofs.ArrayLaws.{array_length, array_take}
+use Rattle.grid.proofs.ArrayLaws.{array_take}
 use Rattle.grid.proofs.FilledLaws.{filled_more}
 use Rattle.std.specs.Prelude.{Ok, Err}
 use Rattle.std.specs.Result.{IsErrAnd}
@@ -23,7 +23,7 @@ use Rattle.fields.proofs.OutcomeLaws.{bind_ok, unless-ok, ok-eq}
 use Rattle.fields.proofs.ReadLaws.{bind_value, bind_refused}
 use Rattle.record.specs.Record.{Puzzle}
 use Rattle.record.specs.Leaf.{in_edition, is_edition}
-use Rattle.record.specs.Problem.{problem_of, puzzle_of, as_problem}
+use Rattle.record.specs.Problem.{problem_of, puzzle_of, as_problem, total_of}
 use Rattle.record.specs.Head.{Head, read_head, puzzle_in}
 use Rattle.record.specs.declared.Problem.{Problem}
 use Rattle.record.proofs.ProblemLaws.{problem_puzzle}
@@ -32,7 +32,7 @@ use Rattle.record.proofs.HeadLaws.{head_bytes, head_Valid, head_length}
 use Rattle.form.specs.Form.{problem_formed}
 use Rattle.form.proofs.ProblemForm.{is_Formed, valid_Formed}
 use Rattle.exported.specs.Written.{output_with}
-use Rattle.writer.proofs.ArrayLaws.{total, length_in}
+use Rattle.writer.proofs.ArrayLaws.{length_in}
 use Rattle.finished.specs.Finished.{Finished, finished_test}
 use Rattle.file.specs.File.{tail_of, cells_in, tail_test, grade_in, solution_in, Graded, Solved, graded_in, solved_in, player_behind, setter_behind, read_player, read_setter}
 use Rattle.file.specs.Answers.{graded_as, player_of, solved_as, setter_of, Gives}
@@ -107,7 +107,7 @@ setter_unread n e s r = rw r refl
 module _ (s : List ℕ) {h : Head} (r : read_head s ≡ ok h) where
   -- the arrays that were read: how long the record is, and how many cells it has
   module _ (q : Problem) (f : q ≡ problem_of h.puzzle) where
-    pub length_found : (n : ℕ) → n ≡ bytes_for (21 + 2 * (q.height * q.width) + 18 * q.count + 2 * total q.ends q.count) → n ≡ h.bytes
+    pub length_found : (n : ℕ) → n ≡ bytes_for (21 + 2 * (q.height * q.width) + 18 * q.count + 2 * total_of q) → n ≡ h.bytes
     length_found n e = e ∙ length_in h.puzzle (head_Valid s r) q f ∙ sym (head_bytes s r)
 
     pub cells_found : q.height * q.width ≡ cells_in h
@@ -143,7 +143,7 @@ pub record Behind (s : List ℕ) (q : Problem) (length : ℕ) (tail : Bool) : Ty
   pub cells : q.height * q.width ≡ cells_in head
   pub tailed : tail ≡ tail_test (tail_of s head) (cells_in head)
 
-pub behind : (s : List ℕ) {q : Problem} → ok q ≡ as_problem (puzzle_in (read_head s)) → {n : ℕ} → n ≡ bytes_for (21 + 2 * (q.height * q.width) + 18 * q.count + 2 * total q.ends q.count)
+pub behind : (s : List ℕ) {q : Problem} → ok q ≡ as_problem (puzzle_in (read_head s)) → {n : ℕ} → n ≡ bytes_for (21 + 2 * (q.height * q.width) + 18 * q.count + 2 * total_of q)
     → {b : Bool} → b ≡ tail_test (drop n s) (q.height * q.width) → Behind s q n b
 behind s {q} o {n} e {b} t =
     let h = head_ok s o in
@@ -187,7 +187,7 @@ module _ (s : List ℕ) {h : Head} (r : read_head s ≡ ok h) where
 
             pub setter_done : finished_test (in_edition e h.puzzle) (solution_in (tail_of s h) (cells_in h)) ≡ true
                 → (m g k : ℕ) (cells : List ℕ) → m ≡ h.bytes → g ≡ grade_in (drop m s) → k ≡ cells_in h → cells ≡ array_of 0 (solution_in (drop m s) k)
-                → ◌≡◌ {A = Outcome Setter} (ok (record { length = m; grade = g; count = k; cells = cells })) (setter_of (setter_within n e s))
+                → ◌≡◌ {A = Outcome Setter} (ok (record { player = record { length = m; grade = g }; count = k; cells = cells })) (setter_of (setter_within n e s))
             unfolding setter_within setter_behind solved_in graded_in setter_of ◌>>=◌ unless
             setter_done b m g k cells w f c d = rw (r, le-leb (1 + cells_in h) n l, t, a, b, d, f, w, c, solution_length (tail_of s h) (cells_in h)) refl
 
@@ -234,11 +234,6 @@ grade_alone grade k old = let m : 1 + k ≡ suc k = omega arith in rw m (go old)
 
 pub grade_put : (grade : ℕ) (old : List ℕ) → 1 ≤ length old → set old 0 grade ≡ (grade ∷ []) ++ drop 1 old
 grade_put grade old h = grade_first grade old h ∙ ap (λ (l : List ℕ). grade ∷ l) (grade_alone grade 0 old)
-
--- the grade, and behind it n cells
-pub grade_cells : (grade n : ℕ) (cells old : List ℕ) → 1 ≤ length old → (take 1 (set old 0 grade) ++ take n cells) ++ drop (1 + n) (set old 0 grade) ≡ (grade ∷ take n cells) ++ drop (1 + n) old
-grade_cells grade n cells [] h = absurd (omega arith)
-grade_cells grade n cells (x ∷ old) h = ap (λ (l : List ℕ). (grade ∷ take n cells) ++ l) (grade_alone grade n (x ∷ old))
 
 -- ---- the exported calls
 
@@ -325,21 +320,21 @@ module _ (n : ℕ) (s : List ℕ) where
       setter_taken : (f : Solved) × (setter_within n e s ≡ ok f) × (p ≡ solved_as f)
       setter_taken = setter_got (setter_within n e s) m
 
-      pub setter_bounds : (1 + p.count ≤ n) × (p.count ≤ 1024) × (length p.cells ≡ 1024) × (p.length ≤ 2819)
-      setter_bounds = let w = setter_taken in let b = setter_fits e w.1 in rw w.2 (b.0, b.1, array_length 0 w.0.solution b.1, b.2)
+      pub setter_bounds : (1 + p.count ≤ n) × (p.count ≤ 1024) × (p.player.length ≤ 2819)
+      setter_bounds = let w = setter_taken in rw w.2 (setter_fits e w.1)
 
       front : (f : Solved) (old : List ℕ)
-          → ((solved_as f).grade ∷ take (solved_as f).count (solved_as f).cells) ++ drop (1 + (solved_as f).count) old ≡ (to_setter f).bytes ++ drop (length (to_setter f).bytes) old
+          → ((solved_as f).player.grade ∷ take (solved_as f).count (solved_as f).cells) ++ drop (1 + (solved_as f).count) old ≡ (to_setter f).bytes ++ drop (length (to_setter f).bytes) old
       unfolding to_setter
       front f old = let k : 1 + length f.solution ≡ suc (length f.solution) = omega arith in rw (array_take 0 f.solution, k) refl
 
-      pub setter_given_lem : (old new : List ℕ) → new ≡ (p.grade ∷ take p.count p.cells) ++ drop (1 + p.count) old → Gives (setter_given n e s) (Ok p.length) old new
+      pub setter_given_lem : (old new : List ℕ) → new ≡ (p.player.grade ∷ take p.count p.cells) ++ drop (1 + p.count) old → Gives (setter_given n e s) (Ok p.player.length) old new
       unfolding setter_given
       setter_given_lem old new z =
           let w = setter_taken in
           let f = w.0 in
-          Gives-ok _ old (to_setter f) new p.length (bind_value _ w.1) (ap (λ (x : Setter). x.length) w.2 ∙ (unfold to_setter in refl)) setter_bounds.3
-          (z ∙ ap (λ (x : Setter). (x.grade ∷ take x.count x.cells) ++ drop (1 + x.count) old) w.2 ∙ front f old)
+          Gives-ok _ old (to_setter f) new p.player.length (bind_value _ w.1) (ap (λ (x : Setter). x.player.length) w.2 ∙ (unfold to_setter in refl)) setter_bounds.2
+          (z ∙ ap (λ (x : Setter). (x.player.grade ∷ take x.count x.cells) ++ drop (1 + x.count) old) w.2 ∙ front f old)
 
 -- both calls agree where both accept: they return the same length, and the player's byte is the setter's first
 pub call_agree : (m n e : ℕ) (s : List ℕ) {a b : Given} → player_given m s ≡ ok a → setter_given n e s ≡ ok b → (a.length ≡ b.length) × (a.bytes ≡ take 1 b.bytes)

@@ -12,6 +12,8 @@ use lib.Dec.{eqb, leb, ltb}
 use lib.ListN.{length, get_or, drop, length-append, length-drop, drop_of_length-le}
 use lib.Seq.{get_or-drop, ext_get_or, get_or-append-add}
 use borrow.Author.Tests.{leb-true, le-leb, lt-leb, lt-ltb, eqb-true, eq-eqb}
+use Rattle.std.specs.Int.{div_ceil}
+use Rattle.std.proofs.lemmas.Grind.{div_ceil_times}
 use Rattle.grid.specs.Lists.{upto, range}
 use Rattle.grid.proofs.ListLaws.{and-true, true-and, length-map-upto, map-upto_at}
 use Rattle.grid.proofs.AppendLaws.{upto_more}
@@ -38,21 +40,25 @@ module _ (s : List ℕ) (n : ℕ) where
   pub number-drop : (at k : ℕ) → number (drop n s) at k ≡ number s (8 * n + at) k
   number-drop at k = number_same (drop n s) s at (8 * n + at) k (λ i l. bit-drop (at + i) ∙ ap (bit s) (omega arith))
 
-  -- the test of a tail looks at the file from its first bit on
-  pub tail_short : (m : ℕ) → length s < (8 * n + 3 + m + 7) / 8 → false ≡ tail_test (drop n s) m
-  unfolding tail_test
-  tail_short m h =
-      let l : 8 * length (drop n s) < 3 + m = omega (arith, length-drop n s) in
-      rw (lt-leb (3 + m) (8 * length (drop n s)) l) refl
+  -- the test of a tail looks at the file from its first bit on, which takes k bytes
+  module _ (m : ℕ) {k : ℕ} (e : k ≡ div_ceil (8 * n + 3 + m) 8) where
+    needed : (8 * n + 3 + m ≤ k * 8) × (k * 8 < 8 * n + 3 + m + 8)
+    needed = rw e (div_ceil_times (8 * n + 3 + m) 8 (omega arith))
 
-  pub tail_long : (m : ℕ) (r : Bool) → (8 * n + 3 + m + 7) / 8 ≤ length s → r ≡ filler s (8 * n + 3 + m) → r ≡ tail_test (drop n s) m
-  unfolding tail_test filler
-  tail_long m r h e =
-      let d = length-drop n s in
-      let l : 3 + m ≤ 8 * length (drop n s) = omega arith in
-      let q : 8 * length (drop n s) - (3 + m) ≡ 8 * length s - (8 * n + 3 + m) = omega arith in
-      let p : 8 * n + (3 + m) ≡ 8 * n + 3 + m = omega arith in
-      rw (le-leb (3 + m) (8 * length (drop n s)) l, q, number-drop (3 + m) (8 * length s - (8 * n + 3 + m)), p) e
+    pub tail_short : length s < k → false ≡ tail_test (drop n s) m
+    unfolding tail_test
+    tail_short h =
+        let l : 8 * length (drop n s) < 3 + m = omega (arith, length-drop n s, needed) in
+        rw (lt-leb (3 + m) (8 * length (drop n s)) l) refl
+
+    pub tail_long : (r : Bool) → k ≤ length s → r ≡ filler s (8 * n + 3 + m) → r ≡ tail_test (drop n s) m
+    unfolding tail_test filler
+    tail_long r h f =
+        let d = length-drop n s in
+        let l : 3 + m ≤ 8 * length (drop n s) = omega (arith, needed) in
+        let q : 8 * length (drop n s) - (3 + m) ≡ 8 * length s - (8 * n + 3 + m) = omega (arith, needed) in
+        let p : 8 * n + (3 + m) ≡ 8 * n + 3 + m = omega arith in
+        rw (le-leb (3 + m) (8 * length (drop n s)) l, q, number-drop (3 + m) (8 * length s - (8 * n + 3 + m)), p) f
 
 -- ---- what the test means
 

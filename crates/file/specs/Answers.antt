@@ -20,9 +20,9 @@ graded_as f = record { length = f.head.bytes; grade = f.grade }
 unfoldable pub player_of : Outcome Graded → Outcome Player
 player_of o = o >>= λ f. ok (graded_as f)
 
--- to the setter: how many cells the solution has too, and the cells at the front of an array of zeros
+-- to the setter: the same, how many cells the solution has, and the cells at the front of an array of zeros
 abbrev pub solved_as : Solved → Setter
-solved_as f = record { length = f.graded.head.bytes; grade = f.graded.grade; count = length f.solution; cells = array_of 0 f.solution }
+solved_as f = record { player = graded_as f.graded; count = length f.solution; cells = array_of 0 f.solution }
 
 unfoldable pub setter_of : Outcome Solved → Outcome Setter
 setter_of o = o >>= λ f. ok (solved_as f)

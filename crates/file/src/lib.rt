@@ -2,7 +2,7 @@
 // Nothing of the solution reaches the player's answer.
 #![tactic(auto)]
 
-ghost use Rattle.std.specs.Prelude.{◌≡◌, [], ◌∷◌, ◌++◌, ◌+◌, ◌*◌, ◌≤◌, length, take, drop};
+ghost use Rattle.std.specs.Prelude.{◌≡◌, ◌∷◌, ◌++◌, ◌+◌, ◌*◌, ◌≤◌, length, take, drop};
 ghost use Rattle.grid.specs.Lists.{array_of};
 ghost use Rattle.refusal.specs.Refusals.{outcome_of};
 ghost use Rattle.exported.specs.Written.{output_with};
@@ -22,25 +22,22 @@ pub struct Player {
     pub grade: u8,
 }
 
-// What the setter's reader gives: the record's length in bytes, the grade and the `count` cells of the solution, 1 square and 0 empty, with 0 behind them.
+// What the setter's reader gives: what the player's does, and the `count` cells of the solution, 1 square and 0 empty, with 0 behind them.
 #[derive(Clone, Copy, Debug, PartialEq, Eq)]
 pub struct Setter {
-    pub length: usize,
-    pub grade: u8,
+    pub player: Player,
     pub count: usize,
     pub cells: [u8; 1024],
 }
 
 // Whether the bytes from `from` on are the tail of a file with n cells: neither too short nor too long, with zeros behind the last cell.
+#[tactic(auto, using(crate::proofs::TailLaws::tail_short, crate::proofs::TailLaws::tail_long))]
 fn is_tail(file: &[u8], from: usize, n: usize) -> bool
     requires { (from ≤ 4096) × (n ≤ 1024) }
     ensures { result ≡ tail_test (drop from file.now) n }
 {
     let end = 8 * from + 3 + n;
-    if file.len() < (end + 7) / 8 {
-        return false;
-    }
-    fields::is_filler(file, end)
+    end.div_ceil(8) <= file.len() && fields::is_filler(file, end)
 }
 
 // The grade of a tail.
@@ -51,14 +48,16 @@ fn read_grade(file: &[u8], from: usize) -> u8
     fields::number_at(file, 8 * from, 3) as u8
 }
 
-// The solution of a tail with n cells, to the front of an array of zeros.
-fn read_solution(file: &[u8], from: usize, n: usize, cells: &mut [u8; 1024])
-    requires { (from ≤ 4096) × (n ≤ 1024) × (cells.old ≡ array_of 0 []) }
-    ensures { cells.new ≡ array_of 0 (solution_in (drop from file.now) n) }
+// The solution of a tail with n cells, and zeros behind it.
+fn read_solution(file: &[u8], from: usize, n: usize) -> [u8; 1024]
+    requires { (from ≤ 4096) × (n ≤ 1024) }
+    ensures { result ≡ array_of 0 (solution_in (drop from file.now) n) }
 {
+    let mut cells = [0; 1024];
     for i in 0..n {
         cells[i] = fields::number_at(file, 8 * from + 3 + i, 1) as u8;
     }
+    cells
 }
 
 // The player's reader for an output of `room` bytes: 1 to 5, 11, 20.
@@ -94,14 +93,15 @@ fn setter_within(file: &[u8], edition: u32, room: usize) -> Result<Setter, Refus
         return Err(Refusal::Tail);
     }
     let edition = Edition::try_from(edition)?;
-    let mut cells = [0; 1024];
-    read_solution(file, length, n, &mut cells);
-    if !finished::is_finished(&call::bare(&problem, edition), &cells) {
+    let cells = read_solution(file, length, n);
+    if !finished::is_finished(&calls::bare(&problem, edition), &cells) {
         return Err(Refusal::Unfinished);
     }
     Ok(Setter {
-        length,
-        grade: read_grade(file, length),
+        player: Player {
+            length,
+            grade: read_grade(file, length),
+        },
         count: n,
         cells,
     })
@@ -125,7 +125,7 @@ pub fn read_setter(file: &[u8], edition: u32) -> Result<Setter, Refusal>
 
 // Writes a grade and the first n cells to the front of the output, one byte each.
 fn write_solution(grade: u8, cells: &[u8; 1024], n: usize, output: &mut [u8])
-    requires { (n ≤ 1024) × (length cells.now ≡ 1024) × (1 + n ≤ length output.old) }
+    requires { (n ≤ 1024) × (1 + n ≤ length output.old) }
     ensures { output.new ≡ (grade ∷ take n cells.now) ++ drop (1 + n) output.old }
 {
     output[0] = grade;
@@ -146,8 +146,8 @@ fn write_setter(file: &[u8], edition: u32, output: &mut [u8]) -> Result<usize, R
     ensures { Gives (setter_given (length output.old) edition file.now) result output.old output.new }
 {
     let setter = setter_within(file, edition, output.len())?;
-    write_solution(setter.grade, &setter.cells, setter.count, output);
-    Ok(setter.length)
+    write_solution(setter.player.grade, &setter.cells, setter.count, output);
+    Ok(setter.player.length)
 }
 
 // Reads a file for the player: returns the record's length in bytes and writes the grade to the output's first byte; or the negated number of a

@@ -21,6 +21,7 @@ use replay::{Cursor, Entries, Run};
 use std::io;
 
 // Whether an answer of `finished` is not the one for this number: 1 for a finished board, 0 for another.
+#[tactic(auto, using(crate::proofs::EntryLaws::answer_told, crate::proofs::EntryLaws::refused_told))]
 fn verdict_differs(answer: Result<bool, Refusal>, number: usize) -> bool
     ensures { (v : Verdict) → outcome_of answer ≡ judged_as v → DiffersUnless result (VerdictSo v number) }
 {
@@ -32,19 +33,20 @@ fn verdict_differs(answer: Result<bool, Refusal>, number: usize) -> bool
 
 // Whether find on the board differs from these literals, or finished from the byte behind them. Player 0 finds, and the whole buffer is lent.
 fn board_differs(board: Board, rounds: usize, literals: Literals<'_>) -> bool
-    requires { literals.at + 2 * literals.count < length literals.list.now }
-    ensures { DiffersUnless result (BoardSo board literals.entry.list.now literals.entry.at literals.entry.count) }
+    requires { literals.from.at + 2 * literals.count < length literals.from.list.now }
+    ensures { DiffersUnless result (BoardSo board literals.entry.from.list.now literals.entry.from.at literals.entry.count) }
 {
     let find = Find {
         player: 0,
         size: 4096,
     };
-    let verdict = replay::byte_at(literals.list, literals.at + 2 * literals.count);
+    let verdict = literals.from.byte_at(2 * literals.count);
     finds::find_differs(board, find, Way::Value(rounds), 0, literals).differs
         || verdict_differs(finished::finished(board), verdict)
 }
 
 // Whether the board of a record in an edition, without sizes, with these decisions is refused, or differs from what the list says from the literals on.
+#[tactic(auto, using(crate::proofs::EntryLaws::not_opened, crate::proofs::EntryLaws::not_decided))]
 fn entry_differs(
     record: &[u8],
     edition: u8,
@@ -52,8 +54,8 @@ fn entry_differs(
     rounds: usize,
     literals: Literals<'_>,
 ) -> bool
-    requires { literals.at + 2 * literals.count < length literals.list.now }
-    ensures { DiffersUnless result (EntrySo «record».now edition decisions.now literals.entry.list.now literals.entry.at literals.entry.count) }
+    requires { literals.from.at + 2 * literals.count < length literals.from.list.now }
+    ensures { DiffersUnless result (EntrySo «record».now edition decisions.now literals.entry.from.list.now literals.entry.from.at literals.entry.count) }
 {
     let Ok(fresh) = Board::open(record, edition, &[]) else {
         return true;
@@ -81,16 +83,14 @@ impl Entries for Boards {
         }
     }
 
-    fn run(&self, list: &[u8], at: usize) -> Option<Run> {
-        let mut cursor = Cursor { list, at };
+    fn run(&self, mut cursor: Cursor<'_>) -> Option<Run> {
         let bytes = cursor.counted()?;
         let edition = cursor.byte()?;
         let decisions = cursor.number()?;
         let decisions = cursor.take(2 * decisions)?;
         let count = cursor.number()?;
         let literals = Literals {
-            list,
-            at: cursor.at,
+            from: cursor,
             count,
         };
         cursor.take(2 * count + 1)?;

@@ -85,21 +85,16 @@ module _ {f : Finding} where
 pub left_board : (b : Board) (q size : ℕ) (fresh : List ℕ) {r : Board} → size ≤ length fresh → r ≡ after_find b q (length (take size fresh)) → r ≡ after_find b q size
 left_board b q size fresh h e = e ∙ ap (after_find b q) (length-take-le size fresh h)
 
-module _ (b : Board) (q size refusal count : ℕ) (said : ℕ → ℕ) (fresh : List ℕ) (e : fresh ≡ replicate 4096 65535) (t : Bool) (w : DiffersUnless t (find_of b q (take size fresh) ≡ finding_of refusal count)) where
-  -- the answer alone, told apart from the one that is said
-  answer_told : DiffersUnless t (find_of b q (lent size) ≡ finding_of refusal count)
-  unfolding lent
-  answer_told = rw e at w
-
+module _ (b : Board) (q size refusal count : ℕ) (said : ℕ → ℕ) (t : Bool) (w : DiffersUnless t (find_of b q (take size (replicate 4096 65535)) ≡ finding_of refusal count)) where
   -- another answer than the one that is said
   pub other_answer : t ≡ true → FindsSo b q size refusal count said → ⊥
-  other_answer h s = answer_told.1 h s.0
+  unfolding lent
+  other_answer h s = w.1 h s.0
 
   -- the answer that is said: then the buffer decides
-  pub this_answer : t ≡ false → (r : Bool) → r ≡ differs (buffer_after b q (take size fresh) ++ drop size fresh) said 0 → DiffersUnless r (FindsSo b q size refusal count said)
-  this_answer k r d =
-      let h : r ≡ differs (left b q size) said 0 = unfold left lent in rw e at d in
-      then_differs (answer_told.0 k) r (test_told _ r h)
+  pub this_answer : t ≡ false → (r : Bool) → r ≡ differs (buffer_after b q (take size (replicate 4096 65535)) ++ drop size (replicate 4096 65535)) said 0 → DiffersUnless r (FindsSo b q size refusal count said)
+  unfolding left lent
+  this_answer k r d = then_differs (w.0 k) r (test_told _ r d)
 
 -- a buffer after the literals were written to it once more
 written_again : (k : ℕ) (f : Found) (buffer : List ℕ) → buffer_by k f (buffer_by k f buffer) ≡ buffer_by k f buffer

@@ -14,6 +14,7 @@ ghost use Rattle.finds.specs.Finds.{finding_of, FindsSo};
 use board::Board;
 use reasons::Asked;
 use refusal::Refusal;
+use replay::Cursor;
 
 // Whether an answer is not this refusal, or, where that is 0, not the one for this many literals, 0 for no reason.
 fn finding_differs(found: Result<Option<usize>, Refusal>, refusal: usize, count: usize) -> bool
@@ -88,10 +89,8 @@ pub struct Find {
 // The literals that a list says of a find: so many, from a place on, none for no reason.
 #[derive(Clone, Copy)]
 pub struct Literals<'a> {
-    pub list: &'a [u8],
-    pub at: usize,
+    pub from: Cursor<'a>,
     pub count: usize,
-    ghost inside: { at ≤ length list.now },
 }
 
 // A find that was made: whether it differs from what a list says of it, and the board that it left.
@@ -111,13 +110,13 @@ pub fn find_differs(
 ) -> Made
     ensures left { result.board ≡ after_find board find.player find.size }
     ensures told { DiffersUnless result.differs (FindsSo board find.player find.size refusal literals.entry.count
-        (number_in literals.entry.list.now literals.entry.at literals.entry.count 65535)) }
+        (number_in literals.entry.from.list.now literals.entry.from.at literals.entry.count 65535)) }
 {
-    let mut buffer = replay::fresh_buffer();
+    let mut buffer = [replay::NO_LITERAL; 4096];
     let asked = make(way, board, find.player, &mut buffer[..find.size]);
-    let Literals { list, at, count } = literals;
+    let Literals { from, count } = literals;
     let differs = finding_differs(asked.finding, refusal, count)
-        || replay::literals_differ(list, at, count, &buffer);
+        || from.literals_differ(count, &buffer);
     Made {
         differs,
         board: asked.board,

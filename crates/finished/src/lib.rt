@@ -1,7 +1,7 @@
 // Whether a board is finished.
 #![tactic(auto)]
 
-ghost use Rattle.std.specs.Prelude.{◌≡◌, true, Bool, ◌&&◌, ℕ, ◌*◌, ◌≤◌, ◌<◌, length, take, get_or};
+ghost use Rattle.std.specs.Prelude.{◌≡◌, true, Bool, ◌&&◌, ℕ, ◌*◌, ◌≤◌, ◌<◌, length, get_or};
 ghost use Rattle.grid.specs.Lists.{all, filter};
 ghost use Rattle.form.specs.Form.{problem_formed};
 ghost use Rattle.groups.specs.Arrays.{lines_of, Drawn};
@@ -9,6 +9,7 @@ ghost use Rattle.finished.specs.Finished.{keeps, keeps_all, two_squares, finishe
 ghost use Rattle.finished.specs.Counting.{Tells, two_of};
 ghost use Rattle.finished.specs.Verdicts.{finished_of, judged_as};
 ghost use Rattle.sizes.specs.LeafOf.{leaf_of};
+ghost use Rattle.reasons.specs.Lent.{leaf_cells};
 ghost use Rattle.refusal.specs.Refusals.{outcome_of};
 
 use board::Board;
@@ -29,7 +30,7 @@ fn keeps_given(code: u8, state: u8) -> bool
     }
 }
 
-// Whether each cell of a problem does so. A pass with no way out is quicker than one that leaves at the first cell that does not.
+// Whether each cell of a problem is decided so. A pass with no way out is quicker than one that leaves at the first cell that does not.
 fn all_keep_given(problem: &Problem, cells: &[u8; 1024]) -> bool
     requires small { problem.now.height * problem.now.width ≤ 1024 }
     ensures { result ≡ keeps_all (problem.now.height * problem.now.width) problem.now.cells cells.now }
@@ -43,7 +44,8 @@ fn all_keep_given(problem: &Problem, cells: &[u8; 1024]) -> bool
     good
 }
 
-// How many cells of an arrow count.
+// How many cells of an arrow count. No `filter`: a closure is known to tell a test of the cells below 1,024 alone, and what is known of a filter is by a test
+// of every number.
 fn count_on<F: Fn(usize) -> bool>(arrow: &[u16], counts: &F) -> usize
     requires cells { (k : ℕ) → k < length arrow.now → get_or arrow.now k 0 < 1024 }
     requires callable { (i : ℕ) → i < 1024 → F.pre counts.now i }
@@ -67,8 +69,9 @@ pub fn two_on_each<F: Fn(usize) -> bool>(problem: &Problem, counts: F) -> bool
 {
     let mut good = true;
     let mut from = 0;
-    for a in 0..problem.count {
-        let to = usize::from(problem.ends[a]);
+    let ends = &problem.ends[..problem.count];
+    for &end in ends {
+        let to = usize::from(end);
         if count_on(&problem.arrows[from..to], &counts) < 2 {
             good = false;
         }
@@ -94,13 +97,13 @@ pub fn all_but_rules(problem: &Problem, cells: &[u8; 1024]) -> bool
 // decided the block rules hold exactly when there is no reason against it.
 pub fn is_finished(leaf: &LentLeaf<'_>, cells: &[u8; 1024]) -> bool
     requires formed { problem_formed leaf.now.problem.now ≡ true }
-    ensures { result ≡ finished_test (leaf_of leaf.now) (take (leaf.now.problem.now.height * leaf.now.problem.now.width) cells.now) }
+    ensures { result ≡ finished_test (leaf_of leaf.now) (leaf_cells leaf.now cells.now) }
 {
     if !all_but_rules(leaf.problem, cells) {
         return false;
     }
     let mut buffer = [0; Board::LITERALS];
-    let found = inconsistency::find_inconsistency(leaf, cells, &mut buffer);
+    let found = reasons::inconsistency::find_inconsistency(leaf, cells, &mut buffer);
     found.is_none()
 }
 

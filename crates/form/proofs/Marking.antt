@@ -26,9 +26,9 @@ pub record Marking (n : ℕ) (l : List ℕ) (k : ℕ) (marks : List ℕ) : Type 
   pub left : fresh n [] l ≡ fresh n used (drop k l)
   pub same : (i : ℕ) → member i used ≡ member i (take k l)
 
-pub Marking-none : (n : ℕ) (l : List ℕ) {marks : List ℕ} → Blank marks → Marking n l 0 marks
+pub none_marked : (n : ℕ) (l : List ℕ) {marks : List ℕ} → Blank marks → Marking n l 0 marks
 unfolding member any
-Marking-none n l b = record { used = []; marked = record { long = b.long; at = λ i h. b.each i }; left = refl; same = λ i. refl }
+none_marked n l b = record { used = []; marked = record { long = b.long; at = λ i h. b.each i }; left = refl; same = λ i. refl }
 
 module _ {n k : ℕ} {l marks : List ℕ} (m : Marking n l k marks) (h : k < length l) where
   next : fresh n [] l ≡ ((ltb (get_or l k 0) n && not (member (get_or l k 0) m.used)) && fresh n (get_or l k 0 ∷ m.used) (drop (suc k) l))
@@ -45,8 +45,8 @@ module _ {n k : ℕ} {l marks : List ℕ} (m : Marking n l k marks) (h : k < len
     marking_twice q = sym (next ∙ rw (m.same (get_or l k 0), mark_other m.marked (get_or l k 0) (omega arith) q, and-false (ltb (get_or l k 0) n)) refl)
 
     -- it is marked now
-    pub Marking-more : get_or marks (get_or l k 0) 0 ≡ 0 → Marking n l (k + 1) (set marks (get_or l k 0) 1)
-    Marking-more q = record {
+    pub one_marked : get_or marks (get_or l k 0) 0 ≡ 0 → Marking n l (k + 1) (set marks (get_or l k 0) 1)
+    one_marked q = record {
       used = get_or l k 0 ∷ m.used;
       marked = Marks-next l k h (omega arith) m.marked;
       left = next ∙ rw (lt-ltb (get_or l k 0) n t, m.same (get_or l k 0), mark_zero m.marked (get_or l k 0) (omega arith) q, add-one k) refl;
@@ -57,28 +57,29 @@ module _ {n k : ℕ} {l marks : List ℕ} (m : Marking n l k marks) (h : k < len
         both i = unfold member any in ap (λ (b : Bool). eqb i (get_or l k 0) || b) (m.same i) ∙ or_comm (eqb i (get_or l k 0)) (member i (take k l))
 
 -- all are marked
-pub Marking-end : {n k : ℕ} {l marks : List ℕ} → Marking n l k marks → length l ≤ k → (true ≡ fresh n [] l) × Marks marks (λ i. member i l)
-unfolding fresh
-Marking-end {n} {k} {l} {marks} m h = (
-  sym (m.left ∙ rw (drop_of_length-le l {i = k} h) refl),
-  rw (take_all k l h) at m.marked,
-)
+module _ {n k : ℕ} {l marks : List ℕ} (m : Marking n l k marks) (h : length l ≤ k) where
+  pub all_fresh : true ≡ fresh n [] l
+  unfolding fresh
+  all_fresh = sym (m.left ∙ rw (drop_of_length-le l {i = k} h) refl)
+
+  pub all_marked : Marks marks (λ i. member i l)
+  all_marked = rw (take_all k l h) at m.marked
 
 -- ---- the first cells of rows
 
 -- the rows before at are marked
-pub record Rows (w at : ℕ) (l : List ℕ) : Type 0 where
+pub record Marked (w at : ℕ) (l : List ℕ) : Type 0 where
   pub long : length l ≡ 1024
   pub whole : at % w ≡ 0
   pub before : (i : ℕ) → i < at → get_or l i 0 ≡ cond (eqb (i % w) 0) 1 0
   pub later : (i : ℕ) → at ≤ i → get_or l i 0 ≡ 0
 
-pub Rows-none : (w : ℕ) {l : List ℕ} → 0 < w → Blank l → Rows w 0 l
-Rows-none w h b = record { long = b.long; whole = mod-eq_of_lt h; before = λ i k. absurd (omega (arith, k)); later = λ i k. b.each i }
+pub no_row : (w : ℕ) {l : List ℕ} → 0 < w → Blank l → Marked w 0 l
+no_row w h b = record { long = b.long; whole = mod-eq_of_lt h; before = λ i k. absurd (omega (arith, k)); later = λ i k. b.each i }
 
 -- one more row
-pub Rows-more : {w at : ℕ} {l : List ℕ} → 0 < w → at < 1024 → Rows w at l → Rows w (at + w) (set l at 1)
-Rows-more {w} {at} {l} pos h r = record { long = length-set l at 1 ∙ r.long; whole = add-mod_right at w ∙ r.whole; before = before; later = later }
+pub next_row : {w at : ℕ} {l : List ℕ} → 0 < w → at < 1024 → Marked w at l → Marked w (at + w) (set l at 1)
+next_row {w} {at} {l} pos h r = record { long = length-set l at 1 ∙ r.long; whole = add-mod_right at w ∙ r.whole; before = before; later = later }
   where
     -- a cell behind the first of the row
     inner : (i : ℕ) → at < i → i < at + w → i % w ≡ 0 → ⊥
@@ -101,5 +102,5 @@ Rows-more {w} {at} {l} pos h r = record { long = length-set l at 1 ∙ r.long; w
     later i k = rw (get_or-set_other l at i 1 0 (λ (e : i ≡ at). omega (arith, e))) (r.later i (omega arith))
 
 -- all rows
-pub Rows-end : {n w at : ℕ} {l : List ℕ} → Rows w at l → n ≤ at → RowStarts n w l
-Rows-end r h = record { long = r.long; each = λ i k. r.before i (omega arith) }
+pub all_rows : {n w at : ℕ} {l : List ℕ} → Marked w at l → n ≤ at → RowStarts n w l
+all_rows r h = record { long = r.long; each = λ i k. r.before i (omega arith) }

@@ -2,19 +2,14 @@
 -- Assumes nothing.
 use Prim.Native.Nat.{ℕ, ◌+◌, ◌≤◌, ◌<◌}
 use native.Mathlib.Numerals.{add-one}
-use mathlib.Core.Path.{◌≡◌, refl, sym, ◌∙◌}
-use mathlib.Core.Bool.{Bool, true, false, cond, ◌&&◌, and-false, and-true}
+use mathlib.Core.Path.{◌≡◌, refl, ◌∙◌}
+use mathlib.Core.Bool.{Bool, true, false, ◌&&◌, and-false, and-true}
 use mathlib.Core.List.{List}
-use lib.Dec.{eqb, leb}
 use lib.ListN.{length, get_or, drop, drop_of_length-le}
 use lib.Seq.{drop-cons}
 use borrow.Author.Tests.{lt-ltb, le-ltb}
-use Rattle.grid.specs.Lists.{all, last, member}
-use Rattle.grid.specs.Marks.{Marks}
-use Rattle.std.specs.Prelude.{Some, None}
-use Rattle.std.proofs.lemmas.Option.{none-some}
-use Rattle.form.specs.Form.{rises, shown}
-use Rattle.form.specs.Inside.{last_of}
+use Rattle.grid.specs.Lists.{all, last}
+use Rattle.form.specs.Form.{rises}
 
 module _ (p : ℕ → Bool) (l : List ℕ) {total : Bool} (good : Bool) where
   -- the next member passes
@@ -52,34 +47,3 @@ module _ (l : List ℕ) (at k : ℕ) where
   pub last_on : k < length l → last at (drop k l) ≡ last (get_or l k 0) (drop (k + 1) l)
   unfolding last
   last_on h = rw (add-one k, drop-cons l k 0 h) refl
-
-  pub last_end : length l ≤ k → last at (drop k l) ≡ at
-  unfolding last
-  last_end h = rw (drop_of_length-le l {i = k} h) refl
-
--- the last of ends that rise, and ends that do not
-pub last_some : (es : List ℕ) {t : ℕ} → Some t ≡ last_of es → (rises 0 es ≡ true) × (t ≡ last 0 es)
-unfolding last_of
-last_some es {t} e = go (rises 0 es) e
-  where
-    go : (b : Bool) → Some t ≡ cond b (Some (last 0 es)) None → (b ≡ true) × (t ≡ last 0 es)
-    go true q = (refl, cc)
-    go false q = absurd (none-some t (sym q))
-
-pub last_none : (es : List ℕ) → None ≡ last_of es → rises 0 es ≡ false
-unfolding last_of
-last_none es e = go (rises 0 es) e
-  where
-    go : (b : Bool) → None ≡ cond b (Some (last 0 es)) None → b ≡ false
-    go true q = absurd (none-some (last 0 es) q)
-    go false q = refl
-
--- what is right for a cell by its mark is right by the list that is marked
-pub right_shown : {marks : List ℕ} (listed cells : List ℕ) → Marks marks (λ i. member i listed) → (i : ℕ) → i < 1024
-    → cond (eqb (get_or marks i 0) 0) (eqb (get_or cells i 0) 2) (leb (get_or cells i 0) 1) ≡ shown listed cells i
-unfolding shown
-right_shown listed cells m i h = rw (m.at i h) (go (member i listed))
-  where
-    go : (t : Bool) → cond (eqb (cond t 1 0) 0) (eqb (get_or cells i 0) 2) (leb (get_or cells i 0) 1) ≡ cond t (leb (get_or cells i 0) 1) (eqb (get_or cells i 0) 2)
-    go true = refl
-    go false = refl

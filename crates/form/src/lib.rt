@@ -1,20 +1,21 @@
 // Tests of the arrays of a board: whether they are those of an accepted record, and the passes over one array.
 #![tactic(auto)]
 
-ghost use Rattle.std.specs.Prelude.{◌≡◌, true, [], ℕ, ◌-◌, ◌≤◌, ◌<◌, ltb, length, take, drop};
-ghost use Rattle.grid.specs.Lists.{all, last, member};
+ghost use Rattle.std.specs.Prelude.{◌≡◌, true, false, [], ℕ, ◌*◌, ◌≤◌, ◌<◌, ltb, length, get_or, take, IfSome, IfNone};
+ghost use Rattle.grid.specs.Lists.{all, member};
 ghost use Rattle.grid.specs.Marks.{Marks};
-ghost use Rattle.grid.specs.Grid.{Grid, size, neighbours};
-ghost use Rattle.record.specs.Problem.{arrows_from};
+ghost use Rattle.grid.specs.Grid.{neighbours};
+ghost use Rattle.grid.specs.Side.{sized};
+ghost use Rattle.record.specs.Problem.{grid_of, arrows_from};
 ghost use Rattle.form.specs.Form.{behind, rises, fresh, is_path, good_size, drawn, problem_formed};
-ghost use Rattle.form.specs.Inside.{Blank, RowStarts, Suits, Below, Cut, last_of};
+ghost use Rattle.form.specs.Inside.{Blank, RowStarts, Cut};
 
+use grid::Grid;
 use record::Problem;
 
 // Whether v stands at every place from `from` on. Like the passes below it goes on to the end, since a pass without a way out is
 // done many places at a time.
 pub fn filled(a: &[u8; 1024], from: usize, v: u8) -> bool
-    requires { length a.now ≡ 1024 }
     ensures { result ≡ behind v from a.now }
 {
     let mut good = true;
@@ -29,7 +30,6 @@ pub fn filled(a: &[u8; 1024], from: usize, v: u8) -> bool
 // Whether 0 stands at every place from `from` on.
 // Apart from `filled`, since one over both types would say its clause by the type's own equality, which each caller would have to turn into this one.
 pub fn zeros(a: &[u16; 1024], from: usize) -> bool
-    requires { length a.now ≡ 1024 }
     ensures { result ≡ behind 0 from a.now }
 {
     let mut good = true;
@@ -41,44 +41,43 @@ pub fn zeros(a: &[u16; 1024], from: usize) -> bool
     good
 }
 
-// Whether the first n places hold the codes 0, 1 and 2 only.
-fn low_codes(a: &[u8; 1024], n: usize) -> bool
-    requires { (length a.now ≡ 1024) × (n ≤ 1024) }
-    ensures { result ≡ all (λ (x : ℕ). ltb x 3) (take n a.now) }
+// Whether the codes are 0, 1 and 2 only.
+fn low_codes(codes: &[u8]) -> bool
+    ensures { result ≡ all (λ (x : ℕ). ltb x 3) codes.now }
 {
     let mut good = true;
-    for k in 0..n {
-        if 2 < a[k] {
+    for &code in codes {
+        if 2 < code {
             good = false;
         }
     }
     good
 }
 
-// The last of the first `count` ends, if they rise.
-fn rising(ends: &[u16; 1024], count: usize) -> Option<usize>
-    requires { (length ends.now ≡ 1024) × (count ≤ 1024) }
-    ensures { result ≡ last_of (take count ends.now) }
+// Whether the ends rise, the first above 0.
+fn rising(ends: &[u16]) -> bool
+    ensures { result ≡ rises 0 ends.now }
 {
     let mut rise = true;
     let mut last = 0;
-    for k in 0..count {
-        let end = usize::from(ends[k]);
+    for &end in ends {
         if end <= last {
             rise = false;
         }
         last = end;
     }
-    if rise { Some(last) } else { None }
+    rise
 }
 
-// Marks the first `count` cells of the list; false where one is n or more, or is marked already.
-pub fn mark(marks: &mut [u8; 1024], list: &[u16; 1024], count: usize, n: usize) -> bool
-    requires { Blank marks.old × (length list.now ≡ 1024) × (count ≤ 1024) × (n ≤ 1024) }
-    ensures { (result ≡ fresh n [] (take count list.now)) × (result ≡ true → Marks marks.new (λ i. member i (take count list.now))) }
+// Marks the cells of the list; false where one is n or more, or is marked already.
+#[tactic(auto, using(crate::proofs::Marking::none_marked, crate::proofs::Marking::one_marked, crate::proofs::Marking::all_marked))]
+pub fn mark(marks: &mut [u8; 1024], list: &[u16], n: usize) -> bool
+    requires { Blank marks.old × (n ≤ 1024) }
+    ensures fresh { result ≡ fresh n [] list.now }
+    ensures marked { result ≡ true → Marks marks.new (λ i. member i list.now) }
 {
-    for k in 0..count {
-        let i = usize::from(list[k]);
+    for &cell in list {
+        let i = usize::from(cell);
         if n <= i {
             return false;
         }
@@ -90,157 +89,128 @@ pub fn mark(marks: &mut [u8; 1024], list: &[u16; 1024], count: usize, n: usize) 
     true
 }
 
-// Marks the first cell of each row, so that the tests of steps need no division.
-fn mark_rows(starts: &mut [u8; 1024], n: usize, w: usize)
-    requires { Blank starts.old × (n ≤ 1024) × (0 < w) × (w ≤ 32) }
-    ensures { RowStarts n w starts.new }
-{
-    for at in (0..n).step_by(w) {
-        starts[at] = 1;
-    }
+// A grid with a mark at the first cell of each row, so that the tests of steps need no division.
+#[derive(Drop)]
+struct Rows {
+    grid: Grid,
+    starts: [u8; 1024],
+    ghost marked: { RowStarts (grid.height * grid.width) grid.width starts },
 }
 
-// Whether j is a neighbour of i, both on a grid with w cells in a row.
-fn beside(starts: &[u8; 1024], w: usize, i: usize, j: usize) -> bool
-    requires { (i < 1024) × (j < 1024) × (w ≤ 32) }
-    ensures { (g : Grid) → Suits g w starts.now → i < size g → j < size g → result ≡ member j (neighbours g i) }
-{
-    if j + w == i {
-        return true;
-    }
-    if i + w == j {
-        return true;
-    }
-    if j + 1 == i {
-        return starts[i] == 0;
-    }
-    if i + 1 == j {
-        return starts[j] == 0;
-    }
-    false
-}
-
-// Whether the cells from the place `at` to the place `end` go from neighbour to neighbour.
-fn follows<'a>(
-    line: &'a [u16; 1024],
-    starts: &'a [u8; 1024],
-    w: usize,
-    at: usize,
-    end: usize,
-) -> bool
-    requires { (length line.now ≡ 1024) × (at < end) × (end ≤ 1024) × (w ≤ 32) × Below end 1024 line.now }
-    ensures { (g : Grid) → Suits g w starts.now → Below end (size g) line.now
-        → result ≡ is_path g (take (end - at) (drop at line.now)) }
-{
-    let mut good = true;
-    let mut i = usize::from(line[at]);
-    for k in at + 1..end {
-        let j = usize::from(line[k]);
-        if !beside(starts, w, i, j) {
-            good = false;
+impl Rows {
+    fn new(grid: Grid) -> Rows
+        requires { 0 < grid.width }
+        ensures { result.grid ≡ grid }
+    {
+        let mut starts = [0; 1024];
+        for at in (0..grid.size()).step_by(grid.width) {
+            starts[at] = 1;
         }
-        i = j;
+        Rows { grid, starts }
     }
-    good
-}
 
-// Whether each arrow goes from neighbour to neighbour.
-fn all_follow<'a>(
-    arrows: &'a [u16; 1024],
-    ends: &'a [u16; 1024],
-    starts: &'a [u8; 1024],
-    w: usize,
-    count: usize,
-) -> bool
-    requires { (length arrows.now ≡ 1024) × (length ends.now ≡ 1024) × (count ≤ 1024) × (w ≤ 32) × Cut (take count ends.now) arrows.now }
-    ensures { (g : Grid) → Suits g w starts.now → Below (last 0 (take count ends.now)) (size g) arrows.now
-        → result ≡ all (is_path g) (arrows_from arrows.now 0 (take count ends.now)) }
-{
-    let mut good = true;
-    let mut at: usize = 0;
-    for k in 0..count {
-        let end = usize::from(ends[k]);
-        if !follows(arrows, starts, w, at, end) {
-            good = false;
+    // Whether the cell j is a neighbour of the cell i.
+    #[tactic(auto, using(crate::proofs::Steps::step_up, crate::proofs::Steps::step_down, crate::proofs::Steps::step_left, crate::proofs::Steps::step_right, crate::proofs::Steps::step_none))]
+    fn are_beside(&self, i: usize, j: usize) -> bool
+        requires { (i < self.now.grid.height * self.now.grid.width) × (j < self.now.grid.height * self.now.grid.width) }
+        ensures { result ≡ member j (neighbours (sized self.now.grid.height self.now.grid.width) i) }
+    {
+        let width = self.grid.width;
+        if j + width == i {
+            return true;
         }
-        at = end;
+        if i + width == j {
+            return true;
+        }
+        if j + 1 == i {
+            return self.starts[i] == 0;
+        }
+        if i + 1 == j {
+            return self.starts[j] == 0;
+        }
+        false
     }
-    good
+
+    // Whether an arrow goes from neighbour to neighbour.
+    fn follows(&self, arrow: &[u16]) -> bool
+        requires { (k : ℕ) → k < length arrow.now → get_or arrow.now k 0 < self.now.grid.height * self.now.grid.width }
+        ensures { result ≡ is_path (sized self.now.grid.height self.now.grid.width) arrow.now }
+    {
+        let mut good = true;
+        for k in 1..arrow.len() {
+            if !self.are_beside(usize::from(arrow[k - 1]), usize::from(arrow[k])) {
+                good = false;
+            }
+        }
+        good
+    }
+
+    // Whether each arrow of a problem does.
+    fn all_follow(&self, problem: &Problem) -> bool
+        requires few { problem.now.count ≤ 1024 }
+        requires cut { Cut (self.now.grid.height * self.now.grid.width) (take problem.now.count problem.now.ends) problem.now.arrows }
+        ensures { result ≡ all (is_path (sized self.now.grid.height self.now.grid.width)) (arrows_from problem.now.arrows 0 (take problem.now.count problem.now.ends)) }
+    {
+        let mut good = true;
+        let mut at = 0;
+        let ends = &problem.ends[..problem.count];
+        for &end in ends {
+            let end = usize::from(end);
+            if !self.follows(&problem.arrows[at..end]) {
+                good = false;
+            }
+            at = end;
+        }
+        good
+    }
 }
 
-// Whether H and W are 1 to 32.
-fn good_size(height: usize, width: usize) -> bool
-    ensures { result ≡ good_size (record { height = height; width = width }) }
+// The grid of a problem, if H and W are 1 to 32.
+#[tactic(auto, unfolding(crate::specs::Form::good_size, record::specs::Problem::grid_of))]
+fn good_grid(problem: &Problem) -> Option<Grid>
+    ensures some { IfSome result (λ grid. (good_size (grid_of problem.now) ≡ true) × (sized grid.height grid.width ≡ grid_of problem.now)) }
+    ensures none { IfNone result (good_size (grid_of problem.now) ≡ false) }
 {
-    if height == 0 {
-        return false;
+    let Problem { height, width, .. } = *problem;
+    if height == 0 || 32 < height || width == 0 || 32 < width {
+        return None;
     }
-    if 32 < height {
-        return false;
-    }
-    if width == 0 {
-        return false;
-    }
-    width <= 32
+    Some(Grid { height, width })
 }
 
-// Whether the arrows up to their last end, `total`, are those of a record. The ends are known to rise.
-fn good_arrows<'a>(
-    arrows: &'a [u16; 1024],
-    ends: &'a [u16; 1024],
-    n: usize,
-    w: usize,
-    count: usize,
-    total: usize,
-) -> bool
-    requires { (length arrows.now ≡ 1024) × (length ends.now ≡ 1024) × (n ≤ 1024) × (0 < w) × (w ≤ 32) × (count ≤ 1024)
-        × (rises 0 (take count ends.now) ≡ true) × (total ≡ last 0 (take count ends.now)) }
-    ensures { (g : Grid) → g.width ≡ w → size g ≡ n → result ≡ drawn g (take count ends.now) arrows.now }
+// Whether the arrows of a problem are those of a record on the grid. Their ends are known to rise.
+#[tactic(auto, using(crate::proofs::Verdicts::zeros_blank, crate::proofs::Verdicts::drawn_far, crate::proofs::Verdicts::drawn_twice, crate::proofs::Verdicts::drawn_broken, crate::proofs::Verdicts::drawn_is, crate::proofs::Verdicts::cut_of))]
+fn good_arrows(problem: &Problem, grid: Grid) -> bool
+    requires some { 0 < grid.width }
+    requires few { problem.now.count ≤ 1024 }
+    requires rising { rises 0 (take problem.now.count problem.now.ends) ≡ true }
+    ensures { result ≡ drawn (sized grid.height grid.width) (take problem.now.count problem.now.ends) problem.now.arrows }
 {
+    let total = problem.arrow_total();
     if 1024 < total {
         return false;
     }
-    let mut marks = [0u8; 1024];
-    if !mark(&mut marks, arrows, total, n) {
-        return false;
-    }
-    let mut starts = [0u8; 1024];
-    mark_rows(&mut starts, n, w);
-    if !all_follow(arrows, ends, &starts, w, count) {
-        return false;
-    }
-    zeros(arrows, total)
+    let mut marks = [0; 1024];
+    mark(&mut marks, &problem.arrows[..total], grid.size())
+        && Rows::new(grid).all_follow(problem)
+        && zeros(&problem.arrows, total)
 }
 
 // Whether a problem is that of an accepted record.
+#[tactic(auto, using(crate::proofs::Verdicts::problem_size, crate::proofs::Verdicts::problem_count, crate::proofs::Verdicts::problem_rise, crate::proofs::Verdicts::problem_drawn, crate::proofs::Verdicts::problem_codes, crate::proofs::Verdicts::problem_behind, crate::proofs::Verdicts::problem_is))]
 pub fn is_formed(problem: &Problem) -> bool
     ensures { result ≡ problem_formed problem.now }
 {
-    if !good_size(problem.height, problem.width) {
+    let Some(grid) = good_grid(problem) else {
         return false;
-    }
+    };
     if 1024 < problem.count {
         return false;
     }
-    let n = problem.height * problem.width;
-    let Some(total) = rising(&problem.ends, problem.count) else {
-        return false;
-    };
-    if !good_arrows(
-        &problem.arrows,
-        &problem.ends,
-        n,
-        problem.width,
-        problem.count,
-        total,
-    ) {
-        return false;
-    }
-    if !low_codes(&problem.cells, n) {
-        return false;
-    }
-    if !filled(&problem.cells, n, 0) {
-        return false;
-    }
-    zeros(&problem.ends, problem.count)
+    let n = grid.size();
+    rising(&problem.ends[..problem.count])
+        && good_arrows(problem, grid)
+        && low_codes(&problem.cells[..n])
+        && filled(&problem.cells, n, 0)
+        && zeros(&problem.ends, problem.count)
 }

@@ -10,7 +10,6 @@ use mathlib.Core.List.{List, Memᴰ}
 use lib.Arith.{digits_lt, digits_div, digits_mod}
 use lib.Dec.{eqb, ltb}
 use lib.IntN.{pos, negsuc, ◌-ℤ◌}
-use lib.Signed.{mag}
 use borrow.Author.Tests.{eqb-true, eq-eqb, ltb-true, ltb-false}
 use Rattle.std.specs.Prelude.{Option, Some, None}
 use Rattle.grid.specs.Lists.{any, member}
@@ -20,15 +19,6 @@ use Rattle.grid.proofs.ListLaws.{and-true, true-and, any-mem, mem-any, member-me
 use Rattle.grid.proofs.GridLaws.{width_pos, index}
 use Rattle.grid.proofs.SideLaws.{Reaches, moved_to, to_moved}
 use Rattle.grid.proofs.AppendLaws.{same_test}
-
--- the way from one small number to another is small
-pub way_small : (a b : ℕ) → a < 1024 → b < 1024 → mag (pos b -ℤ pos a) < 1024
-way_small zero b p q = omega arith
-way_small (suc a) b p q = go (ltb b (suc a)) refl
-  where
-    go : (t : Bool) → ltb b (suc a) ≡ t → mag (cond t (negsuc (suc a - suc b)) (pos (b - suc a))) < 1024
-    go true e = omega arith
-    go false e = omega arith
 
 -- r is on from a by the way from f to t
 way_to : (a f t r : ℕ) → Reaches a (pos t -ℤ pos f) r → r + f ≡ a + t

@@ -13,7 +13,6 @@ use lib.Arith.{digits_lt, digits_mod}
 use lib.Dec.{ltb}
 use lib.IntN.{ℤ, pos, negsuc}
 use lib.ListN.{get_or}
-use lib.Signed.{mag}
 use mir.Syntax.{w32}
 use mir.Val.{to_z, of_z}
 use borrow.Author.Tests.{lt-ltb, le-ltb, ltb-true, ltb-false, le-leb, lt-leb}
@@ -118,9 +117,6 @@ by_four P a b c d (suc zero) p = b
 by_four P a b c d (suc (suc zero)) p = c
 by_four P a b c d (suc (suc (suc zero))) p = d
 by_four P a b c d (suc (suc (suc (suc k)))) p = absurd (omega arith)
-
-pub offsets_small : (k : ℕ) → k < 4 → (mag (read k 0) < 1024) × (mag (read k 1) < 1024)
-offsets_small = by_four (λ k. (mag (read k 0) < 1024) × (mag (read k 1) < 1024)) (omega arith) (omega arith) (omega arith) (omega arith)
 
 module _ (h w : ℕ) where
   -- a shift by an offset leads to the neighbour in that direction

@@ -1,14 +1,14 @@
 -- A sum of a small number and a small signed one, as the code computes it, and where it leads.
 -- Assumes nothing.
-use Prim.Native.Nat.{ℕ, zero, suc, ◌+◌, ◌-◌, ◌^◌, ◌<◌, ◌≤◌}
+use Prim.Native.Nat.{ℕ, suc, ◌+◌, ◌-◌, ◌^◌, ◌<◌, ◌≤◌}
 use native.Mathlib.Omega.{arith}
 use mathlib.Core.Path.{◌≡◌, refl, sym, ap, ◌∙◌, subst}
 use mathlib.Core.Bool.{Bool, true, false}
-use lib.IntN.{ℤ, pos, negsuc, ◌+ℤ◌, ◌-ℤ◌, nat_abs}
-use lib.Signed.{mag, lt_z, non_neg}
-use lib.Dec.{T, ltb}
-use mir.Syntax.{w32, w64}
-use mir.Val.{Fits, SFits, to_z, of_z}
+use lib.IntN.{ℤ, pos, negsuc, ◌+ℤ◌, nat_abs}
+use lib.Signed.{mag, lt_z}
+use lib.Dec.{ltb}
+use mir.Syntax.{w32}
+use mir.Val.{SFits, to_z, of_z}
 use mir.ValLaws.{to_z_pos, to_z-of_z}
 use borrow.Author.Tests.{lt-ltb, le-ltb, ltb-true, ltb-false}
 use Rattle.std.specs.Prelude.{Some, None}
@@ -35,15 +35,6 @@ fits a d p q = subst (SFits w32) (sym (operands a d p q)) (sum_small a d p q)
 -- the result, read from its bits
 result : (a : ℕ) (d : ℤ) → a < 1024 → mag d < 1024 → to_z w32 (of_z w32 (to_z w32 a +ℤ to_z w32 (of_z w32 d))) ≡ pos a +ℤ d
 result a d p q = to_z-of_z w32 _ (fits a d p q) ∙ operands a d p q
-
-nat_abs_small : (z : ℤ) → SFits w32 z → nat_abs z < 2 ^ 64
-nat_abs_small (pos n) f = omega (arith, f.sfits)
-nat_abs_small (negsuc n) f = omega (arith, f.sfits)
-
--- a number that is not below 0
-pub not_negative : (z : ℤ) → lt_z z (pos 0) ≡ false → T (non_neg z)
-not_negative (pos n) e = tt
-not_negative (negsuc n) e = let z : ◌≡◌ {A = ℕ} 0 1 = cc in absurd (omega arith)
 
 -- where it leads
 no : {A : Type 0} (n : ℕ) → ltb n 0 ≡ true → A
@@ -83,9 +74,6 @@ module _ (a : ℕ) (d : ℤ) (p : a < 1024) (q : mag d < 1024) where
   abbrev code : ℤ
   code = to_z w32 (of_z w32 (to_z w32 a +ℤ to_z w32 (of_z w32 d)))
 
-  pub code_cast : lt_z code (pos 0) ≡ false → T (non_neg code) × Fits w64 (nat_abs code)
-  code_cast e = (not_negative code e, record { fits = nat_abs_small code (subst (SFits w32) (sym (result a d p q)) (sum_small a d p q)) })
-
   pub code_before : (l : ℕ) → lt_z code (pos 0) ≡ true → None ≡ moved_of a d l
   code_before l e = before a d l (subst (λ (z : ℤ). lt_z z (pos 0) ≡ true) (result a d p q) e)
 
@@ -96,20 +84,3 @@ module _ (a : ℕ) (d : ℤ) (p : a < 1024) (q : mag d < 1024) where
 
   pub code_past : (l : ℕ) → lt_z code (pos 0) ≡ false → l ≤ nat_abs code → None ≡ moved_of a d l
   code_past l e le = past a d l (subst (λ (z : ℤ). lt_z z (pos 0) ≡ false) (result a d p q) e) (subst (λ (z : ℤ). l ≤ nat_abs z) (result a d p q) le)
-
--- ---- the difference of two small numbers
-
-small_difference : (a b : ℕ) → a < 1024 → b < 1024 → SFits w32 (pos a -ℤ pos b)
-small_difference a zero p q = record { sfits = omega arith }
-small_difference a (suc b) p q = sum_small a (negsuc b) p (omega arith)
-
-difference : (a b : ℕ) → a < 1024 → b < 1024 → to_z w32 a -ℤ to_z w32 b ≡ pos a -ℤ pos b
-difference a b p q =
-    ap (λ (z : ℤ). z -ℤ to_z w32 b) (to_z_pos w32 a (omega arith))
-    ∙ ap (λ (z : ℤ). pos a -ℤ z) (to_z_pos w32 b (omega arith))
-
-pub difference_fits : (a b : ℕ) → a < 1024 → b < 1024 → SFits w32 (to_z w32 a -ℤ to_z w32 b)
-difference_fits a b p q = subst (SFits w32) (sym (difference a b p q)) (small_difference a b p q)
-
-pub difference_is : (a b : ℕ) → a < 1024 → b < 1024 → to_z w32 (of_z w32 (to_z w32 a -ℤ to_z w32 b)) ≡ pos a -ℤ pos b
-difference_is a b p q = to_z-of_z w32 _ (difference_fits a b p q) ∙ difference a b p q

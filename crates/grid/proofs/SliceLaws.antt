@@ -1,6 +1,6 @@
 -- Laws of the parts of a list, from one place to another.
 -- Assumes nothing.
-use Prim.Native.Nat.{ℕ, zero, suc, ◌+◌, ◌-◌, ◌≤◌, ◌<◌, max}
+use Prim.Native.Nat.{ℕ, zero, suc, ◌+◌, ◌-◌, ◌≤◌, ◌<◌}
 use native.Mathlib.Omega.{arith}
 use native.Mathlib.Numerals.{add-one}
 use native.Mathlib.Decide.{dec_le, dec_lt}
@@ -19,14 +19,6 @@ module _ (l : List ℕ) (f : ℕ) where
 
   pub slice_none : (t : ℕ) → t ≤ f → slice f t l ≡ []
   slice_none t h = drop_of_length-le (take t l) {i = f} (simp length-take (omega arith))
-
-  -- the whole part was passed
-  pub slice_all : (t k : ℕ) → f ≤ k → t ≤ k → k ≤ max f t → slice f k l ≡ slice f t l
-  slice_all t k h e m = go (dec_le t f)
-    where
-      go : Dec (t ≤ f) → slice f k l ≡ slice f t l
-      go (yes q) = let z : k ≡ f = omega arith in rw z (slice_none f (omega arith) ∙ sym (slice_none t q))
-      go (no q) = let z : k ≡ t = omega arith in rw z refl
 
   pub slice_short : (t : ℕ) → length (slice f t l) ≤ t - f
   slice_short t = simp (length-drop, length-take) (omega arith)

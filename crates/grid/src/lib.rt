@@ -35,6 +35,7 @@ pub fn pick(first: bool, a: u16, b: u16) -> u16
 }
 
 // The place `d` steps on, if it is not before the first and is below `limit`.
+#[tactic(auto, using(crate::proofs::Signed::code_before, crate::proofs::Signed::code_past, crate::proofs::Signed::code_reached))]
 fn moved(at: usize, d: i32, limit: usize) -> Option<usize>
     requires { (at < 1024) × (mag d < 1024) }
     ensures { result ≡ moved_of at d limit }
@@ -65,6 +66,7 @@ impl Grid {
     }
 
     // The cell that the one at row y, column x comes to by a signed row and column offset.
+    #[tactic(auto, using(crate::proofs::SideLaws::off_column, crate::proofs::SideLaws::off_row))]
     pub fn shifted(self, y: usize, x: usize, dy: i32, dx: i32) -> Option<usize>
         requires place { (y < self.height) × (x < self.width) }
         requires offsets { (mag dy < 1024) × (mag dx < 1024) }
@@ -77,6 +79,7 @@ impl Grid {
 
     // The neighbour in direction k of the cell at row y, column x. A pass over many cells is quickest by this: it divides
     // nothing and keeps nothing in memory.
+    #[tactic(auto, using(crate::proofs::SideLaws::leads))]
     pub fn toward(self, y: usize, x: usize, k: usize) -> Option<usize>
         requires place { (y < self.height) × (x < self.width) }
         requires direction { k < 4 }

@@ -224,34 +224,9 @@ flood_ends fits e F seed = record {
   seed = λ _. seed;
 }
 
--- a cell that has a label, or is to have none, leaves all as it is
-pub Walked-none : {g : Grid} {p : ℕ → Bool} {s : ℕ} {L : List ℕ} → s < 1024 → (get_or L s 0 ≡ unlabelled → ⊥) → Walked g p s s L L
-Walked-none small labelled = record {
-  added = record {
-    long = refl;
-    kept = λ j. same refl;
-    done = λ j u v. absurd (omega (arith, u, v));
-  };
-  seed = λ _. labelled;
-}
-
 -- the cells are told one after the other
 pub Marked-none : (p : ℕ → Bool) → Marked p 0 (replicate 1024 no_group)
 Marked-none p = record { long = length-replicate {A = ℕ} 1024 no_group; below = λ j h. absurd (omega (arith, h)); behind = λ j l h. get_or-replicate {A = ℕ} 1024 j no_group 0 h }
-
-pub Marked-more : {p : ℕ → Bool} {i v : ℕ} {L : List ℕ} → i < 1024 → v ≡ cond (p i) unlabelled no_group → Marked p i L → Marked p (i + 1) (set L i v)
-Marked-more {p} {i} {v} {L} h e T = record { long = length-set L i v ∙ T.long; below = λ j b. below' j b (entry j); behind = λ j b l. behind' j b l (entry j) }
-  where
-    entry : (j : ℕ) → Entry L i v j
-    entry j = Entry-at L i v j (omega (arith, T.long))
-
-    below' : (j : ℕ) → j < i + 1 → Entry L i v j → get_or (set L i v) j 0 ≡ cond (p j) unlabelled no_group
-    below' j b (hit q x) = x ∙ e ∙ ap (λ (m : ℕ). cond (p m) unlabelled no_group) (sym q)
-    below' j b (miss ne x) = x ∙ T.below j (omega (arith, ne))
-
-    behind' : (j : ℕ) → i + 1 ≤ j → j < 1024 → Entry L i v j → get_or (set L i v) j 0 ≡ no_group
-    behind' j b l (hit q x) = absurd (omega (arith, q))
-    behind' j b l (miss ne x) = x ∙ T.behind j (omega arith) l
 
 -- before the first flood, and after the last. L₀ are the labels before the first, and only cells of the grid pass
 module _ (g : Grid) {p : ℕ → Bool} {L₀ : List ℕ} (fits : size g ≤ 1024) (on : (j : ℕ) → So (p j) → j < size g) (T : Marked p (size g) L₀) where

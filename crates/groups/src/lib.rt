@@ -127,6 +127,7 @@ impl Groups {
 
     // Labels the group of cell s with s, unless s is in no group or has a label, and counts its squares and its arrow cells as they leave the stack. The
     // counts are written at s: 0 where s is not the first cell of a group.
+    #[tactic(auto, using(crate::proofs::CountLaws::labelled_none, crate::proofs::FloodLaws::flood_ends, grid::proofs::SideLaws::area), unfolding(grid::specs::Grid::size))]
     fn flood(
         &mut self,
         grid: Grid,

@@ -3,13 +3,10 @@
 use Rattle.std.specs.Prelude.{ℕ, ◌+◌, ◌*◌, ◌≤◌, ◌<◌, Bool, false, not, ◌≡◌, List, [], ◌∷◌, ◌++◌, map, length, take, drop, get_or, eqb, replicate, Option, Some, None}
 use Rattle.grid.specs.Lists.{upto, filter}
 use Rattle.grid.specs.Grid.{Grid}
-use Rattle.grid.specs.Side.{sized}
 use Rattle.grid.specs.Cells.{word, potential, square}
 use Rattle.groups.specs.Arrays.{label_array, tally_of}
-use Rattle.kinds.specs.Kinds.{View, view, reach, fence}
+use Rattle.kinds.specs.Kinds.{View, reach, fence}
 use Rattle.kinds.specs.Arrays.{reach_mask}
-use Rattle.kinds.specs.Inside.{puzzle_with}
-use Rattle.kinds.specs.declared.BoardInfo.{BoardInfo}
 use Rattle.groups.specs.declared.Groups.{Groups}
 use Rattle.replay.specs.Lists.{number_at, byte_in, number_in, differs}
 use Rattle.replay.specs.Comparisons.{Compared}
@@ -32,13 +29,9 @@ left v f = map word (fence v f) ++ drop (length (fence v f)) (replicate 4096 655
 abbrev pub BlockSo : View → ℕ → List ℕ → ℕ → ℕ → ℕ → ℕ → Type 0
 BlockSo v f list at n place count = ReachSo list at n (length (reach v f)) (reach_mask v f) × FenceSo list place count (length (fence v f)) (left v f)
 
--- the view of a board with these arrows, by what is known of its cells
-abbrev pub view_by : BoardInfo → List (List ℕ) → View
-view_by info arrows = view (puzzle_with (sized info.grid.height info.grid.width) arrows) (take (info.grid.height * info.grid.width) info.cells.now)
-
 -- where the number of the literals of a block's fence stands in a list: behind the block's name, the size of its reach and the n marks of that
 abbrev pub fence_at : ℕ → ℕ → ℕ
-fence_at at n = at + 4 + n
+fence_at at n = at + (4 + n)
 
 -- where the block at a place ends: behind those literals
 abbrev pub block_end : List ℕ → ℕ → ℕ → ℕ

@@ -19,6 +19,7 @@ ghost use Rattle.record.specs.Problem.{puzzle_of};
 ghost use Rattle.groups.specs.Arrows.{on_arrow};
 ghost use Rattle.groups.specs.Arrays.{Names, mask_of};
 ghost use Rattle.kinds.specs.Inside.{puzzle_with, Given};
+ghost use Rattle.kinds.specs.Board.{cell_count};
 ghost use Rattle.board.specs.Form.{well_formed};
 ghost use Rattle.board.specs.Kept.{cells_on};
 ghost use Rattle.board.specs.Decide.{area};
@@ -27,116 +28,112 @@ ghost use Rattle.groups_replay.specs.Blocks.{KindsSo, GroupsSo, PotentialSo, arr
 ghost use Rattle.groups_replay.specs.Entries.{KindsRun, ArrowsRun, BoardRun, board_end, RecordRun, EntrySo};
 
 use board::Board;
-use grid::Grid;
 use groups::{Groups, Members};
 use kinds::BoardInfo;
 use replay::{Cursor, Entries, Run};
-use rounds::Rounds;
+use rounds::{Marked, Rounds};
 use std::io;
 
-// Whether groups differ from those that the list has at `at`, with a name for each of n cells and the two counts of each name.
-fn groups_differ(list: &[u8], at: usize, n: usize, groups: &Groups) -> bool
-    requires place { at + 6 * n ≤ length list.now }
+// Whether groups differ from those that the list has at the cursor, with a name for each of n cells and the two counts of each name.
+fn groups_differ(names: Cursor<'_>, n: usize, groups: &Groups) -> bool
+    requires place { names.at + 6 * n ≤ length names.list.now }
     requires cells { n ≤ 1024 }
-    ensures { DiffersUnless result (GroupsSo list.now at n groups.now.labels (take n groups.now.squares) (take n groups.now.arrowed)) }
+    ensures { DiffersUnless result (GroupsSo names.entry.list.now names.entry.at n groups.now.labels (take n groups.now.squares) (take n groups.now.arrowed)) }
 {
-    replay::names_differ(list, at, n, &groups.labels)
-        || replay::numbers_differ(list, at + 2 * n, n, &groups.squares[..n], 0)
-        || replay::numbers_differ(list, at + 4 * n, n, &groups.arrowed[..n], 0)
+    let Cursor { list, at } = names;
+    let squares = Cursor {
+        list,
+        at: at + 2 * n,
+    };
+    let arrowed = Cursor {
+        list,
+        at: at + 4 * n,
+    };
+    names.names_differ(n, &groups.labels)
+        || squares.numbers_differ(n, &groups.squares[..n], 0)
+        || arrowed.numbers_differ(n, &groups.arrowed[..n], 0)
 }
 
-// Whether the potential groups differ from those that the list has at `at`. A list that says no rounds differs: nothing would be computed.
-fn potential_groups_differ(
-    list: &[u8],
-    rounds: Rounds,
-    at: usize,
-    grid: Grid,
-    cells: &[u8; 1024],
-    onarrow: &[u8; 1024],
-) -> bool
-    requires place { at + 6 * (grid.height * grid.width) ≤ length list.now }
-    ensures { let g = sized grid.height grid.width in let n = grid.height * grid.width in
-        (arrows : List (List ℕ)) → onarrow.now ≡ mask_of g (on_arrow arrows)
-        → DiffersUnless result (PotentialSo rounds.labels rounds.kinds g (take n cells.now) (on_arrow arrows) list.now at n) }
+// Whether the potential groups differ from those that the list has at the cursor. A list that says no rounds differs: nothing would be computed.
+fn potential_groups_differ(cursor: Cursor<'_>, rounds: Rounds, board: &Marked<'_>) -> bool
+    requires place { cursor.at + 6 * (board.now.grid.height * board.now.grid.width) ≤ length cursor.list.now }
+    ensures { let g = sized board.now.grid.height board.now.grid.width in let n = board.now.grid.height * board.now.grid.width in
+        (arrows : List (List ℕ)) → board.now.onarrow.now ≡ mask_of g (on_arrow arrows)
+        → DiffersUnless result (PotentialSo rounds.labels rounds.kinds g (take n board.now.cells.now) (on_arrow arrows) cursor.entry.list.now cursor.entry.at n) }
 {
     if rounds.labels == 0 || rounds.kinds == 0 {
         return true;
     }
-    let mut groups = Groups::new();
-    rounds.label(grid, cells, onarrow, Members::Potential, &mut groups);
-    groups_differ(list, at, grid.size(), &groups)
+    let groups = rounds.label(board, Members::Potential);
+    groups_differ(cursor, board.grid.size(), &groups)
 }
 
-// Whether the kinds or the owners differ from those that the list has at `at`.
-fn kinds_differ(list: &[u8], at: usize, info: &BoardInfo<'_>) -> bool
-    requires place { at + 3 * (info.now.grid.height * info.now.grid.width) ≤ length list.now }
-    ensures { DiffersUnless result (KindsSo list.now at (info.now.grid.height * info.now.grid.width) info.now.kinds.now info.now.owners.now) }
+// Whether the kinds or the owners differ from those that the list has at the cursor.
+fn kinds_differ(kinds: Cursor<'_>, info: &BoardInfo<'_>) -> bool
+    requires place { kinds.at + 3 * cell_count info.now ≤ length kinds.list.now }
+    ensures { DiffersUnless result (KindsSo kinds.entry.list.now kinds.entry.at (cell_count info.now) info.now.kinds.now info.now.owners.now) }
 {
     let n = info.grid.size();
-    replay::cells_differ(list, at, n, info.kinds, 0)
-        || replay::names_differ(list, at + n, n, info.owners)
+    let Cursor { list, at } = kinds;
+    let owners = Cursor { list, at: at + n };
+    kinds.cells_differ(n, info.kinds, 0) || owners.names_differ(n, info.owners)
 }
 
-// Computes kinds and owners, and compares them and the arrow blocks with those that the list has at `at`.
-fn run_kinds(
-    list: &[u8],
-    rounds: Rounds,
-    at: usize,
-    grid: Grid,
-    cells: &[u8; 1024],
-    blocks: &Groups,
-) -> Run
-    requires place { at + 3 * (grid.height * grid.width) + 2 ≤ length list.now }
+// Computes kinds and owners, and compares them and the arrow blocks with those that the list has at the cursor.
+fn run_kinds(cursor: Cursor<'_>, rounds: Rounds, board: &Marked<'_>, blocks: &Groups) -> Run
+    requires place { cursor.at + 3 * (board.now.grid.height * board.now.grid.width) + 2 ≤ length cursor.list.now }
     requires names { Names blocks.now.firsts blocks.now.count }
-    ensures { let n = grid.height * grid.width in
-        (arrows : List (List ℕ)) → 0 < rounds.kinds → let p = puzzle_with (sized grid.height grid.width) arrows in
-        Given p (take n cells.now) blocks.now.labels blocks.now.arrowed
-        → KindsRun p (take n cells.now) n (arrowed_names blocks.now) list.now at result }
+    ensures { let n = board.now.grid.height * board.now.grid.width in
+        (arrows : List (List ℕ)) → 0 < rounds.kinds → let p = puzzle_with (sized board.now.grid.height board.now.grid.width) arrows in
+        Given p (take n board.now.cells.now) blocks.now.labels blocks.now.arrowed
+        → KindsRun p (take n board.now.cells.now) n (arrowed_names blocks.now) cursor.entry.list.now cursor.entry.at result }
 {
     let mut kinds = [0; 1024];
     let mut owners = [0; 1024];
-    rounds.compute_kinds(grid, cells, blocks, &mut kinds, &mut owners);
+    rounds.compute_kinds(board, blocks, &mut kinds, &mut owners);
     let info = BoardInfo {
-        grid,
-        cells,
+        grid: board.grid,
+        cells: board.cells,
         kinds: &kinds,
         owners: &owners,
     };
-    let differs = kinds_differ(list, at, &info);
-    blocks::run_blocks(list, at + 3 * grid.size(), &info, blocks).also(differs)
+    let differs = kinds_differ(cursor, &info);
+    let Cursor { list, at } = cursor;
+    let behind = Cursor {
+        list,
+        at: at + 3 * info.grid.size(),
+    };
+    blocks::run_blocks(behind, &info, blocks).also(differs)
 }
 
-// Computes the blocks, and compares them, the kinds and the arrow blocks with those that the list has at `at`.
-fn run_arrows(
-    list: &[u8],
-    rounds: Rounds,
-    at: usize,
-    grid: Grid,
-    cells: &[u8; 1024],
-    onarrow: &[u8; 1024],
-) -> Run
-    requires place { at + 9 * (grid.height * grid.width) + 2 ≤ length list.now }
-    ensures { let g = sized grid.height grid.width in let n = grid.height * grid.width in
-        (arrows : List (List ℕ)) → onarrow.now ≡ mask_of g (on_arrow arrows) → 0 < rounds.labels → 0 < rounds.kinds
-        → ArrowsRun (puzzle_with g arrows) (take n cells.now) n list.now at result }
+// Computes the blocks, and compares them, the kinds and the arrow blocks with those that the list has at the cursor.
+fn run_arrows(cursor: Cursor<'_>, rounds: Rounds, board: &Marked<'_>) -> Run
+    requires place { cursor.at + 9 * (board.now.grid.height * board.now.grid.width) + 2 ≤ length cursor.list.now }
+    ensures { let g = sized board.now.grid.height board.now.grid.width in let n = board.now.grid.height * board.now.grid.width in
+        (arrows : List (List ℕ)) → board.now.onarrow.now ≡ mask_of g (on_arrow arrows) → 0 < rounds.labels → 0 < rounds.kinds
+        → ArrowsRun (puzzle_with g arrows) (take n board.now.cells.now) n cursor.entry.list.now cursor.entry.at result }
 {
-    let n = grid.size();
-    let mut blocks = Groups::new();
-    rounds.label(grid, cells, onarrow, Members::Squares, &mut blocks);
-    let differs = groups_differ(list, at, n, &blocks);
-    run_kinds(list, rounds, at + 6 * n, grid, cells, &blocks).also(differs)
+    let n = board.grid.size();
+    let blocks = rounds.label(board, Members::Squares);
+    let differs = groups_differ(cursor, n, &blocks);
+    let Cursor { list, at } = cursor;
+    let behind = Cursor {
+        list,
+        at: at + 6 * n,
+    };
+    run_kinds(behind, rounds, board, &blocks).also(differs)
 }
 
-// Computes the groups and kinds of a board, and compares them with those that the list has at `at`; none where the list ends before them.
-fn run_board(list: &[u8], rounds: Rounds, at: usize, board: &Board) -> Option<Run>
-    requires place { at ≤ length list.now }
-    ensures { let n = area board.now in
-        MatchOption result (well_formed board.now ≡ true → length list.now < board_end n at)
-        (λ run. (board_end n at ≤ length list.now) × BoardRun rounds (puzzle_of board.now.problem) (cells_on board.now) n list.now at run) }
+// Computes the groups and kinds of a board, and compares them with those that the list has at the cursor; none where the list ends before them.
+fn run_board(cursor: Cursor<'_>, rounds: Rounds, board: &Board) -> Option<Run>
+    ensures { let list = cursor.entry.list.now in let at = cursor.entry.at in let n = area board.now in
+        MatchOption result (well_formed board.now ≡ true → length list < board_end n at)
+        (λ run. (board_end n at ≤ length list) × BoardRun rounds (puzzle_of board.now.problem) (cells_on board.now) n list at run) }
 {
     let leaf = board.leaf().ok()?;
     let grid = leaf.grid();
     let n = grid.size();
+    let Cursor { list, at } = cursor;
     if list.len() < at + 15 * n + 2 {
         return None;
     }
@@ -146,27 +143,29 @@ fn run_board(list: &[u8], rounds: Rounds, at: usize, board: &Board) -> Option<Ru
         leaf.problem.arrow_total(),
         &mut onarrow,
     );
-    let differs = potential_groups_differ(list, rounds, at, grid, &board.cells, &onarrow);
-    let found = run_arrows(list, rounds, at + 6 * n, grid, &board.cells, &onarrow);
+    let marked = Marked {
+        grid,
+        cells: &board.cells,
+        onarrow: &onarrow,
+    };
+    let differs = potential_groups_differ(cursor, rounds, &marked);
+    let behind = Cursor {
+        list,
+        at: at + 6 * n,
+    };
+    let found = run_arrows(behind, rounds, &marked);
     Some(found.also(differs))
 }
 
-// Opens the record, adds the decisions and compares the board with what the list has at `at`.
-fn run_record(
-    list: &[u8],
-    rounds: Rounds,
-    record: &[u8],
-    decisions: &[u8],
-    at: usize,
-) -> Option<Run>
-    requires place { at ≤ length list.now }
-    ensures { RecordRun rounds «record».now decisions.now list.now at result }
+// Opens the record, adds the decisions and compares the board with what the list has at the cursor.
+fn run_record(cursor: Cursor<'_>, rounds: Rounds, record: &[u8], decisions: &[u8]) -> Option<Run>
+    ensures { RecordRun rounds «record».now decisions.now cursor.entry.list.now cursor.entry.at result }
 {
     let board = Board::open(record, 1, &[])
         .ok()?
         .decide_all(decisions)
         .ok()?;
-    run_board(list, rounds, at, &board)
+    run_board(cursor, rounds, &board)
 }
 
 impl Entries for Rounds {
@@ -183,13 +182,12 @@ impl Entries for Rounds {
         }
     }
 
-    fn run(&self, list: &[u8], at: usize) -> Option<Run> {
-        let mut cursor = Cursor { list, at };
+    fn run(&self, mut cursor: Cursor<'_>) -> Option<Run> {
         let bytes = cursor.counted()?;
         let count = cursor.number()?;
         let decisions = cursor.take(2 * count)?;
         let rounds = *self;
-        run_record(list, rounds, bytes, decisions, cursor.at)
+        run_record(cursor, rounds, bytes, decisions)
     }
 }
 

@@ -9,6 +9,14 @@ ghost use Rattle.kinds.specs.Inside.{puzzle_with, Given, Held};
 use grid::Grid;
 use groups::{Groups, Members};
 
+// What the groups and the kinds of a board are computed of: its grid, the state of each cell, and a mark of each that is on an arrow.
+#[derive(Clone, Copy)]
+pub struct Marked<'a> {
+    pub grid: Grid,
+    pub cells: &'a [u8; 1024],
+    pub onarrow: &'a [u8; 1024],
+}
+
 // How often groups and kinds are computed.
 #[derive(Clone, Copy)]
 pub struct Rounds {
@@ -20,42 +28,35 @@ pub struct Rounds {
 
 impl Rounds {
     // Computes the blocks or the potential groups so many times, each time in the same arrays.
-    pub fn label(
-        self,
-        grid: Grid,
-        cells: &[u8; 1024],
-        onarrow: &[u8; 1024],
-        members: Members,
-        groups: &mut Groups,
-    )
-        requires names { Names groups.old.firsts groups.old.count }
-        ensures names { Names groups.new.firsts groups.new.count }
-        ensures computed { 0 < self.labels → GroupTable (sized grid.height grid.width) (counts members (take (grid.height * grid.width) cells.now))
-            (square (take (grid.height * grid.width) cells.now)) (marked onarrow.now)
-            groups.new.labels groups.new.firsts groups.new.squares groups.new.arrowed groups.new.count }
+    pub fn label(self, board: &Marked<'_>, members: Members) -> Groups
+        ensures names { Names result.firsts result.count }
+        ensures computed { let n = board.now.grid.height * board.now.grid.width in 0 < self.labels
+            → GroupTable (sized board.now.grid.height board.now.grid.width) (counts members (take n board.now.cells.now)) (square (take n board.now.cells.now))
+            (marked board.now.onarrow.now) result.labels result.firsts result.squares result.arrowed result.count }
     {
+        let mut groups = Groups::new();
         for _i in 0..self.labels {
-            groups.compute_connected_components(grid, cells, onarrow, members);
+            groups.compute_connected_components(board.grid, board.cells, board.onarrow, members);
         }
+        groups
     }
 
     // Computes kinds and owners so many times, each time in the same arrays.
     pub fn compute_kinds(
         self,
-        grid: Grid,
-        cells: &[u8; 1024],
+        board: &Marked<'_>,
         blocks: &Groups,
         kinds: &mut [u8; 1024],
         owners: &mut [u16; 1024],
     )
-        ensures { 0 < self.kinds → (arrows : List (List ℕ))
-            → Given (puzzle_with (sized grid.height grid.width) arrows) (take (grid.height * grid.width) cells.now) blocks.now.labels blocks.now.arrowed
-            → Held (view (puzzle_with (sized grid.height grid.width) arrows) (take (grid.height * grid.width) cells.now)) kinds.new owners.new }
+        ensures { let n = board.now.grid.height * board.now.grid.width in 0 < self.kinds → (arrows : List (List ℕ))
+            → let p = puzzle_with (sized board.now.grid.height board.now.grid.width) arrows in
+            Given p (take n board.now.cells.now) blocks.now.labels blocks.now.arrowed → Held (view p (take n board.now.cells.now)) kinds.new owners.new }
     {
         for _i in 0..self.kinds {
             *kinds = [0; 1024];
             *owners = [1024; 1024];
-            kinds::compute_board_info_detailed(grid, cells, blocks, kinds, owners);
+            kinds::compute_board_info_detailed(board.grid, board.cells, blocks, kinds, owners);
         }
     }
 }

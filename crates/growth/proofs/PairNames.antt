@@ -106,7 +106,7 @@ module _ {h w : ℕ} {lines : List (List ℕ)} {cells arrows kinds owners : List
         rw s.held.owner
         (owner_is (puzzle_with (sized h w) lines) (take (h * w) cells) (get_or arrows k 0) (s.inside k p q) (square_taken cells (h * w) (get_or arrows k 0) (s.inside k p q) ∙ sq) (s.are_on_arrow k p q))
 
-    pub scene_name : get_or owners (get_or arrows k 0) 0 < h * w
+    scene_name : get_or owners (get_or arrows k 0) 0 < h * w
     unfolding size
     scene_name =
         rw scene_owner

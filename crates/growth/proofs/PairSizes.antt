@@ -8,22 +8,19 @@ use lib.ListN.{length, length-append}
 use Rattle.grid.specs.Grid.{size, cells_of}
 use Rattle.grid.proofs.ListLaws.{filter-length}
 use Rattle.grid.proofs.GridLaws.{cells_length}
-use Rattle.kinds.specs.Kinds.{view, view_with, block, in_reach, reach, fence}
+use Rattle.kinds.specs.Kinds.{view, view_with, in_reach, reach, fence}
 use Rattle.growth.specs.Pairs.{view_on}
 use Rattle.growth.specs.Growth.{cell_fence}
 use Rattle.literals.proofs.Pass.{each-length}
-use Rattle.kinds.proofs.Lengths.{block-length, fence-length}
+use Rattle.kinds.proofs.Lengths.{fence-length}
 
 module _ (h w : ℕ) (lines : List (List ℕ)) (cells : List ℕ) where
   pub view_size : h * w ≡ size (view_on h w lines cells).grid
   unfolding view view_with size
   view_size = refl
 
-  -- a block, a fence and a reach
-  pub block_few : (f : ℕ) → length (block (view_on h w lines cells) f) ≤ h * w
-  block_few f = omega (arith, block-length (view_on h w lines cells) f, view_size)
-
-  pub fence_few : (f : ℕ) → length (fence (view_on h w lines cells) f) ≤ h * w
+  -- a fence and a reach
+  fence_few : (f : ℕ) → length (fence (view_on h w lines cells) f) ≤ h * w
   fence_few f = omega (arith, fence-length (view_on h w lines cells) f, view_size)
 
   pub reach_few : (f : ℕ) → length (reach (view_on h w lines cells) f) ≤ h * w

@@ -1,3 +1,4 @@
 pub mod Growth
 pub mod Gap
 pub mod Pairs
+pub mod Scenes

@@ -1,12 +1,14 @@
 -- The search along the arrows for reasons 3 and 4, on arrays.
 -- Assumes nothing.
-use Rattle.std.specs.Prelude.{ℕ, ◌+◌, ◌*◌, ◌≤◌, ◌<◌, ◌≡◌, true, false, List, get_or, take}
+use Rattle.std.specs.Prelude.{ℕ, ◌+◌, ◌*◌, ◌≤◌, ◌<◌, ◌≡◌, true, false, List, length, get_or, take}
 use Rattle.std.proofs.Math.Seq.{slice}
 use Rattle.grid.specs.Side.{sized}
 use Rattle.grid.specs.Cells.{square}
 use Rattle.groups.specs.Arrows.{on_arrow, Pair}
 use Rattle.groups.specs.Arrays.{CellArray, lines_of, Drawn}
 use Rattle.kinds.specs.Kinds.{View, view}
+use Rattle.kinds.specs.declared.BoardInfo.{BoardInfo}
+use Rattle.kinds.specs.Board.{cell_count}
 use Rattle.reach.specs.Near.{SquaresOf}
 use Rattle.kinds.specs.Inside.{puzzle_with, Held}
 
@@ -37,9 +39,21 @@ pub record Shown (h w : ℕ) (cells kinds owners : List ℕ) : Type 0 where
   pub lines : List (List ℕ)
   pub held : Held (view_on h w lines cells) kinds owners
 
+-- the same of a board that is lent
+abbrev pub IsShown : BoardInfo → Type 0
+IsShown info = Shown info.grid.height info.grid.width info.cells.now info.kinds.now info.owners.now
+
+-- there is room for any reason on the board
+abbrev pub HasRoom : BoardInfo → List ℕ → Type 0
+HasRoom info buffer = 3 * cell_count info + 1 ≤ length buffer
+
 -- the size of each arrow block, at its name
 abbrev pub Blocks : List ℕ → List ℕ → ℕ → List ℕ → Type 0
 Blocks kinds owners n squares = (f : ℕ) → f < 1024 → get_or kinds f 0 ≡ 1 → SquaresOf kinds owners n squares f
+
+-- the same of a board that is lent
+abbrev pub BlockSizes : BoardInfo → List ℕ → Type 0
+BlockSizes info = Blocks info.kinds.now info.owners.now (cell_count info)
 
 -- the kinds are those of some board, and the places from `from` up to `to` hold arrow cells of it
 pub record Line (h w : ℕ) (cells arrows kinds owners : List ℕ) (from to : ℕ) : Type 0 where

@@ -23,9 +23,9 @@ use Rattle.growth.specs.Growth.{most_apart, block_name, reason_grow, reason3_at,
 use Rattle.sized.specs.Sized.{reason5}
 use Rattle.reasons.specs.Reasons.{find_reason, find_on}
 use Rattle.finished.specs.Finished.{keeps, keeps_all, two_squares, all_but_rules, finished_test}
-use Rattle.call.specs.Call.{accept_or, decide_bytes}
-use Rattle.host_find.specs.Host.{host_finds}
-use Rattle.host_finished.specs.Judged.{host_finished}
+use Rattle.calls.specs.Call.{accept_or, decide_bytes}
+use Rattle.calls.specs.Found.{host_finds}
+use Rattle.calls.specs.Judged.{host_finished}
 
 -- open a record, decide in order, find
 abbrev pub find_after : List ℕ → List Call → Outcome Found

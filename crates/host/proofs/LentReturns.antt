@@ -32,7 +32,7 @@ use Rattle.certain.specs.Tree.{search_of}
 use Rattle.certain.specs.Facts.{Facts}
 use Rattle.certain.specs.Facts as certainties
 use Rattle.certain.specs.Facts.{untold, certain_by, certain_of}
-use Rattle.host_certain.specs.Told.{Said, said_of, said_number}
+use Rattle.calls.specs.Told.{Said, said_of, said_number}
 use Rattle.host_board.specs.Lent.{answer_number, finding_number, verdict_number, board_certain, hints_of, count_number}
 use Rattle.host_board.proofs.LentLaws.{literals_few}
 use Rattle.host.specs.Returns.{faults, Possible, refusal_of, value_of, Within, negated_number, number_within}

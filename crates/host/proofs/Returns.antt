@@ -45,16 +45,16 @@ use Rattle.file.proofs.TailLaws.{solution_length}
 use Rattle.exported.specs.Written.{bytes_of}
 use Rattle.exported.proofs.BytesLaws.{bytes_length}
 use Rattle.sizes.specs.Bytes.{numbers_in, sizes_in}
-use Rattle.call.specs.Call.{accept_or, decide_bytes, call_on, host_call, leaf_from, host_call_with}
-use Rattle.call.proofs.Opened.{from_opened, from_valid}
-use Rattle.call.proofs.Steps.{first_leaf}
+use Rattle.calls.specs.Call.{accept_or, decide_bytes, call_on, host_call, leaf_from, host_call_with}
+use Rattle.calls.proofs.Opened.{from_opened, from_valid}
+use Rattle.calls.proofs.Steps.{first_leaf}
 use Rattle.certificate.specs.Certificate.{words_of, whole_words, claimed, headed}
 use Rattle.unique.specs.Unique.{steps_of, solution_or, host_unique}
 use Rattle.unique.proofs.StepLaws.{Refusal, steps_Refusal}
-use Rattle.host_find.specs.Host.{host_finds, host_finds_with, returned}
-use Rattle.host_finished.specs.Judged.{host_finished, host_finished_with}
-use Rattle.host_shades.specs.Shaded.{host_shades}
-use Rattle.host_certain.specs.Told.{certainty_number, Said, said_of, certain_on, host_certain, host_certain_with}
+use Rattle.calls.specs.Found.{host_finds, host_finds_with, returned}
+use Rattle.calls.specs.Judged.{host_finished, host_finished_with}
+use Rattle.calls.specs.Shaded.{host_shades}
+use Rattle.calls.specs.Told.{certainty_number, Said, said_of, certain_on, host_certain, host_certain_with}
 use Rattle.host.specs.Returns.{faults, refusals, host_refusals, with_refusals, unique_refusals, Returns, negated_refusal, literal_count, Possible, refusal_of, value_of, FoundOn, no_reason, some_reason, FoundWith}
 
 -- ---- an outcome step by step

@@ -11,8 +11,8 @@ use Rattle.board.specs.Board.{value_at, cells_after, decided, after, refusal}
 use Rattle.groups.specs.Groups.{rename, join, join_all, edges, labels, group}
 use Rattle.shades.specs.Shades.{block_first, block_count, shade_of, shades_on}
 use Rattle.exported.specs.Written.{bytes_of}
-use Rattle.call.specs.Call.{accept_or, decide_bytes}
-use Rattle.host_shades.specs.Shaded.{host_shades}
+use Rattle.calls.specs.Call.{accept_or, decide_bytes}
+use Rattle.calls.specs.Shaded.{host_shades}
 use Rattle.host.proofs.Leaves.{S}
 
 -- two rows of two cells, no arrow

@@ -24,8 +24,8 @@ use Rattle.finished.specs.Finished.{keeps, keeps_all, two_squares, all_but_rules
 use Rattle.certain.specs.Tree.{lowest, Reached, counted, both, stepped, search_in, search_of}
 use Rattle.certain.specs.Facts.{seen, fact_of, facts_in, certainty, untold, known, certain_by}
 use Rattle.exported.specs.Written.{bytes_of}
-use Rattle.call.specs.Call.{accept_or, decide_bytes}
-use Rattle.host_certain.specs.Told.{certainty_number, step_bytes, certain_bytes, Said, said_of, host_certain}
+use Rattle.calls.specs.Call.{accept_or, decide_bytes}
+use Rattle.calls.specs.Told.{certainty_number, step_bytes, certain_bytes, Said, said_of, host_certain}
 use Rattle.host.proofs.Leaves.{S, pair_t}
 
 -- two rows of three cells, one arrow along the first row

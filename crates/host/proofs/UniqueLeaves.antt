@@ -23,7 +23,7 @@ use Rattle.sized.specs.Sized.{reason_low, reason_high, reason5_at, reason5}
 use Rattle.reasons.specs.Reasons.{find_reason}
 use Rattle.finished.specs.Finished.{keeps, keeps_all, two_squares, all_but_rules, finished_test}
 use Rattle.sizes.specs.Bytes.{numbers_in, sizes_in}
-use Rattle.call.specs.Call.{leaf_from}
+use Rattle.calls.specs.Call.{leaf_from}
 use Rattle.certificate.specs.Certificate.{tag, word_at, words_of, whole_words, literal, whole, earlier, look_step, look_from, hint_of, assume_from, follow_from, hints_from, step_from, head_word, head_at, claimed, headed}
 use Rattle.unique.specs.Unique.{base_cell, base_of, two_open, lonely, has_reason, refuted, close_of, step_of, steps_from, solution_or, host_unique, unique_returned}
 use Rattle.host.proofs.ToldLeaves.{grid23}

@@ -7,11 +7,11 @@ ghost use Rattle.clauses.specs.Clauses.{sheet_for};
 ghost use Rattle.turn.specs.Turn.{turn_record};
 ghost use Rattle.join.specs.Join.{join_record};
 ghost use Rattle.file.specs.Call.{player_given, setter_given, given_length, given_bytes};
-ghost use Rattle.host_find.specs.Host.{host_finds, host_finds_with, returned, output_after};
-ghost use Rattle.host_finished.specs.Judged.{host_finished, host_finished_with, judged};
-ghost use Rattle.host_shades.specs.Shaded.{host_shades};
+ghost use Rattle.calls.specs.Found.{host_finds, host_finds_with, returned, output_after};
+ghost use Rattle.calls.specs.Judged.{host_finished, host_finished_with, judged};
+ghost use Rattle.calls.specs.Shaded.{host_shades};
 ghost use Rattle.unique.specs.Unique.{host_unique, unique_returned};
-ghost use Rattle.host_certain.specs.Told.{host_certain, host_certain_with, said_number, said_bytes};
+ghost use Rattle.calls.specs.Told.{host_certain, host_certain_with, said_number, said_bytes};
 ghost use Rattle.board.specs.Kept.{open_of};
 ghost use Rattle.board.specs.Decide.{decide_of, undo_of};
 ghost use Rattle.board.specs.Hints.{after_find};
@@ -27,7 +27,7 @@ pub fn evolmino_find(record: &[u8], decisions: &[u8], output: &mut [u8]) -> i32
     ensures { (result ≡ returned (host_finds «record».now decisions.now (length output.old)))
         × (output.new ≡ output_after (host_finds «record».now decisions.now (length output.old)) output.old) }
 {
-    host_find::find(record, decisions, output)
+    calls::first_reason::find(record, decisions, output)
 }
 
 // The same in an edition with sizes: 16-bit numbers, cell, lowest and highest for each, cells rising, two bytes a number, most significant first.
@@ -41,21 +41,21 @@ pub fn evolmino_find_with(
     ensures { (result ≡ returned (host_finds_with «record».now edition sizes.now decisions.now (length output.old)))
         × (output.new ≡ output_after (host_finds_with «record».now edition sizes.now decisions.now (length output.old)) output.old) }
 {
-    host_find::find_with(record, edition, sizes, decisions, output)
+    calls::first_reason::find_with(record, edition, sizes, decisions, output)
 }
 
 // Opens the record in edition 1, decides in order and tells whether the leaf is finished: 1 for yes, 0 for no, or the negated number of a refusal.
 pub fn evolmino_finished(record: &[u8], decisions: &[u8]) -> i32
     ensures { result ≡ judged (host_finished «record».now decisions.now) }
 {
-    host_finished::finished(record, decisions)
+    calls::is_finished::finished(record, decisions)
 }
 
 // The same in an edition with sizes, which are as in `evolmino_find_with`.
 pub fn evolmino_finished_with(record: &[u8], edition: u32, sizes: &[u8], decisions: &[u8]) -> i32
     ensures { result ≡ judged (host_finished_with «record».now edition sizes.now decisions.now) }
 {
-    host_finished::finished_with(record, edition, sizes, decisions)
+    calls::is_finished::finished_with(record, edition, sizes, decisions)
 }
 
 // Writes the clause sheet of a record to the front of the output, and returns the number of bytes, or the negated number of a refusal, which
@@ -74,7 +74,7 @@ pub fn evolmino_shades(record: &[u8], decisions: &[u8], output: &mut [u8]) -> i3
     ensures { (result ≡ written (host_shades «record».now decisions.now (length output.old)))
         × (output.new ≡ output_with (host_shades «record».now decisions.now (length output.old)) output.old) }
 {
-    host_shades::shades(record, decisions, output)
+    calls::board_shades::shades(record, decisions, output)
 }
 
 // Opens the record in edition 1, decides in order and tells which cells are certain, by a search of at most `budget` steps. Returns 0 where the
@@ -85,7 +85,7 @@ pub fn evolmino_certain(record: &[u8], decisions: &[u8], budget: u64, output: &m
     ensures { (result ≡ said_number (host_certain «record».now decisions.now budget (length output.old)))
         × (output.new ≡ output_with (said_bytes (host_certain «record».now decisions.now budget (length output.old))) output.old) }
 {
-    host_certain::certain(record, decisions, budget, output)
+    calls::certain_cells::certain(record, decisions, budget, output)
 }
 
 // The same in an edition with sizes, which are as in `evolmino_find_with`.
@@ -100,7 +100,7 @@ pub fn evolmino_certain_with(
     ensures { (result ≡ said_number (host_certain_with «record».now edition sizes.now decisions.now budget (length output.old)))
         × (output.new ≡ output_with (said_bytes (host_certain_with «record».now edition sizes.now decisions.now budget (length output.old))) output.old) }
 {
-    host_certain::certain_with(record, edition, sizes, decisions, budget, output)
+    calls::certain_cells::certain_with(record, edition, sizes, decisions, budget, output)
 }
 
 // Opens the record in an edition with sizes, which are as in `evolmino_find_with`, and checks a certificate that the leaf has one solution only. Returns 1

@@ -47,7 +47,7 @@ use Rattle.certain.specs.Facts.{Certainty, Facts, certainty, known, untold, cert
 use Rattle.certain.specs.Facts as certainties
 use Rattle.certain.specs.Told.{refused_facts}
 use Rattle.exported.specs.Written.{output_with}
-use Rattle.host_certain.specs.Told.{certainty_number, certain_bytes, said_of, said_number, said_bytes}
+use Rattle.calls.specs.Told.{certainty_number, certain_bytes, said_of, said_number, said_bytes}
 use Rattle.host_board.specs.Lent.{answer_number, finding_number, verdict_number, count_number, opened_over, after_open, board_certain, hints_of}
 
 -- ---- open

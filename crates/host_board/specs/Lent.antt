@@ -15,7 +15,7 @@ use Rattle.literals.specs.Buffer as findings
 use Rattle.finished.specs.Verdicts.{Verdict}
 use Rattle.finished.specs.Verdicts as verdicts
 use Rattle.certain.specs.Facts.{certain_of}
-use Rattle.host_certain.specs.Told.{Said, said_of}
+use Rattle.calls.specs.Told.{Said, said_of}
 
 -- an answer as a number: 0 for done, or the negated refusal number
 unfoldable pub answer_number : Answer → ℤ

@@ -12,7 +12,7 @@ ghost use Rattle.board.specs.Kept.{open_of};
 ghost use Rattle.literals.specs.Buffer.{Finding};
 ghost use Rattle.reasons.specs.Find.{found_as};
 ghost use Rattle.finished.specs.Verdicts.{finished_of};
-ghost use Rattle.host_certain.specs.Told.{said_number, said_bytes};
+ghost use Rattle.calls.specs.Told.{said_number, said_bytes};
 ghost use Rattle.host_board.specs.Lent.{answer_number, finding_number, verdict_number, after_open, board_certain, hints_of, count_number};
 
 use board::Board;
@@ -56,7 +56,7 @@ pub fn finished_number(board: &Board) -> i32
     returned(finished::finished(*board).map(usize::from))
 }
 
-// Writes to the output which cells are certain, as `host_certain` does, and tells the answer's number. Refused: 6, then 11 for an output below 8 + H × W
+// Writes to the output which cells are certain, as `calls::certain_cells` does, and tells the answer's number. Refused: 6, then 11 for an output below 8 + H × W
 // bytes.
 fn tell_certain(board: &Board, budget: u64, output: &mut [u8]) -> Result<usize, Refusal>
     ensures told { (returned_of result ≡ said_number (board_certain board.now budget (length output.old)))
@@ -68,7 +68,7 @@ fn tell_certain(board: &Board, budget: u64, output: &mut [u8]) -> Result<usize, 
         return Err(Refusal::OutputShort);
     }
     let facts = certain::certain(*board, budget)?;
-    Ok(host_certain::write_certain(&facts, n, output))
+    Ok(calls::certain_cells::write_certain(&facts, n, output))
 }
 
 // The same as a number: 0 where the cells are told, 1 where no finished board agrees with the decisions, 2 where the budget is spent, or the negated number

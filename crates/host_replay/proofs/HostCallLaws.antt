@@ -3,21 +3,26 @@
 use Prim.Native.Nat.{ℕ, ◌+◌, ◌-◌, ◌≤◌}
 use native.Mathlib.Omega.{arith}
 use mathlib.Core.Bool.{Bool, not}
-use mathlib.Core.Path.{◌≡◌, sym, ap, ◌∙◌}
+use mathlib.Core.Path.{◌≡◌, refl, sym, ap, ◌∙◌}
 use mathlib.Core.List.{List}
 use lib.Dec.{eqb}
 use lib.IntN.{ℤ}
-use lib.ListN.{length, length-replicate}
+use lib.ListN.{length, replicate, length-replicate}
 use mir.Syntax.{w32}
 use mir.Val.{SFits, of_z, to_z}
 use mir.ValLaws.{to_z-of_z}
 use borrow.Author.Tests.{ne_eqb}
 use borrow.Rule.Slice.PartMut.{mid_of, put_mid, mid_len, Post-is}
-use Rattle.host_find.specs.Host.{host_finds, returned, output_after}
+use Rattle.calls.specs.Found.{host_finds, returned, output_after}
 use Rattle.replay.specs.Comparisons.{DiffersUnless}
 use Rattle.replay.specs.Lists.{differs}
 use Rattle.replay.proofs.ComparisonLaws.{fails_so, then_differs, test_told}
 use Rattle.host_replay.specs.HostCalls.{fresh, left, CallSo}
+
+-- the array as it is made
+pub fresh_so : replicate 8192 170 ≡ fresh
+unfolding fresh
+fresh_so = refl
 
 -- a fresh array has 8,192 places
 fresh_long : length fresh ≡ 8192

@@ -1,7 +1,7 @@
 -- What a list says of a host call, and what the call leaves of a fresh array that its output is a part of.
 -- Assumes nothing.
 use Rattle.std.specs.Prelude.{ℕ, ◌+◌, false, ◌≡◌, List, ◌++◌, ℤ, take, drop, replicate}
-use Rattle.host_find.specs.Host.{host_finds, returned, output_after}
+use Rattle.calls.specs.Found.{host_finds, returned, output_after}
 use Rattle.replay.specs.Lists.{differs}
 
 -- the array before a call

@@ -6,10 +6,10 @@
 // that many u16 literals. A number has its high byte first.
 #![tactic(auto)]
 
-ghost use Rattle.std.specs.Prelude.{◌≤◌, ◌<◌, ◌≡◌, length};
+ghost use Rattle.std.specs.Prelude.{◌≤◌, ◌<◌};
 ghost use Rattle.replay.specs.Comparisons.{DiffersUnless};
-ghost use Rattle.replay.specs.Lists.{byte_in, differs};
-ghost use Rattle.host_replay.specs.HostCalls.{fresh, CallSo};
+ghost use Rattle.replay.specs.Lists.{byte_in};
+ghost use Rattle.host_replay.specs.HostCalls.{CallSo};
 
 use replay::{Cursor, Entries, Run};
 use std::io;
@@ -19,13 +19,6 @@ const BEFORE: u8 = 170;
 
 // So many places of the array are before the output.
 const GUARD: usize = 64;
-
-// The array that a call's output is a part of.
-fn fresh_array() -> [u8; 8192]
-    ensures { result ≡ fresh }
-{
-    [BEFORE; 8192]
-}
 
 // The number of a refusal, negated, and a number that is never returned where there is no such refusal.
 fn refused(k: usize) -> i32 {
@@ -57,30 +50,32 @@ fn literal_bytes(high: usize, low: usize) -> usize
     0
 }
 
-// Whether the array differs from what a call that wrote the n bytes of the list from `at` on leaves.
-fn array_differs(list: &[u8], at: usize, n: usize, array: &[u8; 8192]) -> bool
-    requires { at ≤ length list.now }
-    ensures { result ≡ differs array.now (byte_in list.now at n 64 170) 0 }
-{
-    replay::bytes_differ(list, at, n, array, GUARD, BEFORE)
-}
-
-// Whether the host call with an output of this size returns another number, or leaves anything but the n bytes of the list from `at` on.
-fn call_differs(
-    list: &[u8],
-    record: &[u8],
-    decisions: &[u8],
+// A host call with an output of this size, of which the list says the number that is returned and so many bytes of literals, those at the cursor.
+#[derive(Clone, Copy)]
+struct Call<'a> {
+    record: &'a [u8],
+    decisions: &'a [u8],
     size: usize,
     expected: i32,
-    at: usize,
-    n: usize,
-) -> bool
-    requires { (at ≤ length list.now) × (size ≤ 8000) }
-    ensures { DiffersUnless result (CallSo «record».now decisions.now size expected (byte_in list.now at n 64 170)) }
-{
-    let mut array = fresh_array();
-    let returned = host::evolmino_find(record, decisions, &mut array[GUARD..GUARD + size]);
-    returned != expected || array_differs(list, at, n, &array)
+    literals: Cursor<'a>,
+    count: usize,
+    ghost small: { size ≤ 8000 },
+}
+
+impl Call<'_> {
+    // Whether the call returns another number, or leaves anything but the literals.
+    fn differs(&self) -> bool
+        ensures { DiffersUnless result (CallSo self.now.«record».now self.now.decisions.now self.now.size self.now.expected
+            (byte_in self.now.literals.list.now self.now.literals.at self.now.count 64 170)) }
+    {
+        let mut array = [BEFORE; 8192];
+        let output = &mut array[GUARD..GUARD + self.size];
+        let returned = host::evolmino_find(self.record, self.decisions, output);
+        returned != self.expected
+            || self
+                .literals
+                .bytes_differ(self.count, &array, GUARD, BEFORE)
+    }
 }
 
 // Host calls, each with what it returns and the literals that it leaves.
@@ -96,22 +91,27 @@ impl Entries for Calls {
         Calls
     }
 
-    fn run(&self, list: &[u8], at: usize) -> Option<Run> {
-        let mut cursor = Cursor { list, at };
+    fn run(&self, mut cursor: Cursor<'_>) -> Option<Run> {
         let bytes = cursor.counted()?;
         let decisions = cursor.counted()?;
         let size = cursor.number()?;
         let high = cursor.number()?;
         let low = cursor.number()?;
-        let at = cursor.at;
-        let n = literal_bytes(high, low);
-        cursor.take(n)?;
+        let literals = cursor;
+        let count = literal_bytes(high, low);
+        cursor.take(count)?;
         if 8000 < size {
             return None;
         }
-        let expected = expected_number(high, low);
-        let differs = call_differs(list, bytes, decisions, size, expected, at, n);
-        Some(Run::of(differs, cursor.at))
+        let call = Call {
+            record: bytes,
+            decisions,
+            size,
+            expected: expected_number(high, low),
+            literals,
+            count,
+        };
+        Some(Run::of(call.differs(), cursor.at))
     }
 }
 

@@ -16,12 +16,12 @@ use Rattle.grid.proofs.FilledLaws.{filled_same}
 use Rattle.grid.proofs.SideLaws.{area, in_place, some_wide}
 use Rattle.record.specs.Record.{Puzzle}
 use Rattle.record.specs.Valid.{Valid}
-use Rattle.record.specs.Problem.{ends_from, arrow_cells, problem_of}
+use Rattle.record.specs.Problem.{ends_from, arrow_cells, problem_of, total_of}
 use Rattle.record.specs.declared.Problem.{Problem}
 use Rattle.record.proofs.LinesLaws.{Lines-of, problem_Lines}
 use Rattle.record.proofs.ProblemLaws.{length_ends}
 use Rattle.record.proofs.RecordLaws.{Valid-size}
-use Rattle.writer.proofs.ArrayLaws.{total, ends_map, cells_map, total_is, few, Parts, parts}
+use Rattle.writer.proofs.ArrayLaws.{ends_map, cells_map, total_is, few, Parts, parts}
 use Rattle.join.specs.Join.{placed, code_beside, joined_grid, left_cell, right_cell, codes_beside, joined}
 use Rattle.join.specs.Inside.{SideBySide, Placing, code_on, Behind}
 use Rattle.join.proofs.JoinLaws.{joined-Valid}
@@ -98,8 +98,8 @@ front l n e = rw e (array_take 0 l)
 
 -- what they make of two problems with a and n arrow cells
 pub record Built (l r : Problem) (a n : ℕ) (codes first line ends : List ℕ) : Type 0 where
-  pub left_total : a ≡ total l.ends l.count
-  pub right_total : n ≡ total r.ends r.count
+  pub left_total : a ≡ total_of l
+  pub right_total : n ≡ total_of r
   pub cells : codes ≡ array_of 0 (map (code_on l r) (upto (l.height * (l.width + 1 + r.width))))
   pub left : Behind 0 (placed 0 l.width (l.width + 1 + r.width)) (take a l.arrows) (replicate 1024 0) first
   pub right : Behind a (placed (l.width + 1) r.width (l.width + 1 + r.width)) (take n r.arrows) first line
@@ -148,7 +148,7 @@ module _ (p q : Puzzle) (v : Valid p) (w : Valid q) (level : p.grid.height ≡ q
       let c3 : ends ≡ array_of 0 (ends_from 0 p.arrows ++ map (λ e. length A + e) (ends_from 0 q.arrows)) = three ∙ rw e3 refl in
       rw (c1, c2, c3) (problem_joined p q)
 
-  room_of : (total (problem_of p).ends (problem_of p).count + total (problem_of q).ends (problem_of q).count ≤ 1024) × ((problem_of p).count + (problem_of q).count ≤ 1024)
+  room_of : (total_of (problem_of p) + total_of (problem_of q) ≤ 1024) × ((problem_of p).count + (problem_of q).count ≤ 1024)
   unfolding problem_of
   room_of =
       let ok = joined-Valid p q level v w wide in
@@ -163,7 +163,7 @@ pub record Fit (l r : Problem) : Type 0 where
   pub left : Parts l
   pub right : Parts r
   pub wide : l.width + 1 + r.width ≤ 32
-  pub line : total l.ends l.count + total r.ends r.count ≤ 1024
+  pub line : total_of l + total_of r ≤ 1024
   pub count : l.count + r.count ≤ 1024
   pub ends : (t : ℕ) → t < r.count → get_or r.ends t 0 ≤ 1024
 
@@ -193,15 +193,15 @@ module _ (p q : Puzzle) (v : Valid p) (w : Valid q) (l r : Problem) (e : l ≡ p
   Fit-of : l.height ≡ r.height → l.width + 1 + r.width ≤ 32 → Fit l r
   Fit-of h k =
       let n = room_of p q v w (level_of h) (wide_of k) in
-      let m = subst (λ x. (total x.ends x.count + total r.ends r.count ≤ 1024) × (x.count + r.count ≤ 1024)) (sym e)
-      (subst (λ y. (total (problem_of p).ends (problem_of p).count + total y.ends y.count ≤ 1024) × ((problem_of p).count + y.count ≤ 1024)) (sym f) n) in
+      let m = subst (λ x. (total_of x + total_of r ≤ 1024) × (x.count + r.count ≤ 1024)) (sym e)
+      (subst (λ y. (total_of (problem_of p) + total_of y ≤ 1024) × ((problem_of p).count + y.count ≤ 1024)) (sym f) n) in
       record { left = parts p v l e; right = parts q w r f; wide = k; line = m.0; count = m.1; ends = (problem_Lines q w r f).room }
 
-pub fit : (l r : Problem) → ((p : Puzzle) × Valid p × (l ≡ problem_of p)) × ((q : Puzzle) × Valid q × (r ≡ problem_of q)) × (l.height ≡ r.height) × (l.width + 1 + r.width ≤ 32) → Fit l r
-fit l r ((p, v, e), (q, w, f), h, k) = Fit-of p q v w l r e f h k
+pub fit : {l r : Problem} → ((p : Puzzle) × Valid p × (l ≡ problem_of p)) × ((q : Puzzle) × Valid q × (r ≡ problem_of q)) × (l.height ≡ r.height) × (l.width + 1 + r.width ≤ 32) → Fit l r
+fit {l} {r} ((p, v, e), (q, w, f), h, k) = Fit-of p q v w l r e f h k
 
 -- an arrow cell has its place
-pub places : (l : Problem) → Parts l → (d m : ℕ) → d + l.width ≤ m → m ≤ 32 → (n : ℕ) → n ≡ total l.ends l.count → (t : ℕ) → t < n → Placing d l.width m (get_or l.arrows t 0)
+pub places : (l : Problem) → Parts l → (d m : ℕ) → d + l.width ≤ m → m ≤ 32 → (n : ℕ) → n ≡ total_of l → (t : ℕ) → t < n → Placing d l.width m (get_or l.arrows t 0)
 places l P d m inside wide n e t h =
     let i : InGrid l.height l.width (get_or l.arrows t 0) = record { tall = P.tall; wide = P.wide; within = P.cells t (omega (arith, e)) } in
     record { some = some_wide i; row = omega (arith, (in_place i).row, P.tall); inside = inside; wide = wide }
@@ -213,9 +213,9 @@ front_below n l k h = omega (arith, length-take n l)
 pub front_at : (n : ℕ) (l : List ℕ) (k z : ℕ) → k < length (take n l) → get_or (take n l) k z ≡ get_or l k 0
 front_at n l k z h = get_or-take n l k z (front_below n l k h) ∙ get_or_default l k z 0 (omega (arith, length-take n l))
 
--- so it has where only the first n cells are given
-pub place_in : (l : Problem) → Parts l → (d m : ℕ) → d + l.width ≤ m → m ≤ 32 → (n : ℕ) → n ≡ total l.ends l.count → (k z : ℕ) → k < length (take n l.arrows) → Placing d l.width m (get_or (take n l.arrows) k z)
+-- its place, where only the first n arrow cells are given
+pub place_in : (l : Problem) → Parts l → (d m : ℕ) → d + l.width ≤ m → m ≤ 32 → (n : ℕ) → n ≡ total_of l → (k z : ℕ) → k < length (take n l.arrows) → Placing d l.width m (get_or (take n l.arrows) k z)
 place_in l P d m inside wide n e k z h = rw (front_at n l.arrows k z h) (places l P d m inside wide n e k (front_below n l.arrows k h))
 
-pub sides : (l r : Problem) → Fit l r → SideBySide l.height l.width r.width
-sides l r f = record { tall = f.left.tall; wide = f.wide }
+pub sides : {l r : Problem} → Fit l r → SideBySide l.height l.width r.width
+sides f = record { tall = f.left.tall; wide = f.wide }

@@ -10,7 +10,7 @@ ghost use Rattle.exported.specs.Written.{written, output_with, Writes};
 ghost use Rattle.join.specs.Join.{placed, code_beside, joined, join_puzzles, join_record};
 ghost use Rattle.join.specs.Inside.{SideBySide, Spot, Placing, code_on, Gives, Behind};
 
-use record::Problem;
+use record::{BLACK, Problem};
 use refusal::Refusal;
 
 // A grid of `width` columns that stands from the column `from` on among `total` columns.
@@ -43,7 +43,7 @@ fn code_at(left: &Problem, right: &Problem, y: usize, x: usize) -> u8
         return left.cells[y * left.width + x];
     }
     if x == left.width {
-        return 1;
+        return BLACK;
     }
     right.cells[y * right.width + (x - (left.width + 1))]
 }

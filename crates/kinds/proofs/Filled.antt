@@ -1,17 +1,14 @@
 -- Marks at the names of groups, and arrays of kinds and owners that are filled cell by cell.
 -- Assumes nothing.
 use Prim.Native.Nat.{ℕ, ◌+◌, ◌≤◌, ◌<◌}
-use native.Mathlib.Omega.{arith}
-use mathlib.Core.Bool.{Bool, ◌&&◌, ◌||◌, or-false, and-false}
-use mathlib.Core.Path.{◌≡◌, refl, sym}
+use mathlib.Core.Bool.{Bool, ◌&&◌, ◌||◌}
+use mathlib.Core.Path.{◌≡◌, refl}
 use mathlib.Core.List.{List}
 use lib.Dec.{eqb}
 use lib.ListN.{length, set, replicate}
-use borrow.Author.Tests.{eq-eqb, ne_eqb}
 use Rattle.grid.specs.Marks.{Marks}
 use Rattle.grid.specs.Grid.{Grid}
 use Rattle.grid.proofs.FilledLaws.{filled_none, filled_more, filled_length}
-use Rattle.grid.proofs.MarkLaws.{Marks-same, Marks-set}
 use Rattle.kinds.specs.Arrays.{kind_code, owner_by}
 use Rattle.kinds.specs.Inside.{kind_in, codes_in, unnamed, owners_in}
 
@@ -20,15 +17,6 @@ module _ {M : List ℕ} (t : ℕ → Bool) (has tag f : ℕ) (k : Marks M t) whe
   -- the marks afterwards
   abbrev then : ℕ → Bool
   then m = t m || (eqb has tag && eqb f m)
-
-  pub name_off : (has ≡ tag → ⊥) → Marks M then
-  name_off h = Marks-same t then (λ m l. rw (ne_eqb has tag h) (sym (or-false (t m)))) k
-
-  pub name_none : 1024 ≤ f → Marks M then
-  name_none h = Marks-same t then (λ m l. simp (ne_eqb f m (λ e. omega (arith, e)), and-false, or-false)) k
-
-  pub name_set : has ≡ tag → f < 1024 → Marks (set M f 1) then
-  name_set e h = Marks-same (λ m. t m || eqb f m) then (λ m l. rw (eq-eqb has tag e)) (Marks-set t f h k)
 
 -- ---- the kinds of the cells passed
 module _ (blocks arrowed : List ℕ) (g : Grid) (cells : List ℕ) where

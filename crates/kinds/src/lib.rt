@@ -170,6 +170,7 @@ fn look_around(grid: Grid, blocks: &Groups, i: usize) -> Owner
 }
 
 // The kind of cell i.
+#[tactic(auto, using(crate::proofs::Owners::kind_alone, crate::proofs::Owners::kind_arrow, crate::proofs::Owners::kind_empty, crate::proofs::Owners::kind_many, crate::proofs::Owners::kind_nobody, crate::proofs::Owners::kind_one, crate::proofs::Owners::kind_open), unfolding(crate::specs::Inside::kind_from))]
 fn kind_at(grid: Grid, cells: &[u8; 1024], blocks: &Groups, i: usize) -> DetailedCellKind
     requires { i < grid.height * grid.width }
     ensures { kind_from result ≡ kind_in blocks.now.labels blocks.now.arrowed (sized grid.height grid.width) cells.now i }
@@ -192,6 +193,7 @@ fn kind_at(grid: Grid, cells: &[u8; 1024], blocks: &Groups, i: usize) -> Detaile
 }
 
 // The kind of each cell and its arrow block; floating groups have no name yet. The arrays come without kinds and owners.
+#[tactic(auto, using(crate::proofs::Filled::codes_more, crate::proofs::Filled::codes_none, crate::proofs::Filled::owners_more, crate::proofs::Filled::owners_none, grid::proofs::SideLaws::area))]
 fn compute_cell_kinds(
     grid: Grid,
     cells: &[u8; 1024],

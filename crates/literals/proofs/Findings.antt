@@ -8,9 +8,9 @@ use mathlib.Core.Option.{none, some}
 use lib.ListN.{length, take, drop, length-append, length-map, length-drop, drop_of_length-le}
 use lib.Seq.{take_all, take_at, drop_at, drop-drop}
 use borrow.Rule.Slice.PartMut.{put_mid}
-use Rattle.std.specs.Prelude.{Option, Some, None, MatchOption}
+use Rattle.std.specs.Prelude.{Option, Some, None}
 use Rattle.grid.specs.Cells.{Literal, word}
-use Rattle.literals.specs.Buffer.{finding_by, buffer_by, Finding, Nothing, Reason}
+use Rattle.literals.specs.Buffer.{buffer_by}
 use Rattle.literals.specs.Inside.{count_of, Wrote, FoundAs}
 use Rattle.literals.specs.Literals.{Found, or_else, first_found_of}
 use Rattle.literals.proofs.BufferLaws.{wrote_length}
@@ -45,12 +45,6 @@ found_next f g x y = let n = nothing_found f x in rw n.0 (rw n.1 at y)
 -- what was found holds where the buffer before it is an equal one
 pub found_same : {f : Found} {b b' a : List ℕ} {r : Option ℕ} → b ≡ b' → FoundAs f b a r → FoundAs f b' a r
 found_same e x = rw e at x
-
--- as find answers it, which refused nothing
-pub finding_as : (f : Found) {b a : List ℕ} {r : Option ℕ} {s : Finding} → FoundAs f b a r → MatchOption r (s ≡ Nothing) (λ k. s ≡ Reason k) → s ≡ finding_by 0 f
-unfolding count_of finding_by
-finding_as none x m = rw x.answer at m
-finding_as (some r) x m = rw x.answer at m
 
 -- ---- the first reason of a list
 

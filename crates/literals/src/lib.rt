@@ -5,6 +5,7 @@ ghost use Rattle.std.specs.Prelude.{◌≡◌, ◌+◌, ◌<◌, ◌≤◌, leng
 ghost use Rattle.grid.specs.Cells.{word};
 
 // A literal as it stands in a buffer.
+#[tactic(auto, unfolding(grid::specs::Cells::word))]
 pub fn literal(index: usize, value: u16) -> u16
     requires { (index < 1024) × (value ≤ 1) }
     ensures { result ≡ word (index, value) }

@@ -19,8 +19,8 @@ use Rattle.record.specs.Leaf.{Leaf}
 use Rattle.record.proofs.LeafLaws.{ValidLeaf}
 use Rattle.finished.specs.Finished.{finished_test}
 use Rattle.finished.proofs.FinishedLaws.{Finished-means}
-use Rattle.call.specs.Call.{leaf_from}
-use Rattle.call.proofs.Opened.{from_valid}
+use Rattle.calls.specs.Call.{leaf_from}
+use Rattle.calls.proofs.Opened.{from_valid}
 use Rattle.certificate.specs.Certificate.{words_of, whole_words, width, next, claimed, headed}
 use Rattle.unique.specs.Unique.{step_of, steps_from, steps_of, solution_or, check_on, host_unique, unique_returned, OneSolution}
 use Rattle.unique.proofs.HeadLaws.{claimed_long}

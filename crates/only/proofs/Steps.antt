@@ -23,7 +23,7 @@ use Rattle.record.proofs.RecordLaws.{Valid-size}
 use Rattle.record.proofs.LineLaws.{valid_arrows}
 use Rattle.kinds.specs.Meaning.{Setting}
 use Rattle.literals.specs.Literals.{Found}
-use Rattle.inconsistency.specs.Reasons.{find_reason}
+use Rattle.reasons.specs.Reasons.{find_reason}
 use Rattle.reasons.proofs.Sound.{sound}
 use Rattle.reasons.proofs.Stands.{find_Stands}
 use Rattle.finished.specs.Finished.{Finished, two_squares}

@@ -5,7 +5,7 @@ use Rattle.grid.specs.Grid.{size}
 use Rattle.record.specs.Record.{ok}
 use Rattle.record.specs.Leaf.{Leaf}
 use Rattle.finished.specs.Finished.{Finished}
-use Rattle.call.specs.Call.{leaf_from}
+use Rattle.calls.specs.Call.{leaf_from}
 use Rattle.certificate.specs.Certificate.{words_of, whole_words, width, next, claimed, headed}
 use Rattle.unique.specs.Unique.{step_of}
 

@@ -1,17 +1,21 @@
 // Reasons 3 and 4: the search for them along the arrows.
 #![tactic(auto)]
 
-ghost use Rattle.std.specs.Prelude.{List, ◌≡◌, ℕ, ◌+◌, ◌*◌, ◌≤◌, ◌<◌, length, take, MatchOption};
+pub mod fourth;
+
+ghost use Rattle.std.specs.Prelude.{List, ◌≡◌, ℕ, ◌+◌, ◌≤◌, ◌<◌, MatchOption};
 ghost use Rattle.std.proofs.Math.Seq.{slice};
 ghost use Rattle.grid.specs.Lists.{flat_map};
 ghost use Rattle.groups.specs.Arrows.{Pair, pairs};
-ghost use Rattle.groups.specs.Arrays.{CellArray, lines_of};
+ghost use Rattle.groups.specs.Arrays.{CellArray};
 ghost use Rattle.kinds.specs.Kinds.{View};
 ghost use Rattle.literals.specs.Inside.{FoundAs};
 ghost use Rattle.literals.specs.Literals.{Found, first_found_of};
-ghost use Rattle.growth.specs.Pairs.{pair_at, NextSquare, view_on, Stretch, Line, Squares, Whole};
-ghost use Rattle.growth.specs.Growth.{reason3_at, reason4_at, reason34};
+ghost use Rattle.growth.specs.Pairs.{NextSquare, HasRoom};
+ghost use Rattle.growth.specs.Growth.{reason3_at, reason34};
+ghost use Rattle.growth.specs.Scenes.{arrows_of, pair_of, scene_board, scene_cells, HasStretch, HasPair, HasLine, HasSquares, HasProblem};
 
+use fourth::Fourth;
 use growth::{Scene, SquarePair};
 use record::Problem;
 use shift::Work;
@@ -29,24 +33,15 @@ trait PairReason {
         work: &mut Work<'_>,
         buffer: &mut [u16],
     ) -> Option<usize>
-        requires squares { let info = scene.now.linked.info in
-            Squares info.grid.height info.grid.width info.cells.now pair.now.arrows.now info.kinds.now info.owners.now pair.now.last pair.now.cur }
-        requires room { 3 * (scene.now.linked.info.grid.height * scene.now.linked.info.grid.width) + 1 ≤ length buffer.old }
-        ensures { let info = scene.now.linked.info in (lines : List (List ℕ))
-            → Stretch info.grid.height info.grid.width lines info.cells.now pair.now.arrows.now info.kinds.now info.owners.now pair.now.last (pair.now.cur + 1)
-            → FoundAs (finds self.now (view_on info.grid.height info.grid.width lines info.cells.now) (pair_at pair.now.arrows.now pair.now.last pair.now.cur))
-            buffer.old buffer.new result };
+        requires squares { HasSquares scene.now pair.now }
+        requires room { HasRoom scene.now.linked.info buffer.old }
+        ensures { (lines : List (List ℕ)) → HasPair scene.now lines pair.now
+            → FoundAs (finds self.now (scene_board scene.now lines) (pair_of pair.now)) buffer.old buffer.new result };
 }
 
 // Reason 3: no shift of the earlier square's block lies in the reach of the later one's.
 #[derive(Clone, Copy)]
 struct Third;
-
-// Reason 4 in an edition: (a), and in edition 1 then (b).
-#[derive(Clone, Copy)]
-struct Fourth {
-    edition: u8,
-}
 
 impl PairReason for Third {
     ghost finds = { λ _. reason3_at };
@@ -70,27 +65,6 @@ impl PairReason for Third {
     }
 }
 
-impl PairReason for Fourth {
-    ghost finds = { λ by view pair. reason4_at view pair by.edition };
-
-    fn check(
-        &self,
-        scene: &Scene<'_>,
-        pair: &SquarePair<'_>,
-        work: &mut Work<'_>,
-        buffer: &mut [u16],
-    ) -> Option<usize> {
-        let finding = fourth::check_growth(scene, pair, &mut work.floats, buffer);
-        if self.edition != 1 {
-            return finding;
-        }
-        if let Some(literals) = finding {
-            return Some(literals);
-        }
-        fourth::check_gap(scene, pair, &mut work.floats, buffer)
-    }
-}
-
 // The first of the places that holds a square.
 fn next_square(cells: &[u8; 1024], arrows: &[u16; 1024], mut places: Range<usize>) -> Option<usize>
     requires order { places.start ≤ places.end }
@@ -111,13 +85,11 @@ fn search_arrow<R: PairReason>(
     work: &mut Work<'_>,
     buffer: &mut [u16],
 ) -> Option<usize>
-    requires line { let info = scene.now.linked.info in
-        Line info.grid.height info.grid.width info.cells.now arrows.now info.kinds.now info.owners.now places.start places.end }
-    requires room { 3 * (scene.now.linked.info.grid.height * scene.now.linked.info.grid.width) + 1 ≤ length buffer.old }
-    ensures { let info = scene.now.linked.info in (lines : List (List ℕ))
-        → Stretch info.grid.height info.grid.width lines info.cells.now arrows.now info.kinds.now info.owners.now places.start places.end
-        → FoundAs (first_found_of (R.finds by.now (view_on info.grid.height info.grid.width lines info.cells.now))
-        (pairs (take (info.grid.height * info.grid.width) info.cells.now) (slice places.start places.end arrows.now))) buffer.old buffer.new result }
+    requires line { HasLine scene.now arrows.now places.start places.end }
+    requires room { HasRoom scene.now.linked.info buffer.old }
+    ensures { (lines : List (List ℕ)) → HasStretch scene.now lines arrows.now places.start places.end
+        → FoundAs (first_found_of (R.finds by.now (scene_board scene.now lines)) (pairs (scene_cells scene.now) (slice places.start places.end arrows.now)))
+        buffer.old buffer.new result }
 {
     let cells = scene.linked.info.cells;
     let end = places.end;
@@ -140,12 +112,10 @@ fn search_arrows<R: PairReason>(
     work: &mut Work<'_>,
     buffer: &mut [u16],
 ) -> Option<usize>
-    requires whole { let info = scene.now.linked.info in
-        Whole info.grid.height info.grid.width info.cells.now problem.now.arrows problem.now.ends info.kinds.now info.owners.now problem.now.count }
-    requires room { 3 * (scene.now.linked.info.grid.height * scene.now.linked.info.grid.width) + 1 ≤ length buffer.old }
-    ensures { let info = scene.now.linked.info in let lines = lines_of problem.now.arrows problem.now.ends problem.now.count in
-        FoundAs (first_found_of (R.finds by.now (view_on info.grid.height info.grid.width lines info.cells.now))
-        (flat_map (pairs (take (info.grid.height * info.grid.width) info.cells.now)) lines)) buffer.old buffer.new result }
+    requires whole { HasProblem scene.now problem.now }
+    requires room { HasRoom scene.now.linked.info buffer.old }
+    ensures { let lines = arrows_of problem.now in
+        FoundAs (first_found_of (R.finds by.now (scene_board scene.now lines)) (flat_map (pairs (scene_cells scene.now)) lines)) buffer.old buffer.new result }
 {
     let mut from = 0;
     for a in 0..problem.count {
@@ -167,11 +137,9 @@ pub fn search_pairs(
     buffer: &mut [u16],
 ) -> Option<usize>
     requires edition { edition ≡ 0 → ⊥ }
-    requires whole { Whole scene.now.linked.info.grid.height scene.now.linked.info.grid.width scene.now.linked.info.cells.now
-        problem.now.arrows problem.now.ends scene.now.linked.info.kinds.now scene.now.linked.info.owners.now problem.now.count }
-    requires room { 3 * (scene.now.linked.info.grid.height * scene.now.linked.info.grid.width) + 1 ≤ length buffer.old }
-    ensures { FoundAs (reason34 edition (view_on scene.now.linked.info.grid.height scene.now.linked.info.grid.width
-        (lines_of problem.now.arrows problem.now.ends problem.now.count) scene.now.linked.info.cells.now)) buffer.old buffer.new result }
+    requires whole { HasProblem scene.now problem.now }
+    requires room { HasRoom scene.now.linked.info buffer.old }
+    ensures { FoundAs (reason34 edition (scene_board scene.now (arrows_of problem.now))) buffer.old buffer.new result }
 {
     if let Some(literals) = search_arrows(&Third, problem, scene, work, buffer) {
         return Some(literals);

@@ -2,13 +2,12 @@
 -- Assumes nothing.
 use Prim.Native.Nat.{ℕ, zero, suc, ◌+◌, ◌-◌, ◌≤◌, ◌<◌}
 use native.Mathlib.Omega.{arith}
-use native.Mathlib.Numerals.{add-one}
 use mathlib.Core.Path.{◌≡◌, refl, sym, ap, ◌∙◌, subst}
-use mathlib.Core.Bool.{Bool, true, false, cond}
+use mathlib.Core.Bool.{Bool, true, false, cond, true≢false}
 use mathlib.Core.List.{List, [], ◌∷◌, Memᴰ}
 use lib.Dec.{eqb, leb}
 use lib.ListN.{length, get_or, take}
-use borrow.Author.Tests.{le-leb}
+use borrow.Author.Tests.{le-leb, leb-true, leb-false}
 use Rattle.grid.specs.Lists.{range, upto, filter, tail}
 use Rattle.grid.specs.Grid.{Grid, size}
 use Rattle.grid.proofs.ListLaws.{filter-mem}
@@ -23,50 +22,85 @@ use Rattle.groups.proofs.MarkLaws.{mask_test}
 use Rattle.groups.proofs.TableLaws.{tally_is, name_low}
 use Rattle.literals.specs.Literals.{or_else, first_found_of}
 use Rattle.paths.specs.Paths.{reason2, reason2_at}
-use Rattle.std.specs.Prelude.{Option, Some, None, find}
-use Rattle.paths.specs.Ends.{BlockTable, crossed, arrow_cell_of, arrow_cells_from, found_way, EndsJoined, Crossing}
-use Rattle.units.proofs.Names.{first_agree}
+use Rattle.std.specs.Prelude.{Option, Some, None, find, MatchOption}
+use Rattle.paths.specs.Ends.{BlockTable, crossed, arrow_cell_of, found_way, EndsJoined, Crossing}
+use Rattle.units.proofs.Names.{first_agree, first_mem}
 
 -- ---- the next cell that passes
 
-module _ (t : ℕ → Bool) (n : ℕ) where
-  pub next_hit : (i : ℕ) → i < n → t i ≡ true → get_or (filter t (range i (n - i))) 0 n ≡ i
-  unfolding filter range
-  next_hit i h e = let z : n - i ≡ suc (n - (i + 1)) = omega arith in rw (z, filter, e) refl
+module _ (t : ℕ → Bool) where
+  -- no number from `from` up to n passes, or i is the first that does
+  abbrev IsFirst : ℕ → ℕ → Option ℕ → Type 0
+  IsFirst from n r = MatchOption r ((k : ℕ) → from ≤ k → k < n → t k ≡ false)
+      (λ i. (from ≤ i) × (i < n) × (t i ≡ true) × ((k : ℕ) → from ≤ k → k < i → t k ≡ false))
 
-  pub next_miss : (i : ℕ) → i < n → t i ≡ false → get_or (filter t (range i (n - i))) 0 n ≡ get_or (filter t (range (i + 1) (n - (i + 1)))) 0 n
-  unfolding filter range
-  next_miss i h e = let z : n - i ≡ suc (n - (i + 1)) = omega arith in rw (z, filter, e, add-one i) refl
-
-  pub next_end : (i : ℕ) → n ≤ i → get_or (filter t (range i (n - i))) 0 n ≡ n
-  unfolding filter range
-  next_end i h = let z : n - i ≡ 0 = omega arith in rw z refl
-
-  -- those behind the first
-  behind : (from k a : ℕ) (r : List ℕ) → filter t (range from k) ≡ a ∷ r → filter t (range (a + 1) (from + k - (a + 1))) ≡ r
-  unfolding filter range tail
-  behind from zero a r e = absurd (omega (arith, ap length e))
-  behind from (suc k) a r e = go (t from) e (λ q. behind (suc from) k a r q)
+  -- the number that passes, where the one before it is held against it
+  at_or_behind : (from i : ℕ) (w : Option ℕ) (b : Bool) → t from ≡ b → from ≤ i → t i ≡ true → ((k : ℕ) → from ≤ k → k < i → t k ≡ false)
+      → (from < i → Some i ≡ w) → Some i ≡ cond b (Some from) w
+  at_or_behind from i w true h low pass before ih = let q : i ≡ from = at (leb i from) refl in rw q refl
     where
-      go : (b : Bool) → cond b (from ∷ filter t (range (suc from) k)) (filter t (range (suc from) k)) ≡ a ∷ r
-          → (filter t (range (suc from) k) ≡ a ∷ r → filter t (range (a + 1) (suc from + k - (a + 1))) ≡ r)
-          → filter t (range (a + 1) (from + suc k - (a + 1))) ≡ r
+      at : (b : Bool) → leb i from ≡ b → i ≡ from
+      at true l = omega (arith, low, leb-true i from l)
+      at false l = absurd (true≢false (sym h ∙ before from (omega arith) (omega (arith, leb-false i from l))))
+  at_or_behind from i w false h low pass before ih = ih (behind (leb i from) refl)
+    where
+      behind : (b : Bool) → leb i from ≡ b → from < i
+      behind true l = let q : i ≡ from = omega (arith, low, leb-true i from l) in absurd (true≢false (sym pass ∙ rw q h))
+      behind false l = omega (arith, leb-false i from l)
+
+  -- by the count of the numbers
+  first_of : (n j from : ℕ) (r : Option ℕ) → n - from ≡ j → IsFirst from n r → r ≡ find t (range from j)
+  unfolding range
+  first_of n zero from None e x = refl
+  first_of n zero from (Some i) e x = absurd (omega (arith, e, x.0, x.1))
+  first_of n (suc j) from None e x =
+      rw (x from (omega arith) (omega (arith, e))) (first_of n j (suc from) None (omega (arith, e)) (λ k h. x k (omega (arith, h))))
+  first_of n (suc j) from (Some i) e x =
+      at_or_behind from i _ (t from) refl x.0 x.2 x.3 (λ later. first_of n j (suc from) (Some i) (omega (arith, e)) (later, x.1, x.2, λ k l. x.3 k (omega (arith, l))))
+
+  -- the first number from `from` up to n that passes
+  pub found_is : (from n : ℕ) (r : Option ℕ) → IsFirst from n r → r ≡ find t (range from (n - from))
+  found_is from n r x = first_of n (n - from) from r refl x
+
+  -- what passes is the first that does, and what passes behind it
+  pub first_and_rest : (from k a : ℕ) → find t (range from k) ≡ Some a → filter t (range from k) ≡ a ∷ filter t (range (a + 1) (from + k - (a + 1)))
+  unfolding filter range
+  first_and_rest from zero a e = let z : ◌≡◌ {A = ℕ} 0 1 = cc in absurd (omega arith)
+  first_and_rest from (suc k) a e = go (t from) e (λ q. first_and_rest (suc from) k a q)
+    where
+      go : (b : Bool) → cond b (Some from) (find t (range (suc from) k)) ≡ Some a
+          → (find t (range (suc from) k) ≡ Some a → filter t (range (suc from) k) ≡ a ∷ filter t (range (a + 1) (suc from + k - (a + 1))))
+          → cond b (from ∷ filter t (range (suc from) k)) (filter t (range (suc from) k)) ≡ a ∷ filter t (range (a + 1) (from + suc k - (a + 1)))
       go true e ih =
-          let f : from ≡ a = ap (λ (l : List ℕ). get_or l 0 0) e in
+          let f : from ≡ a = cc in
           let z : from + suc k - (a + 1) ≡ k = omega (arith, f) in
           let y : a + 1 ≡ suc from = omega (arith, f) in
-          rw (z, y) (ap tail e)
+          rw (z, y, f) refl
       go false e ih = let z : from + suc k - (a + 1) ≡ suc from + k - (a + 1) = omega arith in rw z (ih e)
 
-  -- the second is the next behind the first
-  pub second_is : (l : List ℕ) → filter t (range 0 (n - 0)) ≡ l → get_or (filter t (range (get_or l 0 n + 1) (n - (get_or l 0 n + 1)))) 0 n ≡ get_or l 1 n
-  second_is [] e = next_end (n + 1) (omega arith)
-  second_is (a ∷ r) e = let z : 0 + (n - 0) - (a + 1) ≡ n - (a + 1) = omega arith in ap (λ (l : List ℕ). get_or l 0 n) (rw z at (behind 0 (n - 0) a r e)) ∙ head_is r
+  pub rest_from_0 : (n a : ℕ) → find t (range 0 (n - 0)) ≡ Some a → filter t (range 0 (n - 0)) ≡ a ∷ filter t (range (a + 1) (n - (a + 1)))
+  rest_from_0 n a e = let z : 0 + (n - 0) - (a + 1) ≡ n - (a + 1) = omega arith in rw z at (first_and_rest 0 (n - 0) a e)
+
+  -- nothing passes where no first one does
+  pub none_passes : (l : List ℕ) → find t l ≡ None → filter t l ≡ []
+  unfolding filter
+  none_passes [] e = refl
+  none_passes (x ∷ xs) e = go (t x) e (none_passes xs)
     where
-      head_is : (r : List ℕ) → get_or r 0 n ≡ get_or (a ∷ r) 1 n
-      head_is r = refl
+      go : (b : Bool) → cond b (Some x) (find t xs) ≡ None → (find t xs ≡ None → filter t xs ≡ []) → cond b (x ∷ filter t xs) (filter t xs) ≡ []
+      go true e ih = let z : ◌≡◌ {A = ℕ} 0 1 = cc in absurd (omega arith)
+      go false e ih = ih e
 
 -- ---- the first block with two
+
+-- the first number that passes passes
+found_passes : (t : ℕ → Bool) (l : List ℕ) (f : ℕ) → find t l ≡ Some f → t f ≡ true
+found_passes t [] f e = let z : ◌≡◌ {A = ℕ} 0 1 = cc in absurd (omega arith)
+found_passes t (x ∷ xs) f e = go (t x) refl e (λ k. found_passes t xs f k)
+  where
+    go : (b : Bool) → t x ≡ b → cond b (Some x) (find t xs) ≡ Some f → (find t xs ≡ Some f → t f ≡ true) → t f ≡ true
+    go true h e ih = let q : f ≡ x = cc in rw q h
+    go false h e ih = ih e
 
 module _ (g : Grid) (cells : List ℕ) (n : ℕ) (L : ℕ → List ℕ) where
   -- the first two arrow cells of the block named
@@ -106,7 +140,7 @@ module _ (puzzle : Puzzle) (cells : List ℕ) {blocks onarrow firsts squares arr
   arrow_cells f = filter (on_arrow puzzle.arrows) (group g p (labels g p) f)
 
   -- the same by the arrays
-  pub arrow_cells_lem : (n f : ℕ) → n ≡ size g → f < 1024 → arrow_cells_from blocks onarrow n f 0 ≡ arrow_cells f
+  pub arrow_cells_lem : (n f : ℕ) → n ≡ size g → f < 1024 → filter (arrow_cell_of blocks onarrow f) (range 0 (n - 0)) ≡ arrow_cells f
   unfolding arrow_cell_of marked upto
   arrow_cells_lem n f e h =
       let z : n - 0 ≡ size g = omega (arith, e) in
@@ -132,14 +166,38 @@ module _ (puzzle : Puzzle) (cells : List ℕ) {blocks onarrow firsts squares arr
           let gb = group-mem g p (labels g p) f b (filter-mem (on_arrow puzzle.arrows) (group g p (labels g p) f) mb).0 in
           linked_label g p b a gb.0 ga.0 gb.1 (gb.2 ∙ sym ga.2)
 
+  -- the block that was found has two arrow cells or more
+  crossed_two : {f : ℕ} → find (crossed arrowed) (take number firsts) ≡ Some f → 2 ≤ length (arrow_cells f)
+  unfolding crossed
+  crossed_two {f} at =
+      let two = found_passes (crossed arrowed) (take number firsts) f at in
+      let low : f < size g = name_low g p f (subst (λ (l : List ℕ). Memᴰ f l) B.table.firsts_are (first_mem (crossed arrowed) (take number firsts) f at)) in
+      omega (arith, leb-true 2 (get_or arrowed f 0) two, B.table.arrowed_are.at f low)
+
   -- with the ends that were found
   pub Crossing-at : (n : ℕ) → n ≡ size g → {f a b : ℕ} → f < 1024 → find (crossed arrowed) (take number firsts) ≡ Some f
-      → a ≡ get_or (arrow_cells_from blocks onarrow n f 0) 0 n → b ≡ get_or (arrow_cells_from blocks onarrow n f (a + 1)) 0 n → Crossing puzzle cells (Some (a, b))
+      → find (arrow_cell_of blocks onarrow f) (range 0 (n - 0)) ≡ Some a → find (arrow_cell_of blocks onarrow f) (range (a + 1) (n - (a + 1))) ≡ Some b
+      → Crossing puzzle cells (Some (a, b))
   Crossing-at n e {f} {a} {b} h at ea eb =
-      let l = arrow_cells_lem n f e h in
-      let a_is : a ≡ get_or (arrow_cells f) 0 n = ea ∙ ap (λ (m : List ℕ). get_or m 0 n) l in
-      let b_is : b ≡ get_or (arrow_cells f) 1 n = eb ∙ rw a_is (second_is (arrow_cell_of blocks onarrow f) n (arrow_cells f) l) in
-      rw (a_is, b_is) (subst (λ (m : Option ℕ). Crossing puzzle cells (ends_of g cells n arrow_cells m)) at (Crossing-is n))
+      let t = arrow_cell_of blocks onarrow f in
+      let l : arrow_cells f ≡ a ∷ b ∷ filter t (range (b + 1) (a + 1 + (n - (a + 1)) - (b + 1)))
+      = sym (arrow_cells_lem n f e h) ∙ rest_from_0 t n a ea ∙ ap (λ (m : List ℕ). a ∷ m) (first_and_rest t (a + 1) (n - (a + 1)) b eb) in
+      rw l at (subst (λ (m : Option ℕ). Crossing puzzle cells (ends_of g cells n arrow_cells m)) at (Crossing-is n))
+
+  -- there is a first arrow cell, and a second
+  pub first_there : (n : ℕ) → n ≡ size g → {f : ℕ} → f < 1024 → find (crossed arrowed) (take number firsts) ≡ Some f
+      → ¬ (find (arrow_cell_of blocks onarrow f) (range 0 (n - 0)) ≡ None)
+  first_there n e {f} h at none =
+      let l : arrow_cells f ≡ [] = sym (arrow_cells_lem n f e h) ∙ none_passes (arrow_cell_of blocks onarrow f) (range 0 (n - 0)) none in
+      omega (arith, crossed_two at, ap length l)
+
+  pub second_there : (n : ℕ) → n ≡ size g → {f a : ℕ} → f < 1024 → find (crossed arrowed) (take number firsts) ≡ Some f
+      → find (arrow_cell_of blocks onarrow f) (range 0 (n - 0)) ≡ Some a → ¬ (find (arrow_cell_of blocks onarrow f) (range (a + 1) (n - (a + 1))) ≡ None)
+  second_there n e {f} {a} h at ea none =
+      let t = arrow_cell_of blocks onarrow f in
+      let l : arrow_cells f ≡ a ∷ []
+      = sym (arrow_cells_lem n f e h) ∙ rest_from_0 t n a ea ∙ ap (λ (m : List ℕ). a ∷ m) (none_passes t (range (a + 1) (n - (a + 1))) none) in
+      omega (arith, crossed_two at, ap length l)
 
   pub Crossing-nowhere : find (crossed arrowed) (take number firsts) ≡ None → Crossing puzzle cells None
   Crossing-nowhere at = subst (λ (m : Option ℕ). Crossing puzzle cells (ends_of g cells 0 arrow_cells m)) at (Crossing-is 0)

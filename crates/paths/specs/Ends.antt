@@ -1,8 +1,7 @@
 -- What the parts of reason 2 ask of the arrays that they are lent: the blocks, the arrow cells of each, and the ends of the path.
 -- Assumes nothing.
-use Rattle.std.specs.Prelude.{ℕ, ◌-◌, ◌*◌, ◌≡◌, Bool, ◌&&◌, List, eqb, leb, get_or, take, Option, Some, None}
+use Rattle.std.specs.Prelude.{ℕ, ◌*◌, ◌≡◌, Bool, ◌&&◌, List, eqb, leb, get_or, take, Option, Some, None}
 use Rattle.std.proofs.Math.Option.{none, some}
-use Rattle.grid.specs.Lists.{range, filter}
 use Rattle.grid.specs.Grid.{Grid}
 use Rattle.grid.specs.Side.{sized}
 use Rattle.record.specs.Record.{Puzzle}
@@ -26,10 +25,6 @@ crossed arrowed f = leb 2 (get_or arrowed f 0)
 -- cell i is an arrow cell of the block named f
 unfoldable pub arrow_cell_of : List ℕ → List ℕ → ℕ → ℕ → Bool
 arrow_cell_of blocks onarrow f i = eqb (get_or blocks i 0) f && eqb (get_or onarrow i 0) 1
-
--- the arrow cells of the block named f among the cells from `from` up to n
-abbrev pub arrow_cells_from : List ℕ → List ℕ → ℕ → ℕ → ℕ → List ℕ
-arrow_cells_from blocks onarrow n f from = filter (arrow_cell_of blocks onarrow f) (range from (n - from))
 
 -- the reason with the path from a to b, or none
 unfoldable pub found_way : Grid → List ℕ → Option (ℕ × ℕ) → Found

@@ -1,7 +1,9 @@
 // Reason 2: a block with two arrow cells, and the squares of a shortest way between them.
 #![tactic(auto)]
 
-ghost use Rattle.std.specs.Prelude.{◌≡◌, ℕ, ◌+◌, ◌*◌, ◌<◌, ◌≤◌, length, get_or, take, replicate, List, ◌++◌, find, All};
+ghost use Rattle.std.specs.Prelude.{◌≡◌, ℕ, ◌+◌, ◌-◌, ◌*◌, ◌<◌, ◌≤◌, length, get_or, take, replicate, List, ◌++◌, find, All};
+ghost use Rattle.std.specs.Option.{ForSome};
+ghost use Rattle.grid.specs.Lists.{range};
 ghost use Rattle.grid.specs.Grid.{size};
 ghost use Rattle.grid.specs.Side.{sized};
 ghost use Rattle.grid.specs.Cells.{square};
@@ -11,7 +13,7 @@ ghost use Rattle.paths.specs.Paths.{Entry, appended, list_from, way, reason2};
 ghost use Rattle.literals.specs.Inside.{Wrote, FoundAs};
 ghost use Rattle.groups.specs.Groups.{Joined};
 ghost use Rattle.groups.specs.Arrays.{Names};
-ghost use Rattle.paths.specs.Ends.{BlockTable, crossed, arrow_cells_from, Crossing, Blocked};
+ghost use Rattle.paths.specs.Ends.{BlockTable, crossed, arrow_cell_of, Crossing, Blocked};
 ghost use Rattle.kinds.specs.Inside.{puzzle_with};
 ghost use Rattle.paths.specs.Search.{unlisted, Offered, Listing};
 
@@ -43,6 +45,7 @@ impl BreadthFirstList {
     }
 
     // Lists cell j with its parent p, if it is a square that is not listed yet.
+    #[tactic(auto, using(crate::proofs::Listings::room_left, grid::proofs::ArrayLaws::fewer_set))]
     fn list_cell(&mut self, cells: &[u8; 1024], j: usize, p: u16)
         requires { (j < 1024) × (p < 1024) }
         ensures { Offered cells.now self.old.from self.old.order self.old.count j p self.new.from self.new.order self.new.count }
@@ -126,17 +129,19 @@ fn first_crossed(names: &[u16], arrowed: &[u16; 1024]) -> Option<u16>
         .find(|&f| 2 <= arrowed[usize::from(f)])
 }
 
-// The first arrow cell of the block named f from cell `from` on, n if there is none below n.
-fn next_arrow_cell(blocks: &Groups, onarrow: &[u8; 1024], n: usize, f: u16, from: usize) -> usize
+// The first arrow cell of the block named f from cell `from` on, if there is one below n.
+fn next_arrow_cell(
+    blocks: &Groups,
+    onarrow: &[u8; 1024],
+    n: usize,
+    f: u16,
+    from: usize,
+) -> Option<usize>
     requires { n ≤ 1024 }
-    ensures { (result ≡ get_or (arrow_cells_from blocks.now.labels onarrow.now n f from) 0 n) × (result ≤ n) }
+    ensures first { result ≡ find (arrow_cell_of blocks.now.labels onarrow.now f) (range from (n - from)) }
+    ensures below { ForSome result (λ i. i < n) }
 {
-    for i in from..n {
-        if blocks.labels[i] == f && onarrow[i] == 1 {
-            return i;
-        }
-    }
-    n
+    (from..n).find(|&i| blocks.labels[i] == f && onarrow[i] == 1)
 }
 
 // The first two arrow cells of the lowest numbered block that has two or more, if there is one.
@@ -148,8 +153,8 @@ fn find_crossing(grid: Grid, blocks: &Groups, onarrow: &[u8; 1024]) -> Option<(u
 {
     let f = first_crossed(&blocks.firsts[..blocks.count], &blocks.arrowed)?;
     let n = grid.size();
-    let a = next_arrow_cell(blocks, onarrow, n, f, 0);
-    let b = next_arrow_cell(blocks, onarrow, n, f, a + 1);
+    let a = next_arrow_cell(blocks, onarrow, n, f, 0)?;
+    let b = next_arrow_cell(blocks, onarrow, n, f, a + 1)?;
     Some((a, b))
 }
 

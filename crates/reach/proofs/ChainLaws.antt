@@ -170,7 +170,7 @@ module _ (owners : List ℕ) (n : ℕ) where
     firsts f ne = sym (ap first_cell (from_next f i inside ∙ rw (ne_eqb (get_or owners i 0) f ne)))
 
     -- one more cell, with an owner
-    pub chains_more : get_or owners i 0 < 1024 → ChainsFrom owners (set head (get_or owners i 0) i) (set next i (get_or head (get_or owners i 0) 0)) n i
+    chains_more : get_or owners i 0 < 1024 → ChainsFrom owners (set head (get_or owners i 0) i) (set next i (get_or head (get_or owners i 0) 0)) n i
     chains_more l = record {
       small = C.small;
       head_long = length-set head e i ∙ C.head_long;
@@ -191,7 +191,7 @@ module _ (owners : List ℕ) (n : ℕ) where
         follow j low h o (no ne) = get_or-set_other next i j (get_or head e 0) 0 ne ∙ C.follows j (omega (arith, ne)) h o
 
     -- one more cell, without an owner
-    pub chains_same : 1024 ≤ get_or owners i 0 → ChainsFrom owners head next n i
+    chains_same : 1024 ≤ get_or owners i 0 → ChainsFrom owners head next n i
     chains_same l = record {
       small = C.small;
       head_long = C.head_long;

@@ -10,8 +10,8 @@ use lib.ListN.{length, get_or}
 use borrow.Author.Tests.{eq-eqb}
 use Rattle.grid.specs.Lists.{upto}
 use Rattle.grid.proofs.ListLaws.{filter-length, length-range, mem-filter, mem-upto}
-use Rattle.reach.specs.Chains.{owned_by, cells_from, first_cell, first_from, Chains}
-use Rattle.reach.proofs.ChainLaws.{cells_up_to, first_low, first_in, first_owned, from_none, passed_none, passed_first, passed_rest, passed_all, chain_head, chain_next}
+use Rattle.reach.specs.Chains.{owned_by, cells_from, first_from, Chains}
+use Rattle.reach.proofs.ChainLaws.{cells_up_to, first_low, first_in, first_owned, passed_none, passed_first, passed_rest, passed_all, chain_head, chain_next}
 
 -- i is the next cell of the chain of f, 1024 or more at its end, and `passed` are the cells before it
 pub record Walk (owners : List ℕ) (n f : ℕ) (passed : List ℕ) (i : ℕ) : Type 0 where
@@ -33,15 +33,6 @@ module _ {owners head next : List ℕ} {n : ℕ} (C : Chains owners head next n)
 
     pub walk_in : i < 1024 → i < n
     walk_in h = first_in owners n f W.from i W.next h
-
-    -- no number is above 1024
-    pub walk_high : i ≤ 1024
-    unfolding first_from first_cell
-    walk_high = go (dec_lt i 1024)
-      where
-        go : Dec (i < 1024) → i ≤ 1024
-        go (yes l) = omega (arith, l)
-        go (no l) = omega (arith, W.next ∙ ap first_cell (from_none owners n f W.from i C.small W.next (omega (arith, l))))
 
     -- it is one of the chain's cells
     pub walk_mem : i < 1024 → Memᴰ i (cells_from owners n f 0)

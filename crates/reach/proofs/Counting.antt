@@ -1,6 +1,6 @@
 -- The marks of the floating groups near a block and of a reach, as they grow cell by cell.
 -- Assumes nothing.
-use Prim.Native.Nat.{ℕ, ◌+◌, ◌≤◌, ◌<◌}
+use Prim.Native.Nat.{ℕ, ◌+◌, ◌*◌, ◌≤◌, ◌<◌}
 use native.Mathlib.Omega.{arith}
 use mathlib.Core.Bool.{Bool, false, cond, ◌&&◌, ◌||◌, or-false, or_assoc}
 use mathlib.Core.Path.{◌≡◌, refl, sym, ap, ◌∙◌}
@@ -11,6 +11,8 @@ use borrow.Author.Tests.{eq-eqb}
 use Rattle.grid.specs.Lists.{range, upto, filter, any}
 use Rattle.grid.specs.Marks.{Marks}
 use Rattle.grid.specs.Grid.{Grid, neighbours}
+use Rattle.grid.specs.Side.{InGrid}
+use Rattle.grid.specs.declared.Grid.{Grid as Sides}
 use Rattle.grid.proofs.ListLaws.{length-range, filter-length}
 use Rattle.grid.proofs.AppendLaws.{any-append, any_more, count_hit, count_miss}
 use Rattle.grid.proofs.FilledLaws.{filled_none, filled_more, filled_skip}
@@ -18,6 +20,10 @@ use Rattle.grid.proofs.MarkLaws.{Marks-same}
 use Rattle.reach.specs.Inside.{near_at, near_among, reaches, reaches_at, Counted, miss, hit, Reached, float_among}
 
 -- ---- the marks of floating groups near a block
+
+-- a cell of a grid, as the laws of the four neighbours take it
+pub cell_of : (g : Sides) (i : ℕ) → i < g.height * g.width → InGrid g.height g.width i
+cell_of g i h = record { tall = g.tall; wide = g.wide; within = h }
 
 module _ (kinds owners : List ℕ) (f : ℕ) where
   -- a cell that is no neighbour of f

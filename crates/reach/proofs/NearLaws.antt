@@ -15,11 +15,7 @@ use lib.Seq.{length-take-le, get_or-set_same, get_or-set_other, set-get_or, get_
 use borrow.Author.Tests.{eq-eqb, ne_eqb, eqb-true, lt-ltb, le-ltb}
 use Rattle.grid.specs.Lists.{range, upto, any, filter, member, Distinct}
 use Rattle.grid.specs.Grid.{Grid, neighbours}
-use Rattle.grid.specs.Side.{towards, beside_of}
-use Rattle.std.specs.Prelude.{Some, None}
 use Rattle.grid.proofs.ListLaws.{length-range, filter-length, filter_split, Distinct-snoc, at_mem, So-false, member-mem, Distinct-few}
-use Rattle.grid.proofs.SideLaws.{beside_at, beside_off}
-use Rattle.grid.proofs.AroundLaws.{gathered, gathered_all}
 use Rattle.grid.proofs.AppendLaws.{count_hit, count_miss, any-append, any_agree, filter-filter, filter_agree}
 use Rattle.grid.proofs.MarkLaws.{Marks-none, Marks-same, Marks-set, mark_on, mark_off}
 use Rattle.reach.specs.Inside.{near_at, near_among, float_among}
@@ -36,11 +32,6 @@ use Rattle.reach.proofs.ChainWalks.{Walk, Walk-start, Walk-more, walk_end}
 pub cells_are : (owners : List ℕ) (n f : ℕ) → cells_from owners n f 0 ≡ filter (owned_by owners f) (upto n)
 unfolding cells_from upto
 cells_are owners n f = let z : n - 0 ≡ n = omega arith in rw z refl
-
--- they are not more than the cells
-pub cells_few : (owners : List ℕ) (n f : ℕ) → length (cells_from owners n f 0) ≤ n
-unfolding upto
-cells_few owners n f = omega (arith, ap length (cells_are owners n f), filter-length (owned_by owners f) (upto n), length-range 0 n)
 
 -- before the first
 pub Sizes-none : (kinds owners : List ℕ) → Sizes kinds owners 0 (replicate 1024 0)
@@ -94,7 +85,7 @@ sizes_split kinds owners n f =
 -- ---- names are listed
 
 -- none is listed
-pub Listed-none : {groups : List ℕ} → length groups ≡ 1024 → Listed (λ m. false) (replicate 1024 0) groups 0
+Listed-none : {groups : List ℕ} → length groups ≡ 1024 → Listed (λ m. false) (replicate 1024 0) groups 0
 Listed-none long = record {
   marked = Marks-none;
   long = long;
@@ -127,7 +118,7 @@ module _ {t : ℕ → Bool} {near groups : List ℕ} {c : ℕ} (L : Listed t nea
     low x q = ⊎_elim (λ r. ((L.listed x).0 r).0) (λ r. omega (arith, Memᴰ.eq_of_singleton r)) (Memᴰ.append_cases (take c groups) q)
 
     -- a name that is not listed has room
-    pub listed_room : c < 1024
+    listed_room : c < 1024
     listed_room = omega (arith, Distinct-few (take c groups ++ (m ∷ [])) 1024 more low, length-append (take c groups) (m ∷ []), as_many)
 
     front : take (c + 1) (set groups c m) ≡ take c groups ++ (m ∷ [])
@@ -142,7 +133,7 @@ module _ {t : ℕ → Bool} {near groups : List ℕ} {c : ℕ} (L : Listed t nea
     mem_end (y ∷ l) = Memᴰ.tail (mem_end l)
 
     -- one more name
-    pub Listed-more : Listed (λ x. t x || eqb m x) (set near m 1) (set groups c m) (c + 1)
+    Listed-more : Listed (λ x. t x || eqb m x) (set near m 1) (set groups c m) (c + 1)
     Listed-more = record {
       marked = Marks-set t m h L.marked;
       long = length-set groups c m ∙ L.long;
@@ -206,31 +197,16 @@ module _ (kinds owners : List ℕ) {t : ℕ → Bool} {near groups : List ℕ} {
 pub Listing-room : {near groups : List ℕ} {c : ℕ} (m : ℕ) → Listing near groups c → m < 1024 → (get_or near m 0 ≡ 1 → ⊥) → c < 1024
 Listing-room m L h ne = listed_room L.so_far m h (mark_off L.so_far.marked m h ne)
 
--- ---- the sides of a cell
+-- ---- the cells next to a cell
 
-module _ (kinds owners : List ℕ) (g : Grid) {near groups : List ℕ} {c : ℕ} (t : ℕ → Bool) where
-  -- a direction with a neighbour, and one without
-  pub side_at : (i k j : ℕ) → Some j ≡ beside_of g i k → Listed (λ m. t m || float_among kinds owners (j ∷ []) m) near groups c → Listed (λ m. t m || float_among kinds owners (towards g i k) m) near groups c
-  side_at i k j e L = rw (beside_at g i k j e) L
+module _ (kinds owners : List ℕ) {near groups : List ℕ} {c : ℕ} (t : ℕ → Bool) (js : List ℕ) where
+  -- one more of them is passed
+  pub float_more : (j : ℕ) → Listed (λ m. (t m || float_among kinds owners js m) || float_among kinds owners (j ∷ []) m) near groups c → Listed (λ m. t m || float_among kinds owners (js ++ (j ∷ [])) m) near groups c
+  float_more j L = Listed-same L _ (λ m h. or_assoc (t m) _ _ ∙ ap (λ (b : Bool). t m || b) (sym (any-append (λ k. eqb (get_or kinds k 0) 4 && eqb (get_or owners k 0) m) js (j ∷ []))))
 
-  pub side_off : (i k : ℕ) → None ≡ beside_of g i k → Listed t near groups c → Listed (λ m. t m || float_among kinds owners (towards g i k) m) near groups c
-  side_off i k e L = rw (beside_off g i k e) (float_none kinds owners L)
-
-  -- the directions before k are passed: none, one more, and all
-  pub sides_none : (i : ℕ) → Listed t near groups c → Listed (λ m. t m || float_among kinds owners (gathered g i 0) m) near groups c
-  unfolding gathered
-  sides_none i L = float_none kinds owners L
-
-  pub sides_more : (i k : ℕ) → Listed (λ m. (t m || float_among kinds owners (gathered g i k) m) || float_among kinds owners (towards g i k) m) near groups c → Listed (λ m. t m || float_among kinds owners (gathered g i (k + 1)) m) near groups c
-  unfolding gathered
-  sides_more i k L = Listed-same L _ (λ m h. or_assoc (t m) _ _ ∙ ap (λ (b : Bool). t m || b) (sym (any-append (λ j. eqb (get_or kinds j 0) 4 && eqb (get_or owners j 0) m) (gathered g i k) (towards g i k)) ∙ ap (λ (x : ℕ). float_among kinds owners (gathered g i x) m) (sym (add-one k))))
-
-  pub sides_all : (i : ℕ) → get_or kinds i 0 ≡ 2 → Listed (λ m. t m || float_among kinds owners (gathered g i 4) m) near groups c → Listed (λ m. t m || (eqb (get_or kinds i 0) 2 && float_among kinds owners (neighbours g i) m)) near groups c
-  sides_all i e L = Listed-same L _ (λ m h. rw (gathered_all g i, eq-eqb (get_or kinds i 0) 2 e))
-
-  -- the cell is no neighbour of a block
-  pub sides_off : (i : ℕ) → (get_or kinds i 0 ≡ 2 → ⊥) → Listed t near groups c → Listed (λ m. t m || (eqb (get_or kinds i 0) 2 && float_among kinds owners (neighbours g i) m)) near groups c
-  sides_off i ne L = Listed-same L _ (λ m h. rw (ne_eqb (get_or kinds i 0) 2 ne) (sym (or-false (t m))))
+  -- they are beside a neighbour of a block
+  pub float_beside : (i : ℕ) → get_or kinds i 0 ≡ 2 → Listed (λ m. t m || float_among kinds owners js m) near groups c → Listed (λ m. t m || (eqb (get_or kinds i 0) 2 && float_among kinds owners js m)) near groups c
+  float_beside i e L = Listed-same L _ (λ m h. rw (eq-eqb (get_or kinds i 0) 2 e) refl)
 
 -- ---- the walk over the cells of f
 

@@ -237,7 +237,7 @@ module _ (h w : ℕ) (limits : Limits h w) (arrows : List (List ℕ)) (cells K O
   unfolding size
   reach-any b q = any-reach (puzzle_with (sized h w) arrows) small cells K O H f near groups c N b q
 
-  pub reach-length : get_or K f 0 ≡ 1 → length (reach (view (puzzle_with (sized h w) arrows) cells) f) ≡ length (cells_from O (h * w) f 0) + total (λ m. length (cells_from O (h * w) m 0)) (take c groups)
+  reach-length : get_or K f 0 ≡ 1 → length (reach (view (puzzle_with (sized h w) arrows) cells) f) ≡ length (cells_from O (h * w) f 0) + total (λ m. length (cells_from O (h * w) m 0)) (take c groups)
   unfolding size
   reach-length b = length-reach (puzzle_with (sized h w) arrows) small cells K O H f near groups c N b
 

@@ -1,3 +1,4 @@
 pub mod Inside
 pub mod Chains
 pub mod Near
+pub mod Board

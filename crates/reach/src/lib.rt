@@ -1,14 +1,14 @@
 // The reach of an arrow block as marks, and the cells of each owner in chains.
 #![tactic(auto)]
 
+pub mod near;
+
 ghost use Rattle.std.specs.Prelude.{◌≡◌, ℕ, ◌+◌, ◌*◌, ◌≤◌, ◌<◌, Bool, ◌||◌, List, replicate};
 ghost use Rattle.grid.specs.Marks.{Marks};
-ghost use Rattle.grid.specs.Grid.{neighbours};
-ghost use Rattle.grid.specs.Side.{sized};
-ghost use Rattle.kinds.specs.Kinds.{view};
 ghost use Rattle.reach.specs.Chains.{ChainsFrom, Chains};
-ghost use Rattle.kinds.specs.Inside.{puzzle_with, Held};
-ghost use Rattle.reach.specs.Inside.{near_at, near_among, reaches, Reached, Reach};
+ghost use Rattle.kinds.specs.Board.{cell_count, board_with, KindsAre};
+ghost use Rattle.reach.specs.Inside.{reaches, Reached, Reach};
+ghost use Rattle.reach.specs.Board.{float_beside, is_float_near, CellsLinked};
 
 use kinds::{ARROW_BLOCK, ARROW_BLOCK_NEIGHBOR, BoardInfo, FLOATING};
 
@@ -19,7 +19,7 @@ pub struct Linked<'a> {
     pub info: BoardInfo<'a>,
     pub head: &'a [u16; 1024],
     pub next: &'a [u16; 1024],
-    pub ghost chains: { Chains info.owners.now head.now next.now (info.grid.height * info.grid.width) },
+    pub ghost chains: { CellsLinked info head.now next.now },
 }
 
 // Puts cell i in front of the chain of its owner, if it has one. Without one the places are written with what they hold.
@@ -61,7 +61,7 @@ pub fn in_reach(near: &[u8; 1024], f: u16, kind: u8, owner: u16) -> bool
 
 // Marks the cells of the reach of the block f, and counts them.
 fn mark_reach(info: &BoardInfo<'_>, f: u16, near: &[u8; 1024], marks: &mut [u8; 1024]) -> usize
-    ensures { Reached info.now.kinds.now info.now.owners.now near.now f (info.now.grid.height * info.now.grid.width) marks.new result }
+    ensures { Reached info.now.kinds.now info.now.owners.now near.now f (cell_count info.now) marks.new result }
 {
     *marks = [0; 1024];
     let mut count = 0;
@@ -76,9 +76,8 @@ fn mark_reach(info: &BoardInfo<'_>, f: u16, near: &[u8; 1024], marks: &mut [u8; 
 
 // Marks the floating groups that touch cell i, if that is a neighbour of the block f.
 fn mark_floats_beside(info: &BoardInfo<'_>, f: u16, i: usize, near: &mut [u8; 1024])
-    requires cell { i < info.now.grid.height * info.now.grid.width }
-    ensures { (t : ℕ → Bool) → Marks near.old t
-        → Marks near.new (λ m. t m || near_at info.now.kinds.now info.now.owners.now f i (neighbours (sized info.now.grid.height info.now.grid.width) i) m) }
+    requires cell { i < cell_count info.now }
+    ensures { (t : ℕ → Bool) → Marks near.old t → Marks near.new (λ m. t m || float_beside info.now f i m) }
 {
     if info.kinds[i] != ARROW_BLOCK_NEIGHBOR {
         return;
@@ -97,7 +96,7 @@ fn mark_floats_beside(info: &BoardInfo<'_>, f: u16, i: usize, near: &mut [u8; 10
 
 // Marks the floating groups that touch a neighbour of the block f.
 fn mark_near_floats(info: &BoardInfo<'_>, f: u16, near: &mut [u8; 1024])
-    ensures { Marks near.new (near_among info.now.kinds.now info.now.owners.now (sized info.now.grid.height info.now.grid.width) f (info.now.grid.height * info.now.grid.width)) }
+    ensures { Marks near.new (is_float_near info.now f) }
 {
     *near = [0; 1024];
     for i in 0..info.grid.size() {
@@ -112,9 +111,8 @@ pub fn compute_reach(
     near: &mut [u8; 1024],
     marks: &mut [u8; 1024],
 ) -> usize
-    ensures { (arrows : List (List ℕ)) (cells : List ℕ)
-        → Held (view (puzzle_with (sized info.now.grid.height info.now.grid.width) arrows) cells) info.now.kinds.now info.now.owners.now
-        → Reach (view (puzzle_with (sized info.now.grid.height info.now.grid.width) arrows) cells) f near.new marks.new result }
+    ensures { (arrows : List (List ℕ)) (cells : List ℕ) → KindsAre info.now (board_with info.now arrows cells)
+        → Reach (board_with info.now arrows cells) f near.new marks.new result }
 {
     mark_near_floats(info, f, near);
     mark_reach(info, f, near, marks)

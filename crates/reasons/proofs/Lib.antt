@@ -14,6 +14,7 @@ pub mod Stands
 pub mod Sound
 pub mod OnMachine
 pub mod Demand3
+pub mod Checks
 pub mod ReasonLaws
 pub mod NonEmpty
 pub mod FindLaws

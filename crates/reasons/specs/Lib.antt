@@ -1,3 +1,5 @@
+pub mod Inconsistency
+pub mod Lent
 pub mod Reasons
 pub mod Find
 pub mod Demand3

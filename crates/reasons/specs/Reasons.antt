@@ -5,7 +5,7 @@ use Rattle.record.specs.Leaf.{Leaf}
 use Rattle.grid.specs.Cells.{Literal}
 use Rattle.board.specs.Board.{cells_after}
 use Rattle.literals.specs.Literals.{Found}
-unfoldable pub use Rattle.inconsistency.specs.Reasons.{find_reason}
+unfoldable pub use Rattle.reasons.specs.Inconsistency.{find_reason}
 
 -- what find says of the leaf l after the decisions ds
 unfoldable pub find_on : Leaf → List Literal → Found

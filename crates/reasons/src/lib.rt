@@ -2,6 +2,8 @@
 // who asks.
 #![tactic(auto)]
 
+pub mod inconsistency;
+
 ghost use Rattle.std.specs.Prelude.{◌≡◌, ◌≤◌, length, replicate};
 ghost use Rattle.board.specs.Hints.{hinted, after_find};
 ghost use Rattle.refusal.specs.Refusals.{outcome_of};

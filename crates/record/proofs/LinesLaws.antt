@@ -31,12 +31,6 @@ pub start_next : (ends : List ℕ) (k : ℕ) → start_at ends (k + 1) ≡ get_o
 unfolding start_at
 start_next ends k = ap (start_at ends) (add-one k)
 
--- no arrow starts behind the line
-pub start_low : {h w : ℕ} {line ends : List ℕ} {count : ℕ} → Lines h w line ends count → (k : ℕ) → k ≤ count → start_at ends k ≤ 1024
-unfolding start_at
-start_low L zero l = omega arith
-start_low L (suc k) l = L.room k (omega arith)
-
 -- the same for arrows that stand from the place `at` on
 start_from : ℕ → List ℕ → ℕ → ℕ
 start_from at l zero = at

@@ -46,6 +46,7 @@ enum Extent {
 
 impl Extent {
     // Whether a record's fields may end at `at`: only zero bits to the end of the byte, and behind those of a whole record nothing more.
+    #[tactic(auto, using(crate::proofs::FieldsLaws::ended_head, crate::proofs::FieldsLaws::ended_whole))]
     fn may_end(self, s: &[u8], at: usize) -> bool
         requires { at ≤ 65536 }
         ensures { result ≡ ended self s.now at }
@@ -112,6 +113,7 @@ impl Line {
     }
 
     // Takes the step at `at`, from a cell that stands last in the line.
+    #[tactic(auto, using(crate::proofs::ArrowLaws::step_lost, crate::proofs::ArrowLaws::step_new, crate::proofs::ArrowLaws::step_used, fields::proofs::OutcomeLaws::agrees_fault))]
     fn take_step(&mut self, s: &[u8], grid: Grid, from: Place, at: usize) -> Result<Place, Refusal>
         requires { (from.row < grid.height) × (from.col < grid.width) × (at ≤ 65536) }
         ensures { Agrees (take_at s.now (sized grid.height grid.width) self.old (from.row * grid.width + from.col) at)
@@ -123,6 +125,7 @@ impl Line {
     }
 
     // Takes the steps of an arrow from `at` on.
+    #[tactic(auto, using(crate::proofs::ArrowLaws::steps_fault, crate::proofs::ArrowLaws::steps_more, crate::proofs::ArrowLaws::steps_start, fields::proofs::OutcomeLaws::agrees_fault))]
     fn read_steps(
         &mut self,
         s: &[u8],
@@ -156,6 +159,7 @@ impl Line {
     }
 
     // Reads the arrows, which stand behind the codes of the cells, and the filler behind them; the line and the ends come empty.
+    #[tactic(auto, using(crate::proofs::ArrowsLaws::arrows_more, crate::proofs::ArrowsLaws::arrows_start))]
     fn read_arrows(
         &mut self,
         s: &[u8],
@@ -180,6 +184,7 @@ impl Line {
 }
 
 // The codes of all n cells, to the front of an array of zeros.
+#[tactic(auto, using(crate::proofs::CellLaws::cells_more, crate::proofs::CellLaws::cells_start))]
 fn read_cells(s: &[u8], n: usize, cells: &mut [u8; 1024]) -> Result<(), Refusal>
     requires { (n ≤ 1024) × (cells.old ≡ array_of 0 []) }
     ensures { Agrees (cell_codes s.now 21 n) (λ cs _. cells.new ≡ array_of 0 cs) result }
@@ -192,6 +197,7 @@ fn read_cells(s: &[u8], n: usize, cells: &mut [u8; 1024]) -> Result<(), Refusal>
 
 impl Problem {
     // The problem of a record, or the refusal of its first fault.
+    #[tactic(auto, using(crate::proofs::FieldsLaws::record_as))]
     pub fn read(bytes: &[u8]) -> Result<Problem, Refusal>
         ensures { outcome_of result ≡ as_problem (read_record bytes.now) }
     {
@@ -199,6 +205,7 @@ impl Problem {
     }
 
     // The problem of the record at the head of a file, or the refusal of its first fault; here 5 counts filler of the record only.
+    #[tactic(auto, using(crate::proofs::FieldsLaws::head_as))]
     pub fn read_head(bytes: &[u8]) -> Result<Problem, Refusal>
         ensures { outcome_of result ≡ as_problem (puzzle_in (read_head bytes.now)) }
     {
@@ -206,6 +213,7 @@ impl Problem {
     }
 
     // The problem of a whole record, or of one at the head of a file, or the refusal of its first fault.
+    #[tactic(auto, using(crate::proofs::WholeLaws::whole_arrows, crate::proofs::WholeLaws::whole_cells, crate::proofs::WholeLaws::whole_cut, crate::proofs::WholeLaws::whole_cut_2, crate::proofs::WholeLaws::whole_cut_3, fields::proofs::OutcomeLaws::outcome_fault), unfolding(grid::specs::Lists::array_of))]
     fn read_as(bytes: &[u8], extent: Extent) -> Result<Problem, Refusal>
         ensures { outcome_of result ≡ as_problem (read_as extent bytes.now) }
     {
@@ -240,6 +248,7 @@ impl Problem {
     }
 
     // How many bytes the record of the problem has: where it ends in a file that it is the head of.
+    #[tactic(auto, unfolding(fields::specs::Fields::bytes_for))]
     pub fn record_length(&self) -> usize
         requires { (self.now.height ≤ 32) × (self.now.width ≤ 32) × (self.now.count ≤ 1024) × (total_of self.now ≤ 1024) }
         ensures { result ≡ bytes_for (21 + 2 * (self.now.height * self.now.width) + 18 * self.now.count + 2 * total_of self.now) }

@@ -1,2 +1,3 @@
 mod ProblemLaws
 pub mod ReadingLaws
+mod EndLaws

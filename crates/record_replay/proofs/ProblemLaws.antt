@@ -4,25 +4,20 @@ use Prim.Native.Nat.{ℕ, zero, suc, ◌+◌, ◌*◌, ◌-◌, ◌≤◌, ◌<�
 use native.Mathlib.Omega.{arith}
 use mathlib.Core.Bool.{Bool, true, false, true≢false}
 use mathlib.Core.Path.{◌≡◌, refl, sym, ap, subst, ◌∙◌}
-use mathlib.Core.List.{List, [], ◌∷◌}
+use mathlib.Core.List.{List}
+use mathlib.Core.Logic.{⊎_elim}
 use lib.ListN.{length, take, drop, get_or, length-drop}
 use lib.Seq.{take_all}
-use borrow.Author.Tests.{le-leb}
+use Rattle.std.proofs.lemmas.Bool.{cases_lt}
 use Rattle.record.specs.declared.Problem.{Problem}
 use Rattle.replay.specs.Comparisons.{DiffersUnless}
 use Rattle.replay.specs.Lists.{number_at, byte_in, number_in, differs}
 use Rattle.replay.proofs.ComparisonLaws.{fails, then_differs, same_differs}
 use Rattle.record_replay.specs.Problems.{ZerosFrom, ArrowSo, ArrowsSo, area_at, count_at, ProblemSo}
 
--- where a list has no numbers, zeros are said
-zeros_said : (l : List ℕ) (k : ℕ) → differs l (number_in [] 0 0 0) k ≡ differs l (λ _. 0) k
-unfolding differs number_in
-zeros_said [] k = refl
-zeros_said (x ∷ rest) k = rw (le-leb 0 k (omega arith), zeros_said rest (suc k))
-
--- the rest of a list, held against nothing
-pub tail_said : (l : List ℕ) (k : ℕ) → differs (take (length l - k) (drop k l)) (number_in [] 0 0 0) 0 ≡ differs (drop k l) (λ _. 0) 0
-tail_said l k = rw (take_all (length l - k) (drop k l) (omega (arith, length-drop k l))) (zeros_said (drop k l) 0)
+-- the rest of an array with a place for each cell
+pub rest_told : (l : List ℕ) (k : ℕ) → length l ≡ 1024 → (r : Bool) → DiffersUnless r (differs (take (1024 - k) (drop k l)) (λ _. 0) 0 ≡ false) → DiffersUnless r (ZerosFrom l k)
+rest_told l k e r d = rw (take_all (1024 - k) (drop k l) (omega (arith, length-drop k l, e))) at d
 
 module _ (list line ends : List ℕ) (at end i : ℕ) where
   -- the first of some arrows
@@ -44,6 +39,19 @@ module _ (list line ends : List ℕ) (at end i : ℕ) where
   unfolding ArrowsSo
   no_arrows zero e r d = d
   no_arrows (suc k) e r d = absurd (omega (arith, e))
+
+-- arrows that begin behind the end of the list
+behind_end : (list line ends : List ℕ) (a b end i k : ℕ) → length list ≤ a → length list ≤ b → ArrowsSo list a k line ends end i → ArrowsSo list b k line ends end i
+unfolding ArrowsSo
+behind_end list line ends a b end i zero h g w = w
+behind_end list line ends a b end i (suc k) h g w = absurd (omega (arith, w.0.inside))
+
+-- arrows that begin behind some bytes that were left out of the list, or all that there were
+pub behind_left : (list line ends : List ℕ) (at n place end i k : ℕ) → (at + n ≤ length list → place ≡ at + n) → (length list < at + n → place ≡ length list) → (r : Bool) → DiffersUnless r (ArrowsSo list place k line ends end i) → DiffersUnless r (ArrowsSo list (at + n) k line ends end i)
+behind_left list line ends at n place end i k inside short r d = ⊎_elim
+    (λ h. same_differs (behind_end list line ends place (at + n) end i k (omega (arith, short h)) (omega arith)) (behind_end list line ends (at + n) place end i k (omega arith) (omega (arith, short h))) r d)
+    (λ h. subst (λ (a : ℕ). DiffersUnless r (ArrowsSo list a k line ends end i)) (inside h) d)
+    (cases_lt (length list) (at + n))
 
 -- the i-th of the arrows, which has n cells, where those from it on decide for all
 module _ (list line ends : List ℕ) (start arrows at end i n : ℕ) (e : n ≡ number_at list at) (lt : i < arrows)

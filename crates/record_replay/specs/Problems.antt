@@ -1,11 +1,11 @@
 -- What a list says of a record: its refusal, and its problem.
 -- Assumes nothing.
-use Rattle.std.specs.Prelude.{ℕ, zero, suc, ◌+◌, ◌*◌, ◌≤◌, ◌<◌, false, ◌≡◌, List, length, take, drop, get_or, eqb, Option, MatchOption}
+use Rattle.std.specs.Prelude.{ℕ, zero, suc, ◌+◌, ◌*◌, ◌≤◌, ◌<◌, Bool, cond, false, ◌≡◌, List, length, take, drop, get_or, eqb, Option, MatchOption}
 use Rattle.std.specs.Bool.{MatchBool}
 use Rattle.record.specs.Record.{Puzzle, ok, refused, read_record}
 use Rattle.record.specs.Problem.{problem_of}
 use Rattle.record.specs.declared.Problem.{Problem}
-use Rattle.replay.specs.Comparisons.{Compared}
+use Rattle.replay.specs.Comparisons.{DiffersUnless}
 use Rattle.replay.specs.declared.Run.{Run}
 use Rattle.replay.specs.Lists.{number_at, byte_in, number_in, differs}
 
@@ -34,6 +34,19 @@ area_at list at = get_or list at 0 * get_or list (at + 1) 0
 -- how many arrows it says behind the codes of the cells
 abbrev pub count_at : List ℕ → ℕ → ℕ
 count_at list at = number_at list (at + 2 + area_at list at)
+
+-- where so many arrows of a list end that begin at a place
+unfoldable pub arrows_end : List ℕ → ℕ → ℕ → ℕ
+arrows_end list at zero = at
+arrows_end list at (suc n) = arrows_end list (at + 2 + 2 * number_at list at) n
+
+-- where the problem ends that begins at a place
+abbrev pub problem_end : List ℕ → ℕ → ℕ
+problem_end list at = arrows_end list (at + 4 + area_at list at) (count_at list at)
+
+-- what is said of where something ends: the place, and none where the list ends before it
+abbrev pub EndSo : List ℕ → ℕ → Option ℕ → Type 0
+EndSo list place end = MatchOption end (length list < place) (λ at. at ≡ place)
 
 -- a problem is the one that a list has at a place
 pub record ProblemSo (list : List ℕ) (at : ℕ) (p : Problem) : Type 0 where
@@ -64,8 +77,20 @@ SaidSo list at refusal =
     MatchBool (eqb refusal 0) (RecordSo (take (number_at list at) (drop (at + 2) list)) list (refusal_at list at + 1))
     (RefusedSo (take (number_at list at) (drop (at + 2) list)) refusal)
 
+-- where the entry at a place ends: behind its refusal, or, where that is 0, behind its problem
+abbrev pub entry_end : List ℕ → ℕ → ℕ → ℕ
+entry_end list at refusal = cond (eqb refusal 0) (problem_end list (refusal_at list at + 1)) (refusal_at list at + 1)
+
+-- an entry that is compared as a whole: it differs unless what is said of it holds, and ends at a place, if the list goes on so far
+pub record ComparedTo (P : Type 0) (list : List ℕ) (place : ℕ) (run : Run) : Type 0 where
+  pub answer : Bool
+  pub told : DiffersUnless answer P
+  pub no_parts : run.parts ≡ 0
+  pub counted : run.differ ≡ cond answer 1 0
+  pub ended : EndSo list place run.end
+
 -- what the entry at a place counts
 abbrev pub EntrySo : List ℕ → ℕ → Option Run → Type 0
 EntrySo list at run =
-    MatchOption run (length list < refusal_at list at + 3)
-    (λ r. (place : ℕ) × Compared (SaidSo list at (get_or list (refusal_at list at) 0)) place r)
+    let refusal = get_or list (refusal_at list at) 0 in
+    MatchOption run (length list < refusal_at list at + 3) (ComparedTo (SaidSo list at refusal) list (entry_end list at refusal))

@@ -7,102 +7,95 @@
 
 ghost use Rattle.std.specs.Prelude.{◌≡◌, ◌+◌, ◌≤◌, ◌<◌, length};
 ghost use Rattle.replay.specs.Comparisons.{DiffersUnless};
-ghost use Rattle.record_replay.specs.Problems.{ZerosFrom, ArrowsSo, area_at, ProblemSo, RefusedSo, RecordSo, EntrySo};
+ghost use Rattle.record_replay.specs.Problems.{ZerosFrom, ArrowsSo, area_at, problem_end, EndSo, ProblemSo, RefusedSo, RecordSo, EntrySo};
 
 use record::Problem;
 use replay::{Cursor, Entries, Run};
 use std::io;
 
-// The product of the two bytes from `at` on: the number of cells of a grid.
-fn area_at(list: &[u8], at: usize) -> usize
-    requires { at ≤ length list.now }
-    ensures { (result ≡ area_at list.now at) × (result < 65536) }
+// The number of cells of the problem at the cursor: the product of the two bytes that it begins with.
+fn area(problem: Cursor<'_>) -> usize
+    ensures { (result ≡ area_at problem.entry.list.now problem.entry.at) × (result < 65536) }
 {
-    replay::byte_at(list, at) * replay::byte_at(list, at + 1)
+    problem.byte_at(0) * problem.byte_at(1)
 }
 
-// Where the arrows of an entry end that begin at `at`, or behind the end of the list where they go on there.
-fn arrows_end(list: &[u8], start: usize, arrows: usize) -> usize {
-    let mut at = start;
-    for _ in 0..arrows {
-        if list.len() < at {
-            return at;
-        }
-        at = at + 2 + 2 * replay::number_at(list, at);
+// Where the problem at the cursor ends, none where the list ends inside it.
+fn problem_end(problem: Cursor<'_>) -> Option<usize>
+    ensures { EndSo problem.entry.list.now (problem_end problem.entry.list.now problem.entry.at) result }
+{
+    let mut cursor = problem;
+    cursor.take(2 + area(problem))?;
+    let arrows = cursor.number()?;
+    for _i in 0..arrows {
+        let cells = cursor.number()?;
+        cursor.take(2 * cells)?;
     }
-    at
+    Some(cursor.at)
 }
 
-// Where the problem ends that begins at `at`, or behind the end of the list where the list ends inside it.
-fn problem_end(list: &[u8], at: usize) -> usize
-    requires { at ≤ length list.now }
+// Whether something but zeros stands among the numbers.
+fn zeros_differ(numbers: &[u16]) -> bool
+    ensures { DiffersUnless result (ZerosFrom numbers.now 0) }
 {
-    let arrows = at + 2 + area_at(list, at);
-    arrows_end(list, arrows + 2, replay::number_at(list, arrows))
+    numbers.iter().any(|&number| number != 0)
 }
 
-// Whether something but zeros stands among the numbers from place `from` on.
-fn tail_differs(numbers: &[u16], from: usize) -> bool
-    requires { from ≤ length numbers.now }
-    ensures { DiffersUnless result (ZerosFrom numbers.now from) }
+// Whether the arrows at the cursor differ from those in the two arrays, with zeros behind them.
+fn arrows_differ(said: Cursor<'_>, count: usize, line: &[u16; 1024], ends: &[u16; 1024]) -> bool
+    requires { count ≤ 1024 }
+    ensures { DiffersUnless result (ArrowsSo said.entry.list.now said.entry.at count line.now ends.now 0 0) }
 {
-    replay::numbers_differ(b"", 0, 0, &numbers[from..], 0)
-}
-
-// Whether the arrows of the list, from start on, differ from those in the two arrays, with zeros behind them.
-fn arrows_differ(list: &[u8], start: usize, arrows: usize, line: &[u16], ends: &[u16]) -> bool
-    requires { (arrows ≤ 1024) × (length line.now ≡ 1024) × (length ends.now ≡ 1024) }
-    ensures { DiffersUnless result (ArrowsSo list.now start arrows line.now ends.now 0 0) }
-{
-    let mut at = start;
+    let mut arrow = said;
     let mut end = 0;
-    for i in 0..arrows {
-        if list.len().saturating_sub(at) < 2 {
+    for i in 0..count {
+        let Some(n) = arrow.number() else {
             return true;
-        }
-        let n = replay::number_at(list, at);
+        };
         let next = end + n;
         if 1024 < next {
             return true;
         }
-        if replay::numbers_differ(list, at + 2, n, &line[end..next], 0) {
+        if arrow.numbers_differ(n, &line[end..next], 0) {
             return true;
         }
         end = next;
         if usize::from(ends[i]) != end {
             return true;
         }
-        at = at + 2 + 2 * n;
+        // Behind the last arrow the list may have ended inside its cells: where these are zeros, nothing differs.
+        arrow.skip(2 * n);
     }
-    tail_differs(line, end) || tail_differs(ends, arrows)
+    zeros_differ(&line[end..]) || zeros_differ(&ends[count..])
 }
 
-// Whether the problem differs from the one that the list says from `at` on.
-fn problem_differs(list: &[u8], at: usize, p: Problem) -> bool
-    requires { at + 2 ≤ length list.now }
-    ensures { DiffersUnless result (ProblemSo list.now at p) }
+// Whether the problem differs from the one at the cursor.
+fn problem_differs(said: Cursor<'_>, problem: Problem) -> bool
+    requires { said.at + 2 ≤ length said.list.now }
+    ensures { DiffersUnless result (ProblemSo said.entry.list.now said.entry.at problem) }
 {
-    let n = area_at(list, at);
-    let count = replay::number_at(list, at + 2 + n);
+    let n = area(said);
+    let count = said.number_at(2 + n);
     if 1024 < count {
         return true;
     }
-    if p.height != replay::byte_at(list, at) {
+    if problem.height != said.byte_at(0) {
         return true;
     }
-    if p.width != replay::byte_at(list, at + 1) {
+    if problem.width != said.byte_at(1) {
         return true;
     }
-    if p.count != count {
+    if problem.count != count {
         return true;
     }
-    let cells = p.cells;
-    if replay::cells_differ(list, at + 2, n, &cells, 0) {
+    let mut codes = said;
+    codes.skip(2);
+    if codes.cells_differ(n, &problem.cells, 0) {
         return true;
     }
-    let line = p.arrows;
-    let ends = p.ends;
-    arrows_differ(list, at + 4 + n, count, &line, &ends)
+    let mut arrows = said;
+    arrows.skip(4 + n);
+    arrows_differ(arrows, count, &problem.arrows, &problem.ends)
 }
 
 // Whether a record is not refused with this number.
@@ -115,13 +108,13 @@ fn refusal_differs(record: &[u8], refusal: usize) -> bool
     }
 }
 
-// Whether a record is refused, or its problem differs from the one that the list says from `at` on.
-fn record_differs(record: &[u8], list: &[u8], at: usize) -> bool
-    requires { at + 2 ≤ length list.now }
-    ensures { DiffersUnless result (RecordSo «record».now list.now at) }
+// Whether a record is refused, or its problem differs from the one at the cursor.
+fn record_differs(record: &[u8], said: Cursor<'_>) -> bool
+    requires { said.at + 2 ≤ length said.list.now }
+    ensures { DiffersUnless result (RecordSo «record».now said.entry.list.now said.entry.at) }
 {
     match Problem::read(record) {
-        Ok(problem) => problem_differs(list, at, problem),
+        Ok(problem) => problem_differs(said, problem),
         Err(_) => true,
     }
 }
@@ -141,17 +134,20 @@ impl Entries for Records {
         Records
     }
 
-    fn run(&self, list: &[u8], at: usize) -> Option<Run> {
-        let mut cursor = Cursor { list, at };
+    fn run(&self, mut cursor: Cursor<'_>) -> Option<Run> {
         let bytes = cursor.counted()?;
         let refusal = usize::from(cursor.byte()?);
-        let at = cursor.at;
         if refusal != 0 {
-            return Some(Run::of(refusal_differs(bytes, refusal), at));
+            return Some(Run::of(refusal_differs(bytes, refusal), cursor.at));
         }
+        let problem = cursor;
         cursor.take(2)?;
-        let differs = record_differs(bytes, list, at);
-        Some(Run::of(differs, problem_end(list, at)))
+        let differs = record_differs(bytes, problem);
+        Some(Run {
+            parts: 0,
+            differ: usize::from(differs),
+            end: problem_end(problem),
+        })
     }
 }
 

@@ -2,7 +2,7 @@
 -- Assumes nothing.
 use Prim.Native.Nat.{ℕ}
 use mathlib.Core.Bool.{Bool, true, false, not, ◌||◌, true≢false}
-use mathlib.Core.Path.{◌≡◌, refl, sym, ◌∙◌}
+use mathlib.Core.Path.{◌≡◌, sym, ◌∙◌}
 use lib.Dec.{eqb}
 use borrow.Author.Tests.{eqb-true, eqb-false, not-true, not-false}
 use Rattle.replay.specs.Comparisons.{DiffersUnless}
@@ -33,11 +33,6 @@ module _ {P Q : Type 0} where
   -- facts that hold together differ together
   pub same_differs : (P → Q) → (Q → P) → (r : Bool) → DiffersUnless r P → DiffersUnless r Q
   same_differs f g r d = (λ e. f (d.0 e), λ e q. d.1 e (g q))
-
-  -- two facts
-  pub either_differs : (t u : Bool) → DiffersUnless t P → DiffersUnless u Q → DiffersUnless (t || u) (P × Q)
-  either_differs true u d e = fails (λ w. d.1 refl w.0)
-  either_differs false u d e = (λ f. (d.0 refl, e.0 f), λ f w. e.1 f w.1)
 
   -- a second fact decides where the first holds
   pub then_differs : P → (u : Bool) → DiffersUnless u Q → DiffersUnless u (P × Q)

@@ -1,3 +1,3 @@
-mod ListLaws
+pub mod ListLaws
 mod TallyLaws
 pub mod ComparisonLaws

@@ -1,12 +1,12 @@
-// What the programs that replay lists of answers share: the room for a list, its reading, the comparison of what was computed with it, the
-// count of its entries, and the text that says the count.
+// What the programs that replay lists of answers share: the reading of a list, the comparison of what was computed with it, the count of its
+// entries, and the text that says the count.
 //
 // A list has a head of lines that begin with `#`, an empty line, and then entries to its end. A u16 has its high byte first.
 #![tactic(auto)]
 
-ghost use Rattle.std.specs.Prelude.{◌+◌, ◌≤◌, ◌<◌, ◌≡◌, ℕ, List, Option, Some, cond, length, get_or, replicate, take, drop, OnOk, IfOk, IfSome, IfNone, ⊤};
+ghost use Rattle.std.specs.Prelude.{◌+◌, ◌≤◌, ◌<◌, ◌≡◌, ℕ, List, Option, Some, cond, length, get_or, take, drop, OnOk, IfOk, IfSome, IfNone, ⊤};
 ghost use Rattle.std.specs.Io.KnownBytes.{Appends};
-ghost use Rattle.replay.specs.Tallies.{sum_of, broken_run, run_of, then_of, also_of, empty_tally, tally_of, with_of, Through};
+ghost use Rattle.replay.specs.Tallies.{sum_of, broken_run, run_of, then_of, also_of, tally_of, with_of, Through};
 ghost use Rattle.replay.specs.Lists.{area_of, number_at, data_start, byte_in, number_in, differs};
 ghost use Rattle.replay.specs.Printed.{tally_text};
 
@@ -39,27 +39,8 @@ pub struct Report<'a> {
     pub parts: &'a str,
 }
 
-// Zeros: room for the longest list.
-pub fn room() -> [u8; 524288]
-    ensures { result ≡ replicate 524288 0 }
-{
-    [0; 524288]
-}
-
-// Reads a list to its end, or as far as there is room for the longest.
-pub fn read_list<R: Read + Drop>(mut input: R, room: &mut [u8; 524288]) -> io::Result<&[u8]>
-    ensures { IfOk result (λ list. IfSome (R.remaining input) (λ bytes. list.now ≡ take 524288 bytes)) }
-{
-    let n = text::read_full(&mut input, room)?;
-    Ok(&room[..n])
-}
-
-// A number that is no literal stands in every place of a fresh buffer.
-pub fn fresh_buffer() -> [u16; 4096]
-    ensures { result ≡ replicate 4096 65535 }
-{
-    [65535; 4096]
-}
+// What stands in every place of a fresh buffer: a number that is no literal.
+pub const NO_LITERAL: u16 = 65535;
 
 // H × W, and 0 where a size is above 32.
 #[tactic(auto, using(std::proofs::lemmas::Bool::Decides::nat_tests), unfolding(crate::specs::Lists::area_of))]
@@ -80,13 +61,15 @@ pub fn byte_at(list: &[u8], at: usize) -> usize
 }
 
 // The u16 at `at`, with 0 for each byte behind the end.
+#[tactic(auto, using(crate::proofs::ListLaws::no_number), unfolding(crate::specs::Lists::number_at))]
 pub fn number_at(list: &[u8], at: usize) -> usize
     ensures { (result ≡ number_at list.now at) × (result < 65536) }
 {
-    if list.len() <= at {
+    let Some(&high) = list.get(at) else {
         return 0;
-    }
-    byte_at(list, at) * 256 + byte_at(list, at + 1)
+    };
+    let low = list.get(at + 1).map_or(0, |&byte| byte);
+    usize::from(u16::from_be_bytes([high, low]))
 }
 
 // Where the data begins: behind the head and its empty line, 0 where there is no such head.
@@ -107,70 +90,6 @@ pub fn data_start(list: &[u8]) -> usize
         }
     }
     0
-}
-
-// What stands at place i where the n bytes of the list from `at` on stand from place `from` on, and this byte in every other place.
-#[tactic(auto, using(std::proofs::lemmas::Bool::Decides::nat_tests), unfolding(crate::specs::Lists::byte_in))]
-fn byte_in(list: &[u8], at: usize, n: usize, from: usize, other: u8, i: usize) -> usize
-    requires { (at ≤ length list.now) × (i < 9223372036854775808) }
-    ensures { result ≡ byte_in list.now at n from other i }
-{
-    if i < from || n <= i - from {
-        return usize::from(other);
-    }
-    byte_at(list, at + (i - from))
-}
-
-// Whether the bytes are not, from place `from` on, the n bytes of the list from `at` on, and in every other place this one.
-pub fn bytes_differ(list: &[u8], at: usize, n: usize, bytes: &[u8], from: usize, other: u8) -> bool
-    requires { at ≤ length list.now }
-    ensures { result ≡ differs bytes.now (byte_in list.now at n from other) 0 }
-{
-    (0..bytes.len()).any(|i| usize::from(bytes[i]) != byte_in(list, at, n, from, other, i))
-}
-
-// Whether an array with a place for each cell differs from the n bytes of the list from `at` on, with this byte behind them.
-pub fn cells_differ(list: &[u8], at: usize, n: usize, cells: &[u8; 1024], behind: u8) -> bool
-    requires { at ≤ length list.now }
-    ensures { result ≡ differs cells.now (byte_in list.now at n 0 behind) 0 }
-{
-    bytes_differ(list, at, n, cells, 0, behind)
-}
-
-// What stands at place i where the n numbers of the list from `at` on stand in the first places, and this number behind them.
-#[tactic(auto, using(std::proofs::lemmas::Bool::Decides::nat_tests), unfolding(crate::specs::Lists::number_in))]
-fn number_in(list: &[u8], at: usize, n: usize, behind: u16, i: usize) -> usize
-    requires { (at ≤ length list.now) × (i < 4611686018427387904) }
-    ensures { result ≡ number_in list.now at n behind i }
-{
-    if n <= i {
-        return usize::from(behind);
-    }
-    number_at(list, at + 2 * i)
-}
-
-// Whether the numbers are not the n numbers of the list from `at` on, with this number behind them.
-pub fn numbers_differ(list: &[u8], at: usize, n: usize, numbers: &[u16], behind: u16) -> bool
-    requires { at ≤ length list.now }
-    ensures { result ≡ differs numbers.now (number_in list.now at n behind) 0 }
-{
-    (0..numbers.len()).any(|i| usize::from(numbers[i]) != number_in(list, at, n, behind, i))
-}
-
-// The same for an array with a place for each cell, and 1024, which stands for none, behind its names.
-pub fn names_differ(list: &[u8], at: usize, n: usize, names: &[u16; 1024]) -> bool
-    requires { at ≤ length list.now }
-    ensures { result ≡ differs names.now (number_in list.now at n 1024) 0 }
-{
-    numbers_differ(list, at, n, names, 1024)
-}
-
-// The same for a buffer that was fresh, and nothing written behind its literals.
-pub fn literals_differ(list: &[u8], at: usize, n: usize, buffer: &[u16; 4096]) -> bool
-    requires { at ≤ length list.now }
-    ensures { result ≡ differs buffer.now (number_in list.now at n 65535) 0 }
-{
-    numbers_differ(list, at, n, buffer, 65535)
 }
 
 impl Run {
@@ -220,10 +139,17 @@ impl Run {
 }
 
 impl Tally {
-    // Nothing counted.
-    fn empty(at: usize, whole: bool) -> Tally
-        ensures { result ≡ empty_tally at whole }
+    // Of a list none of whose entries was met; so many bytes of its data come before them.
+    #[tactic(auto, using(std::proofs::lemmas::Bool::Decides::nat_tests))]
+    pub fn of(list: &[u8], before: usize) -> Tally
+        ensures { result ≡ tally_of list.now before }
     {
+        let start = data_start(list);
+        let (at, whole) = if start == 0 || list.len() - start < before {
+            (list.len(), false)
+        } else {
+            (start + before, true)
+        };
         Tally {
             entries: 0,
             parts: 0,
@@ -231,17 +157,6 @@ impl Tally {
             at,
             whole,
         }
-    }
-
-    // Of a list none of whose entries was met; so many bytes of its data come before them.
-    pub fn of(list: &[u8], before: usize) -> Tally
-        ensures { result ≡ tally_of list.now before }
-    {
-        let start = data_start(list);
-        if start == 0 || list.len() - start < before {
-            return Tally::empty(list.len(), false);
-        }
-        Tally::empty(start + before, true)
     }
 
     // With the entry at its place, in a list of this size. An entry that the list ends inside of is the last.
@@ -332,6 +247,89 @@ impl<'a> Cursor<'a> {
         let n = self.number()?;
         self.take(n)
     }
+
+    // Leaves the next n bytes out, or all that there are, where the list ends before them.
+    pub fn skip(&mut self, n: usize)
+        ensures same { self.new.list.now ≡ self.old.list.now }
+        ensures inside { self.old.at + n ≤ length self.old.list.now → self.new.at ≡ self.old.at + n }
+        ensures short { length self.old.list.now < self.old.at + n → self.new.at ≡ length self.old.list.now }
+    {
+        self.at += n.min(self.list.len() - self.at);
+    }
+
+    // The byte this many places on, 0 behind the end.
+    pub fn byte_at(self, offset: usize) -> usize
+        ensures { (result ≡ get_or self.entry.list.now (self.entry.at + offset) 0) × (result < 256) }
+    {
+        byte_at(&self.list[self.at..], offset)
+    }
+
+    // The u16 this many places on, with 0 for each byte behind the end.
+    #[tactic(auto, unfolding(crate::specs::Lists::number_at))]
+    pub fn number_at(self, offset: usize) -> usize
+        ensures { (result ≡ number_at self.entry.list.now (self.entry.at + offset)) × (result < 65536) }
+    {
+        number_at(&self.list[self.at..], offset)
+    }
+
+    // What stands at place i where the next n bytes stand from place `from` on, and this byte in every other place.
+    #[tactic(auto, using(std::proofs::lemmas::Bool::Decides::nat_tests), unfolding(crate::specs::Lists::byte_in))]
+    fn byte_in(self, n: usize, from: usize, other: u8, i: usize) -> usize
+        ensures { result ≡ byte_in self.entry.list.now self.entry.at n from other i }
+    {
+        if i < from || n <= i - from {
+            return usize::from(other);
+        }
+        self.byte_at(i - from)
+    }
+
+    // Whether the bytes are not, from place `from` on, the next n bytes of the list, and in every other place this one.
+    pub fn bytes_differ(self, n: usize, bytes: &[u8], from: usize, other: u8) -> bool
+        ensures { result ≡ differs bytes.now (byte_in self.entry.list.now self.entry.at n from other) 0 }
+    {
+        (0..bytes.len()).any(|i| usize::from(bytes[i]) != self.byte_in(n, from, other, i))
+    }
+
+    // Whether an array with a place for each cell differs from the next n bytes of the list, with this byte behind them.
+    pub fn cells_differ(self, n: usize, cells: &[u8; 1024], behind: u8) -> bool
+        ensures { result ≡ differs cells.now (byte_in self.entry.list.now self.entry.at n 0 behind) 0 }
+    {
+        self.bytes_differ(n, cells, 0, behind)
+    }
+
+    // What stands at place i where the next n numbers stand in the first places, and this number behind them.
+    #[tactic(auto, using(std::proofs::lemmas::Bool::Decides::nat_tests), unfolding(crate::specs::Lists::number_in))]
+    fn number_in(self, n: usize, behind: u16, i: usize) -> usize
+        requires { i < 4611686018427387904 }
+        ensures { result ≡ number_in self.entry.list.now self.entry.at n behind i }
+    {
+        if n <= i {
+            return usize::from(behind);
+        }
+        self.number_at(2 * i)
+    }
+
+    // Whether the numbers are not the next n numbers of the list, with this number behind them. It stays beside `bytes_differ`, which it is like in
+    // one line: one function of both would be lent what stands at each place by a closure, of which it had to promise what they promise.
+    pub fn numbers_differ(self, n: usize, numbers: &[u16], behind: u16) -> bool
+        ensures { result ≡ differs numbers.now (number_in self.entry.list.now self.entry.at n behind) 0 }
+    {
+        (0..numbers.len()).any(|i| usize::from(numbers[i]) != self.number_in(n, behind, i))
+    }
+
+    // The same for an array with a place for each cell, and 1024, which stands for none, behind its names.
+    pub fn names_differ(self, n: usize, names: &[u16; 1024]) -> bool
+        ensures { result ≡ differs names.now (number_in self.entry.list.now self.entry.at n 1024) 0 }
+    {
+        self.numbers_differ(n, names, 1024)
+    }
+
+    // The same for a buffer that was fresh, and nothing written behind its literals.
+    pub fn literals_differ(self, n: usize, buffer: &[u16; 4096]) -> bool
+        ensures { result ≡ differs buffer.now (number_in self.entry.list.now self.entry.at n 65535) 0 }
+    {
+        self.numbers_differ(n, buffer, NO_LITERAL)
+    }
 }
 
 // The entries of the lists that a program replays, with what a list says of all of them before the first.
@@ -349,10 +347,10 @@ pub trait Entries: Drop {
     // What the data of a list says before its entries.
     fn of(data: &[u8]) -> Self;
 
-    // Goes through the entry at `at`.
-    fn run(&self, list: &[u8], at: usize) -> Option<Run>
-        requires { at < length list.now }
-        ensures { counts self.now list.now at result };
+    // Goes through the entry at the cursor.
+    fn run(&self, cursor: Cursor<'_>) -> Option<Run>
+        requires { cursor.at < length cursor.list.now }
+        ensures { counts self.now cursor.entry.list.now cursor.entry.at result };
 }
 
 // Goes through the entries of a list.
@@ -362,32 +360,11 @@ fn go_through<E: Entries>(entries: &E, list: &[u8]) -> Tally
     let mut tally = Tally::of(list, E::BEFORE);
     // A `while`: where the next entry stands, each entry tells.
     while tally.at < list.len() {
-        let run = entries.run(list, tally.at).unwrap_or(Run::broken());
+        let cursor = Cursor { list, at: tally.at };
+        let run = entries.run(cursor).unwrap_or(Run::broken());
         tally = tally.with(run, list.len());
     }
     tally
-}
-
-// Reads the list on the input into the room, goes through its entries, and prints what was counted, with these words.
-fn replay_in<E: Entries, R: Read + Drop, W: Write>(
-    input: R,
-    room: &mut [u8; 524288],
-    output: &mut W,
-    entries: &str,
-    parts: &str,
-) -> io::Result<()>
-    ensures { OnOk result (IfSome (R.remaining input) (λ bytes. (found : E) × (tally : Tally)
-        × Through (E.counts found (take 524288 bytes)) (length (take 524288 bytes)) (tally_of (take 524288 bytes) E.BEFORE) tally
-        × Appends (W.contents output.old) (W.contents output.new) (tally_text tally entries.now parts.now))) }
-{
-    let list = read_list(input, room)?;
-    let found = E::of(&list[data_start(list)..]);
-    let report = Report {
-        tally: go_through(&found, list),
-        entries,
-        parts,
-    };
-    write!(output, "{report}")
 }
 
 // Replays the list on the input: goes through its entries, and prints what was counted, with a word for them and, where it is not empty, one
@@ -402,6 +379,14 @@ pub fn replay<E: Entries, R: Read + Drop, W: Write>(
         × Through (E.counts found (take 524288 bytes)) (length (take 524288 bytes)) (tally_of (take 524288 bytes) E.BEFORE) tally
         × Appends (W.contents output.old) (W.contents output.new) (tally_text tally entries.now parts.now))) }
 {
-    let mut room = room();
-    replay_in::<E, R, W>(input, &mut room, output, entries, parts)
+    // Room for the longest list.
+    let mut room = [0; 524288];
+    let list = text::read_into(input, &mut room)?;
+    let found = E::of(&list[data_start(list)..]);
+    let report = Report {
+        tally: go_through(&found, list),
+        entries,
+        parts,
+    };
+    write!(output, "{report}")
 }

@@ -16,6 +16,7 @@ use refusal::Refusal;
 const NO_GROUP: u16 = 1024;
 
 // Writes the two numbers of each cell below n, from the name of its block and the counts of squares by name.
+#[tactic(auto, using(crate::proofs::PairLaws::pairs_next, crate::proofs::PairLaws::pairs_none))]
 fn write_pairs(groups: &[u16; 1024], squares: &[u16; 1024], n: usize, shades: &mut [u16; 2048])
     requires { n ≤ 1024 }
     ensures { shades.new ≡ pairs_by groups.now squares.now n ++ drop (2 * n) shades.old }

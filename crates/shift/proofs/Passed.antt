@@ -28,7 +28,7 @@ pub block_few : (kinds passed : List ℕ) → length (block_of kinds passed) ≤
 block_few kinds passed = filter-length (λ i. eqb (get_or kinds i 0) 1) passed
 
 -- the whole chain's block cells are the block
-pub block_all : (kinds owners : List ℕ) (n f : ℕ) → block_of kinds (cells_from owners n f 0) ≡ block_in kinds owners n f
+block_all : (kinds owners : List ℕ) (n f : ℕ) → block_of kinds (cells_from owners n f 0) ≡ block_in kinds owners n f
 unfolding block_in
 block_all kinds owners n f = owned_both owners n f (λ i. eqb (get_or kinds i 0) 1)
 

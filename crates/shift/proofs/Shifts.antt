@@ -9,7 +9,7 @@ use mathlib.Core.Bool.{Bool, true, false, cond, false≢true}
 use mathlib.Core.List.{List, [], ◌∷◌, ◌++◌, map, map-append, append-nil, append_assoc, Memᴰ}
 use lib.Arith.{digits_lt}
 use lib.IntN.{ℤ}
-use lib.ListN.{length, get_or, set, drop, length-append, length-map, length-drop}
+use lib.ListN.{length, get_or, set, drop, length-append, length-map}
 use lib.Seq.{drop-cons, set_at, take_at, get_or-take}
 use Rattle.grid.specs.Lists.{all, upto, range, member}
 use Rattle.grid.specs.Grid.{Grid, size, row, col, cells_of}
@@ -41,7 +41,7 @@ count_if b i k e true = simp length-append (omega arith)
 count_if b i k e false = rw (append-nil b) e
 
 module _ (kinds owners : List ℕ) (f : ℕ) where
-  pub in_few : (n : ℕ) → length (block_in kinds owners n f) ≤ n
+  in_few : (n : ℕ) → length (block_in kinds owners n f) ≤ n
   unfolding block_in upto
   in_few n = omega (arith, filter-length (of_block kinds owners f) (range 0 n), length-range 0 n)
 
@@ -70,11 +70,6 @@ module _ {w : ℕ} {b r c r' c' : List ℕ} {k : ℕ} (q : Gathered w b r c r' c
     columns_are = rw q.columns_are (take_at (map (λ j. j % w) b) (drop k c) k (length-map b (λ j. j % w) ∙ sym q.many));
   }
 
--- as long as before
-pub Gathered-long : {w : ℕ} {b r c r' c' : List ℕ} {k : ℕ} → Gathered w b r c r' c' k → (n : ℕ) → length r ≡ n → length c ≡ n → k ≤ n → (length r' ≡ n) × (length c' ≡ n)
-Gathered-long {w} {b} {r} {c} {k = k} q n lr lc h =
-    (rw q.rows_are (simp (length-append, length-map, length-drop) (omega (arith, q.many, lr, h))), rw q.columns_are (simp (length-append, length-map, length-drop) (omega (arith, q.many, lc, h))))
-
 -- an entry
 module _ {w : ℕ} {b rows columns : List ℕ} {count : ℕ} (q : BlockPlaces w b rows columns count) (k : ℕ) (h : k < count) where
   row_at : get_or rows k 0 ≡ get_or b k 0 / w
@@ -84,7 +79,7 @@ module _ {w : ℕ} {b rows columns : List ℕ} {count : ℕ} (q : BlockPlaces w 
   column_at = sym (get_or-take count columns k 0 h) ∙ rw q.columns_are (map_at (λ j. j % w) b k (omega (arith, q.many)))
 
 -- they are rows and columns of the grid
-pub block_places : (h w : ℕ) {b rows columns : List ℕ} {count : ℕ} → count ≤ 1024 → ((i : ℕ) → Memᴰ i b → i < h * w)
+block_places : (h w : ℕ) {b rows columns : List ℕ} {count : ℕ} → count ≤ 1024 → ((i : ℕ) → Memᴰ i b → i < h * w)
     → BlockPlaces w b rows columns count → Places h w rows columns count
 unfolding size
 block_places h w {b} {count = count} few inside q = record {

@@ -2,12 +2,18 @@
 -- Assumes nothing.
 use Rattle.std.specs.Prelude.{ℕ, ◌/◌, ◌%◌, ◌≤◌, ◌<◌, ◌≡◌, Bool, false, List, ◌++◌, map, ℤ, pos, ◌-ℤ◌, length, get_or, take, drop, Option, Some, None}
 use Rattle.grid.specs.Lists.{upto, all, filter}
+use Rattle.kinds.specs.declared.BoardInfo.{BoardInfo}
+use Rattle.kinds.specs.Board.{cell_count}
 use Rattle.kinds.specs.Inside.{of_block}
 use Rattle.grid.specs.Side.{shifted_of}
 
 -- the cells of the arrow block named f among the first n, by their kinds and owners
 unfoldable pub block_in : List ℕ → List ℕ → ℕ → ℕ → List ℕ
 block_in kinds owners n f = filter (of_block kinds owners f) (upto n)
+
+-- the same of a board
+abbrev pub block_on : BoardInfo → ℕ → List ℕ
+block_on info = block_in info.kinds.now info.owners.now (cell_count info)
 
 -- the rows and the columns of the cells b stand in the first places of two arrays, and nothing behind them changed
 pub record Gathered (w : ℕ) (b rows columns rows' columns' : List ℕ) (count : ℕ) : Type 0 where

@@ -1,20 +1,18 @@
 // The shift test of reason 3: whether some shift of one arrow block lies wholly in the reach of another.
 #![tactic(auto)]
 
-ghost use Rattle.std.specs.Prelude.{◌≡◌, cond, List, ℕ, ◌+◌, ◌*◌, ◌/◌, ◌%◌, ◌<◌, length, get_or, set};
+ghost use Rattle.std.specs.Prelude.{◌≡◌, cond, List, ℕ, ◌+◌, ◌*◌, ◌/◌, ◌%◌, ◌<◌, length, set};
 ghost use Rattle.std.specs.Int.Signed.{mag};
 ghost use Rattle.grid.specs.Lists.{any};
-ghost use Rattle.grid.specs.Side.{sized, shifted_of};
-ghost use Rattle.kinds.specs.Kinds.{view, block};
-ghost use Rattle.kinds.specs.Inside.{puzzle_with, Held};
-ghost use Rattle.groups.specs.Arrays.{Names};
-ghost use Rattle.reach.specs.Near.{SquaresOf, NearFloats};
+ghost use Rattle.kinds.specs.Kinds.{block};
+ghost use Rattle.kinds.specs.Board.{cell_count, board_with, KindsAre, NamesBlock};
+ghost use Rattle.reach.specs.Board.{BlockSize};
 ghost use Rattle.shift.specs.Fits.{shift_fits};
-ghost use Rattle.shift.specs.Shift.{block_in, Gathered, Places, BlockPlaces, lands_in};
+ghost use Rattle.shift.specs.Shift.{block_on, Gathered, Places, BlockPlaces, lands_in};
 
 use kinds::ARROW_BLOCK;
-use near::Floats;
 use reach::Linked;
+use reach::near::{self, Floats};
 
 // What the shift test works in, whatever stands there: floating groups, and the rows and the columns of a block's cells.
 #[derive(Drop)]
@@ -76,11 +74,9 @@ fn gather_block(
     rows: &mut [u16; 1024],
     columns: &mut [u16; 1024],
 )
-    requires name { f < linked.now.info.grid.height * linked.now.info.grid.width }
-    requires all { count ≡ length (block_in linked.now.info.kinds.now linked.now.info.owners.now (linked.now.info.grid.height * linked.now.info.grid.width) f) }
-    ensures { Gathered linked.now.info.grid.width
-        (block_in linked.now.info.kinds.now linked.now.info.owners.now (linked.now.info.grid.height * linked.now.info.grid.width) f)
-        rows.old columns.old rows.new columns.new count }
+    requires name { f < cell_count linked.now.info }
+    requires all { count ≡ length (block_on linked.now.info f) }
+    ensures { Gathered linked.now.info.grid.width (block_on linked.now.info f) rows.old columns.old rows.new columns.new count }
 {
     let mut k = 0;
     let mut i = usize::from(linked.head[usize::from(f)]);
@@ -99,13 +95,13 @@ fn gather_block(
 }
 
 impl ShiftTest<'_, '_> {
-    ghost use Rattle.shift.specs.Test.{in_reach, fits_by, fits_at, group};
+    ghost use Rattle.shift.specs.Test.{board, HasPlace, shifted, in_reach, fits_by, fits_at, group};
 
     // Whether the cell at row y, column x comes into the reach by the offset.
     fn lands_in(&self, y: usize, x: usize, dy: i32, dx: i32) -> bool
-        requires place { (y < self.now.block.linked.info.grid.height) × (x < self.now.block.linked.info.grid.width) }
+        requires place { HasPlace self.now y x }
         requires offsets { (mag dy < 1024) × (mag dx < 1024) }
-        ensures { result ≡ lands_in (in_reach self.now) (shifted_of self.now.block.linked.info.grid.height self.now.block.linked.info.grid.width y x dy dx) }
+        ensures { result ≡ lands_in (in_reach self.now) (shifted self.now y x dy dx) }
     {
         let info = self.block.linked.info;
         match info.grid.shifted(y, x, dy, dx) {
@@ -131,7 +127,7 @@ impl ShiftTest<'_, '_> {
 
     // Whether the shift that takes the block's first cell to cell t takes all of its cells into the reach.
     fn fits_at(&self, t: usize) -> bool
-        requires cell { t < self.now.block.linked.info.grid.height * self.now.block.linked.info.grid.width }
+        requires cell { t < cell_count (board self.now) }
         ensures { result ≡ fits_at self.now t }
     {
         let w = self.block.linked.info.grid.width;
@@ -161,14 +157,12 @@ impl Block<'_, '_> {
     // Whether some shift of the block, whose first cell is f, lies wholly in the reach of the block named e. The reach has the cells of the chain of that block and
     // those of the chains of the floating groups near it.
     fn fits(&self, f: usize, e: u16, floats: &mut Floats<'_>) -> bool
-        requires first { f < self.now.linked.info.grid.height * self.now.linked.info.grid.width }
+        requires first { f < cell_count self.now.linked.info }
         requires name { e < 1024 }
-        ensures { (lines : List (List ℕ)) (cells : List ℕ)
-            → Held (view (puzzle_with (sized self.now.linked.info.grid.height self.now.linked.info.grid.width) lines) cells) self.now.linked.info.kinds.now self.now.linked.info.owners.now
-            → get_or self.now.linked.info.kinds.now e 0 ≡ 1
-            → BlockPlaces self.now.linked.info.grid.width (block (view (puzzle_with (sized self.now.linked.info.grid.height self.now.linked.info.grid.width) lines) cells) f)
-            self.now.rows.now self.now.columns.now self.now.count
-            → result ≡ shift_fits (view (puzzle_with (sized self.now.linked.info.grid.height self.now.linked.info.grid.width) lines) cells) f e }
+        ensures { let info = self.now.linked.info in (lines : List (List ℕ)) (cells : List ℕ) → KindsAre info (board_with info lines cells)
+            → NamesBlock info e
+            → BlockPlaces info.grid.width (block (board_with info lines cells) f) self.now.rows.now self.now.columns.now self.now.count
+            → result ≡ shift_fits (board_with info lines cells) f e }
     {
         let total = near::near_floats(&self.linked, e, floats);
         let groups = &*floats.groups;
@@ -199,12 +193,10 @@ pub fn shift_fits(
     e: u16,
     work: &mut Work<'_>,
 ) -> bool
-    requires blocks { (f < linked.now.info.grid.height * linked.now.info.grid.width) × (e < 1024) }
-    requires squares { SquaresOf linked.now.info.kinds.now linked.now.info.owners.now (linked.now.info.grid.height * linked.now.info.grid.width) squares.now f }
-    ensures { (lines : List (List ℕ)) (cells : List ℕ)
-        → Held (view (puzzle_with (sized linked.now.info.grid.height linked.now.info.grid.width) lines) cells) linked.now.info.kinds.now linked.now.info.owners.now
-        → get_or linked.now.info.kinds.now e 0 ≡ 1
-        → result ≡ shift_fits (view (puzzle_with (sized linked.now.info.grid.height linked.now.info.grid.width) lines) cells) f e }
+    requires blocks { (f < cell_count linked.now.info) × (e < 1024) }
+    requires squares { BlockSize linked.now.info squares.now f }
+    ensures { let info = linked.now.info in (lines : List (List ℕ)) (cells : List ℕ) → KindsAre info (board_with info lines cells)
+        → NamesBlock info e → result ≡ shift_fits (board_with info lines cells) f e }
 {
     let count = usize::from(squares[usize::from(f)]);
     gather_block(linked, f, count, work.rows, work.columns);

@@ -137,11 +137,11 @@ module _ {h w : ℕ} {lines : List (List ℕ)} {lows highs cells kinds owners : 
       taken = square_taken cells (h * w) i on ∙ filled
 
       -- the name of its block stands in the array, and is a cell of an arrow block
-      pub size_owner : get_or owners i 0 ≡ block_name board i
+      size_owner : get_or owners i 0 ≡ block_name board i
       unfolding size block_name
       size_owner = rw b.held.owner (owner_is (puzzle_with (sized h w) lines) (take (h * w) cells) i on taken (b.sizes.are_on_arrow i inside sizes))
 
-      pub size_name : get_or owners i 0 < h * w
+      size_name : get_or owners i 0 < h * w
       unfolding size block_name
       size_name = rw size_owner (name_inside (puzzle_with (sized h w) lines) (take (h * w) cells) i on taken (b.sizes.are_on_arrow i inside sizes))
 

@@ -16,7 +16,6 @@ use Rattle.grid.specs.Lists.{all, upto}
 use Rattle.grid.specs.Grid.{size}
 use Rattle.grid.proofs.ListLaws.{and-true, true-and, all-mem, mem-all, at_mem, mem_at, mem-upto, upto-mem, flat_map-mem, mem-flat_map}
 use Rattle.grid.proofs.AppendLaws.{same_test}
-use Rattle.grid.proofs.MarkLaws.{mark_is}
 use Rattle.record.specs.Record.{Puzzle}
 use Rattle.record.specs.Valid.{ValidArrows}
 use Rattle.record.specs.Arrows.{on_arrow}
@@ -26,7 +25,6 @@ use Rattle.record.proofs.SizesLaws.{arrow_So, So-arrow, kept_mem, kept_Rising}
 use Rattle.form.specs.Form.{long, behind}
 use Rattle.sizes.specs.Kept.{size_at, lowest_of, highest_of}
 use Rattle.sizes.specs.Form.{SizeArrays, sized_cell, sizes_formed}
-use Rattle.sizes.specs.Inside.{MarkedAll}
 use Rattle.sizes.proofs.KeptLaws.{NotAt, size_none, array_at, array_long, kept_some}
 
 -- ---- the test
@@ -73,12 +71,6 @@ module _ (arrows : List (List ℕ)) (lows highs : List ℕ) where
 -- ---- the code's way
 
 module _ (on : ℕ → Bool) (lows highs : List ℕ) where
-  -- by the mark of a cell
-  pub cell_marked : {marks : List ℕ} → MarkedAll marks on → (i : ℕ) → i < 1024
-      → cond (eqb (get_or lows i 0) 0) (eqb (get_or highs i 0) 0) (leb (get_or lows i 0) (get_or highs i 0) && eqb (get_or marks i 0) 1) ≡ sized_cell on lows highs i
-  unfolding sized_cell
-  cell_marked m i h = rw (mark_is m.marks_are i h) refl
-
   -- where no cell has a lowest size
   pub all_bare : length lows ≡ 1024 → length highs ≡ 1024 → behind 0 0 lows ≡ true → behind 0 0 highs ≡ all (sized_cell on lows highs) (upto 1024)
   unfolding behind sized_cell

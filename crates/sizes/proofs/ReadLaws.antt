@@ -10,7 +10,7 @@ use mathlib.Core.Bool.{Bool, true, false, ◌&&◌}
 use mathlib.Core.List.Memᴰ
 use mathlib.Core.List.{List, [], ◌∷◌, ◌++◌, append_assoc, append-nil, Memᴰ}
 use lib.Dec.{eqb, leb}
-use lib.ListN.{length, get_or, drop, set, replicate, length-drop, drop_of_length-le}
+use lib.ListN.{length, get_or, drop, set, length-drop, drop_of_length-le}
 use lib.Seq.{drop-cons}
 use borrow.Author.Tests.{lt-leb, le-leb, leb-true, eqb-true, ne_eqb, eq-eqb}
 use Rattle.std.proofs.lemmas.List.{get_or_past}
@@ -26,7 +26,7 @@ use Rattle.record.specs.Leaf.{Range, range_at, range_test, ranges_from, sizes_of
 use Rattle.sizes.specs.Kept.{lowest_of, highest_of}
 use Rattle.sizes.specs.Bytes.{numbers_in, sizes_in}
 use Rattle.sizes.specs.Inside.{MarkedAll, ranges_said, sizes_said}
-use Rattle.sizes.proofs.KeptLaws.{array_none, array_put}
+use Rattle.sizes.proofs.KeptLaws.{array_put}
 
 -- ---- the test of one range, a law for each way out of the code
 
@@ -35,39 +35,39 @@ module _ (marks : List ℕ) (from cell least most : ℕ) where
   abbrev here : Range
   here = range_at cell least most
 
-  pub test_unmarked : (get_or marks cell 0 ≡ 1 → ⊥) → range_test (marked marks) from here ≡ false
-  unfolding range_test marked
+  pub test_unmarked : (get_or marks cell 0 ≡ 1 → ⊥) → unless (range_test (marked marks) from here) 22 ≡ refused 22
+  unfolding range_test marked unless
   test_unmarked n = rw (ne_eqb (get_or marks cell 0) 1 n) (go (leb 1 least && leb least most) (leb from cell))
     where
-      go : (a b : Bool) → ((a && false) && b) ≡ false
+      go : (a b : Bool) → unless ((a && false) && b) 22 ≡ refused 22
       go true b = refl
       go false b = refl
 
-  pub test_off : length marks ≤ cell → range_test (marked marks) from here ≡ false
+  pub test_off : length marks ≤ cell → unless (range_test (marked marks) from here) 22 ≡ refused 22
   test_off h = test_unmarked (λ e. omega (arith, e, get_or_past marks cell 0 h))
 
-  pub test_below : cell < from → range_test (marked marks) from here ≡ false
-  unfolding range_test
+  pub test_below : cell < from → unless (range_test (marked marks) from here) 22 ≡ refused 22
+  unfolding range_test unless
   test_below h = rw (lt-leb from cell h) (go (leb 1 least && leb least most && marked marks cell))
     where
-      go : (a : Bool) → (a && false) ≡ false
+      go : (a : Bool) → unless (a && false) 22 ≡ refused 22
       go true = refl
       go false = refl
 
-  pub test_zero : least ≡ 0 → range_test (marked marks) from here ≡ false
-  unfolding range_test
+  pub test_zero : least ≡ 0 → unless (range_test (marked marks) from here) 22 ≡ refused 22
+  unfolding range_test unless
   test_zero e = rw e refl
 
-  pub test_down : most < least → range_test (marked marks) from here ≡ false
-  unfolding range_test
+  pub test_down : most < least → unless (range_test (marked marks) from here) 22 ≡ refused 22
+  unfolding range_test unless
   test_down h = rw (lt-leb least most h) (go (leb 1 least) (marked marks cell) (leb from cell))
     where
-      go : (a b c : Bool) → (((a && false) && b) && c) ≡ false
+      go : (a b c : Bool) → unless (((a && false) && b) && c) 22 ≡ refused 22
       go true b c = refl
       go false b c = refl
 
-  pub test_passed : get_or marks cell 0 ≡ 1 → from ≤ cell → (least ≡ 0 → ⊥) → least ≤ most → range_test (marked marks) from here ≡ true
-  unfolding range_test marked
+  pub test_passed : get_or marks cell 0 ≡ 1 → from ≤ cell → (least ≡ 0 → ⊥) → least ≤ most → unless (range_test (marked marks) from here) 22 ≡ ok 0
+  unfolding range_test marked unless
   test_passed e f n k = rw (le-leb 1 least (omega (arith, n)), le-leb least most k, eq-eqb (get_or marks cell 0) 1 e, le-leb from cell f) refl
 
   -- a range that passes is on the grid, at `from` or behind it
@@ -93,10 +93,10 @@ pub record Amid (whole rest : Outcome (List Range)) (from : ℕ) (lowest highest
   pub below : (r : Range) → Memᴰ r ranges → r.cell < from
 
 -- at the start
-pub Amid-start : (whole : Outcome (List Range)) {lowest highest : List ℕ} → lowest ≡ replicate 1024 0 → highest ≡ replicate 1024 0 → Amid whole whole 0 lowest highest
+pub Amid-start : (whole : Outcome (List Range)) {lowest highest : List ℕ} → (lowest ≡ lowest_of []) × (highest ≡ highest_of []) → Amid whole whole 0 lowest highest
 unfolding ◌>>=◌
-Amid-start (ok rs) l h = record { ranges = []; same = refl; lowest_are = l ∙ array_none (λ r. r.lowest); highest_are = h ∙ array_none (λ r. r.highest); below = λ r m. absurd (Memᴰ.not-nil m) }
-Amid-start (refused k) l h = record { ranges = []; same = refl; lowest_are = l ∙ array_none (λ r. r.lowest); highest_are = h ∙ array_none (λ r. r.highest); below = λ r m. absurd (Memᴰ.not-nil m) }
+Amid-start (ok rs) k = record { ranges = []; same = refl; lowest_are = k.0; highest_are = k.1; below = λ r m. absurd (Memᴰ.not-nil m) }
+Amid-start (refused j) k = record { ranges = []; same = refl; lowest_are = k.0; highest_are = k.1; below = λ r m. absurd (Memᴰ.not-nil m) }
 
 -- a range behind others, and the ranges behind it
 joined : (before : List Range) (r : Range) (o : Outcome (List Range)) → ((o >>= λ rs. ok (r ∷ rs)) >>= λ rs. ok (before ++ rs)) ≡ (o >>= λ rs. ok ((before ++ (r ∷ [])) ++ rs))

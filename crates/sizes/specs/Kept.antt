@@ -1,8 +1,9 @@
 -- Sizes as a board keeps them: the lowest and the highest of each cell in two arrays, with 0 at every cell that has none.
 -- Assumes nothing.
-use Rattle.std.specs.Prelude.{ℕ, cond, List, [], ◌∷◌, map, eqb}
+use Rattle.std.specs.Prelude.{ℕ, ◌≡◌, cond, List, [], ◌∷◌, map, eqb}
 use Rattle.grid.specs.Lists.{upto}
 use Rattle.record.specs.Leaf.{Range}
+use Rattle.sizes.specs.declared.CellSizes.{CellSizes}
 
 -- one end of the range beside the cell i, 0 where no range has it
 unfoldable pub size_at : (Range → ℕ) → List Range → ℕ → ℕ
@@ -19,3 +20,7 @@ lowest_of = size_array (λ (r : Range). r.lowest)
 
 abbrev pub highest_of : List Range → List ℕ
 highest_of = size_array (λ (r : Range). r.highest)
+
+-- the two arrays keep the ranges
+abbrev pub Keeps : List Range → CellSizes → Type 0
+Keeps rs sizes = (sizes.lowest ≡ lowest_of rs) × (sizes.highest ≡ highest_of rs)

@@ -2,7 +2,7 @@
 // And the edition that a puzzle is played in.
 #![tactic(auto)]
 
-ghost use Rattle.std.specs.Prelude.{◌≡◌, ◌≤◌, ◌*◌, cond, ◌&&◌, ℕ, List, eqb, leb, length, replicate, set, take};
+ghost use Rattle.std.specs.Prelude.{◌≡◌, ◌≤◌, ◌*◌, cond, ◌&&◌, ℕ, List, [], eqb, leb, length, set, take};
 ghost use Rattle.refusal.specs.Refusals.{Outcome, ok};
 ghost use Rattle.fields.specs.Fields.{unless};
 ghost use Rattle.fields.specs.Inside.{Agrees};
@@ -15,7 +15,7 @@ ghost use Rattle.sizes.specs.Edition.{EditionOf, edition_number};
 ghost use Rattle.sizes.specs.Bytes.{numbers_in};
 ghost use Rattle.sizes.specs.Form.{sized_cell};
 ghost use Rattle.sizes.specs.Lent.{ArrowArrays, SizesOn};
-ghost use Rattle.sizes.specs.Kept.{lowest_of, highest_of};
+ghost use Rattle.sizes.specs.Kept.{Keeps};
 ghost use Rattle.sizes.specs.Inside.{Drawn, HasNumber, number_at, ranges_said, sizes_said};
 
 use grid::Grid;
@@ -150,84 +150,93 @@ struct SizeRange {
     most: u16,
 }
 
-// Puts one range into the arrays, if it may stand: it sits on an arrow, its cell is `from` or more, it does not start at 0 and is not upside down.
-fn take_range(
-    marks: &[u8; 1024],
-    from: usize,
-    range: SizeRange,
-    lowest: &mut [u16; 1024],
-    highest: &mut [u16; 1024],
-) -> Result<(), Refusal>
-    ensures { Agrees (unless (range_test (marked marks.now) from (range_at range.cell range.least range.most)) 22)
-        (λ _ _. (lowest.new ≡ set lowest.old range.cell range.least) × (highest.new ≡ set highest.old range.cell range.most)) result }
-{
-    let SizeRange { cell, least, most } = range;
-    if 1024 <= cell {
-        return Err(Refusal::Sizes);
-    }
-    if marks[cell] != 1 {
-        return Err(Refusal::Sizes);
-    }
-    if cell < from {
-        return Err(Refusal::Sizes);
-    }
-    if least == 0 {
-        return Err(Refusal::Sizes);
-    }
-    if most < least {
-        return Err(Refusal::Sizes);
-    }
-    lowest[cell] = least;
-    highest[cell] = most;
-    Ok(())
+// The lowest and the highest size of each cell, 0 at one that has none.
+#[derive(Clone, Copy, Debug, PartialEq, Eq)]
+pub struct CellSizes {
+    pub lowest: [u16; 1024],
+    pub highest: [u16; 1024],
 }
 
-// Reads the ranges in the numbers, three numbers each, up to the first that may not stand.
-fn take_ranges<N: Numbers>(
-    numbers: &N,
-    marks: &[u8; 1024],
-    lowest: &mut [u16; 1024],
-    highest: &mut [u16; 1024],
-) -> Result<(), Refusal>
-    requires { (lowest.old ≡ replicate 1024 0) × (highest.old ≡ replicate 1024 0) }
-    ensures { Agrees (ranges_said (marked marks.now) (N.numbers numbers.now)) (λ rs _. (lowest.new ≡ lowest_of rs) × (highest.new ≡ highest_of rs)) result }
-{
-    let count = numbers.count()?;
-    let mut from = 0;
-    for k in 0..count / 3 {
-        let range = SizeRange {
-            cell: usize::from(numbers.number(3 * k)),
-            least: numbers.number(3 * k + 1),
-            most: numbers.number(3 * k + 2),
-        };
-        take_range(marks, from, range, lowest, highest)?;
-        from = range.cell + 1;
+impl CellSizes {
+    // Those of cells that have none.
+    #[tactic(auto, using(crate::proofs::KeptLaws::array_none))]
+    fn none() -> CellSizes
+        ensures { Keeps [] result }
+    {
+        CellSizes {
+            lowest: [0; 1024],
+            highest: [0; 1024],
+        }
     }
-    if count % 3 != 0 {
-        return Err(Refusal::Sizes);
-    }
-    Ok(())
-}
 
-// Reads the sizes of a puzzle into the arrays, which are empty before: cell, lowest and highest for each, cells rising. Refused: a list that
-// ends inside a range, or a range that starts at 0, is upside down, sits off an arrow or doesn't rise above the cell before it.
-pub fn read<N: Numbers>(
-    problem: &Problem,
-    numbers: &N,
-    lowest: &mut [u16; 1024],
-    highest: &mut [u16; 1024],
-) -> Result<(), Refusal>
-    requires drawn { (p : Puzzle) × Drawn p problem.now.arrows problem.now.ends problem.now.count }
-    requires fresh { (lowest.old ≡ replicate 1024 0) × (highest.old ≡ replicate 1024 0) }
-    ensures { (p : Puzzle) → Drawn p problem.now.arrows problem.now.ends problem.now.count
-        → Agrees (sizes_said p (N.numbers numbers.now)) (λ rs _. (lowest.new ≡ lowest_of rs) × (highest.new ≡ highest_of rs)) result }
-{
-    if numbers.count()? == 0 {
-        return Ok(());
+    // Reads the sizes of a puzzle: cell, lowest and highest for each, cells rising. Refused: a list that ends inside a range, or a range that starts at
+    // 0, is upside down, sits off an arrow or doesn't rise above the cell before it.
+    pub fn read<N: Numbers>(problem: &Problem, numbers: &N) -> Result<CellSizes, Refusal>
+        requires drawn { (p : Puzzle) × Drawn p problem.now.arrows problem.now.ends problem.now.count }
+        ensures { (p : Puzzle) → Drawn p problem.now.arrows problem.now.ends problem.now.count
+            → Agrees (sizes_said p (N.numbers numbers.now)) Keeps result }
+    {
+        if numbers.count()? == 0 {
+            return Ok(CellSizes::none());
+        }
+        let mut marks = [0; 1024];
+        groups::mark_arrow_cells(&problem.arrows, problem.arrow_total(), &mut marks);
+        CellSizes::read_ranges(numbers, &marks)
     }
-    let mut marks = [0; 1024];
-    groups::mark_arrow_cells(&problem.arrows, problem.arrow_total(), &mut marks);
-    take_ranges(numbers, &marks, lowest, highest)
+
+    // Reads the ranges in the numbers, three numbers each, up to the first that may not stand.
+    fn read_ranges<N: Numbers>(numbers: &N, marks: &[u8; 1024]) -> Result<CellSizes, Refusal>
+        ensures { Agrees (ranges_said (marked marks.now) (N.numbers numbers.now)) Keeps result }
+    {
+        let count = numbers.count()?;
+        let mut sizes = CellSizes::none();
+        let mut from = 0;
+        for k in 0..count / 3 {
+            let range = SizeRange {
+                cell: usize::from(numbers.number(3 * k)),
+                least: numbers.number(3 * k + 1),
+                most: numbers.number(3 * k + 2),
+            };
+            sizes.take_range(marks, from, range)?;
+            from = range.cell + 1;
+        }
+        if count % 3 != 0 {
+            return Err(Refusal::Sizes);
+        }
+        Ok(sizes)
+    }
+
+    // Puts one range beside its cell, if it may stand: it sits on an arrow, its cell is `from` or more, it does not start at 0 and is not upside down.
+    #[tactic(auto, using(crate::proofs::ReadLaws::test_off, crate::proofs::ReadLaws::test_unmarked, crate::proofs::ReadLaws::test_below, crate::proofs::ReadLaws::test_zero, crate::proofs::ReadLaws::test_down, crate::proofs::ReadLaws::test_passed))]
+    fn take_range(
+        &mut self,
+        marks: &[u8; 1024],
+        from: usize,
+        range: SizeRange,
+    ) -> Result<(), Refusal>
+        ensures { Agrees (unless (range_test (marked marks.now) from (range_at range.cell range.least range.most)) 22)
+            (λ _ _. (self.new.lowest ≡ set self.old.lowest range.cell range.least) × (self.new.highest ≡ set self.old.highest range.cell range.most)) result }
+    {
+        let SizeRange { cell, least, most } = range;
+        if 1024 <= cell {
+            return Err(Refusal::Sizes);
+        }
+        if marks[cell] != 1 {
+            return Err(Refusal::Sizes);
+        }
+        if cell < from {
+            return Err(Refusal::Sizes);
+        }
+        if least == 0 {
+            return Err(Refusal::Sizes);
+        }
+        if most < least {
+            return Err(Refusal::Sizes);
+        }
+        self.lowest[cell] = least;
+        self.highest[cell] = most;
+        Ok(())
+    }
 }
 
 // ---- the test of the arrays
@@ -245,20 +254,8 @@ fn sized(mark: u8, low: u16, high: u16) -> bool
     mark == 1
 }
 
-// Whether each cell may have its sizes. A pass without a way out is done many places at a time.
-fn all_sized(marks: &[u8; 1024], lowest: &[u16; 1024], highest: &[u16; 1024]) -> bool
-    ensures { result ≡ all (sized_cell (marked marks.now) lowest.now highest.now) (upto 1024) }
-{
-    let mut good = true;
-    for i in 0..1024 {
-        if !sized(marks[i], lowest[i], highest[i]) {
-            good = false;
-        }
-    }
-    good
-}
-
 // Whether the arrays keep sizes that may stand on a puzzle. Where no cell has a lowest size, as on a leaf without sizes, its arrows are not asked for.
+// They come apart, since the fields of a board are so for C, and are passed over to the end, which is done many places at a time.
 pub fn may_stand(problem: &Problem, lowest: &[u16; 1024], highest: &[u16; 1024]) -> bool
     requires drawn { (p : Puzzle) × Drawn p problem.now.arrows problem.now.ends problem.now.count }
     ensures { (p : Puzzle) → Drawn p problem.now.arrows problem.now.ends problem.now.count
@@ -269,5 +266,11 @@ pub fn may_stand(problem: &Problem, lowest: &[u16; 1024], highest: &[u16; 1024])
     }
     let mut marks = [0; 1024];
     groups::mark_arrow_cells(&problem.arrows, problem.arrow_total(), &mut marks);
-    all_sized(&marks, lowest, highest)
+    let mut good = true;
+    for i in 0..1024 {
+        if !sized(marks[i], lowest[i], highest[i]) {
+            good = false;
+        }
+    }
+    good
 }

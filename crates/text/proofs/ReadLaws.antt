@@ -7,8 +7,6 @@ use lib.ListN.{length, take}
 use lib.Seq.{take-add, take-append-le, drop_at, length-take-le}
 use borrow.Rule.Slice.PartMut.{put_mid, post_of, take_put}
 use Rattle.std.specs.declared.option.Option.{Option}
-use Rattle.std.specs.declared.option.Option.TheVariants.{None, Some}
-use Rattle.std.specs.Prelude.{IfSome}
 use Rattle.std.specs.Io.KnownBytes.{Consumes}
 use Rattle.std.proofs.KnownBytes.{Consumes-trans}
 
@@ -21,9 +19,3 @@ module _ (a k n : ℕ) (room piece : List ℕ) (before : a ≤ length room) (wit
   -- both were taken from the input
   pub taken_on : (x y z : Option (List ℕ)) → Consumes x y (take a room) → Consumes y z (take n piece) → Consumes x z (take (a + n) (put_mid a k room piece))
   taken_on x y z p q = subst (Consumes x z) read_on (Consumes-trans x y z (take a room) (take n piece) p q)
-
--- what is read of known bytes into a room of so many places
-pub read_known : (known : Option (List ℕ)) (n k places m : ℕ) (room : List ℕ) → IfSome known (λ bytes. take n room ≡ take places bytes)
-    → n ≡ k → places ≡ m → IfSome known (λ bytes. take k room ≡ take m bytes)
-read_known None n k places m room h e f = tt
-read_known (Some bytes) n k places m room h e f = sym (ap (λ i. take i room) e) ∙ h ∙ ap (λ i. take i bytes) f

@@ -19,6 +19,7 @@ fn read_once<R: Read>(input: &mut R, room: &mut [u8]) -> io::Result<usize>
     ensures taken { IfOk result (λ n. Consumes (R.remaining input.old) (R.remaining input.new) (take n room.new)) }
     ensures end { IfOk result (λ n. n ≡ 0 → 0 < length room.old → IsAtEnd (R.remaining input.new)) }
 {
+    // A bound that no input comes near, and no `loop`: a loop has to end, and nothing says how often a read may be interrupted.
     for _ in 0..u64::MAX {
         match input.read(room) {
             Ok(n) => return Ok(n),
@@ -60,7 +61,7 @@ pub fn read_into<R: Read + Drop, const N: usize>(
     Ok(&room[..n])
 }
 
-// The last four digits of a number that has more.
+// The last four digits of a number that has more, as the definition has them. No refusal has so many, and no caller has to prove that.
 #[tactic(auto, using(crate::proofs::ToldLaws::digits_above))]
 fn last_digits(n: usize) -> [u8; 4]
     requires { 10000 ≤ n }

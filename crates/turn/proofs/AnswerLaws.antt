@@ -43,10 +43,10 @@ unfolding flip_if
 flip_left k p v h = rw (So-false (leb 4 k) (λ t. let z = leb-true 4 k t in omega arith)) (sym (stay_same p v))
 
 -- quarter turns one by one
-pub spun-Valid : (r : ℕ) (p : Puzzle) → Valid p → Valid (spun r p)
+pub spun_Valid : (r : ℕ) (p : Puzzle) → Valid p → Valid (spun r p)
 unfolding spun
-spun-Valid zero p v = v
-spun-Valid (suc r) p v = Valid-by (spun r p) (spun-Valid r p v) (quarter (spun r p).grid) (quarter-Turns (spun r p).grid)
+spun_Valid zero p v = v
+spun_Valid (suc r) p v = Valid-by (spun r p) (spun_Valid r p v) (quarter (spun r p).grid) (quarter-Turns (spun r p).grid)
 
 pub spun_none : (p : Puzzle) → p ≡ spun 0 p
 unfolding spun

@@ -3,7 +3,6 @@ pub mod InverseLaws
 pub mod PuzzleLaws
 pub mod BackLaws
 pub mod StepLaws
-pub mod CellLaws
 pub mod ArrayLaws
 pub mod AnswerLaws
 pub mod Leaves

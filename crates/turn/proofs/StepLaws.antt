@@ -1,17 +1,13 @@
--- Turning step by step, and in arrays: what the code does.
+-- Turning step by step: what the code does.
 -- Assumes nothing.
 use Prim.Native.Nat.{ℕ, zero, suc, ◌%◌, ◌<◌}
 use native.Mathlib.Omega.{arith}
 use mathlib.Core.Path.{◌≡◌, refl, sym, ap, ◌∙◌}
 use mathlib.Core.List.{List, [], ◌∷◌, map, map-map}
 use lib.Dec.{leb}
-use lib.ListN.{length, get_or, length-map}
 use lib.Seq.{ext_get_or}
-use Rattle.grid.specs.Lists.{array_of, upto}
-use Rattle.grid.specs.Grid.{Grid, size, cells_of}
+use Rattle.grid.specs.Grid.{Grid, size}
 use Rattle.record.specs.Record.{Puzzle}
-use Rattle.record.specs.Problem.{ends_from, arrow_cells, problem_of}
-use Rattle.writer.proofs.ArrayLaws.{ends_map, cells_map}
 use Rattle.turn.specs.Turn.{Turn, quarter, then, quarters, flip_if, turning, carried, turned_by, turned}
 use Rattle.turn.specs.Inside.{spun}
 use Rattle.turn.proofs.TurnLaws.{Turns, quarter-Turns}
@@ -43,15 +39,3 @@ spun_by p (suc r) m = puzzle_then p (quarters r m) quarter (quarter-Turns (quart
 pub turned_steps : (k : ℕ) (p : Puzzle) → turned k p ≡ spun (k % 4) (turned_by (flip_if (leb 4 k) p.grid) p)
 unfolding turned turning
 turned_steps k p = spun_by p (k % 4) (flip_if (leb 4 k) p.grid)
-
--- a turned puzzle in arrays: codes from where they come, arrow cells to where they go, and the ends as they are
-pub problem_turned : (m : Turn) (p : Puzzle) → problem_of (turned_by m p) ≡ record {
-  height = m.grid.height;
-  width = m.grid.width;
-  cells = array_of 0 (map (λ j. get_or p.given (m.from j) 0) (upto (size m.grid)));
-  arrows = array_of 0 (map m.to (arrow_cells p.arrows));
-  ends = array_of 0 (ends_from 0 p.arrows);
-  count = length p.arrows;
-}
-unfolding problem_of carried cells_of
-problem_turned m p = rw (ends_map m.to 0 p.arrows, cells_map m.to p.arrows, length-map p.arrows (map m.to))

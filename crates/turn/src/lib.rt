@@ -2,15 +2,16 @@
 #![tactic(auto)]
 
 ghost use Rattle.std.specs.Prelude.{◌≡◌, map, ℕ, ◌+◌, ◌-◌, ◌*◌, ◌≤◌, ◌<◌, leb, length, get_or};
-ghost use Rattle.grid.specs.Lists.{upto, array_of};
-ghost use Rattle.grid.specs.Side.{sized, InGrid, InPlace};
+ghost use Rattle.grid.specs.Lists.{array_of};
+ghost use Rattle.grid.specs.Side.{sized};
 ghost use Rattle.record.specs.Record.{Puzzle};
 ghost use Rattle.record.specs.Valid.{Valid};
 ghost use Rattle.record.specs.Problem.{problem_of};
 ghost use Rattle.exported.specs.Written.{written, output_with, Writes};
-ghost use Rattle.turn.specs.Turn.{turned_by, flip_if, turned, turn_record};
+ghost use Rattle.turn.specs.Turn.{turned_by, carried, flip_if, turned, turn_record};
 ghost use Rattle.turn.specs.Inside.{step_of, spun};
 
+use grid::Grid;
 use record::Problem;
 use refusal::Refusal;
 
@@ -21,12 +22,12 @@ enum Move {
     Flip,
 }
 
-// The cell at a row and a column.
-fn cell_at(height: usize, width: usize, y: usize, x: usize) -> usize
-    requires { InPlace height width y x }
-    ensures { (result ≡ y * width + x) × (result < 1024) }
+// The cell at row y, column x.
+fn cell_at(grid: Grid, y: usize, x: usize) -> usize
+    requires { (y < grid.height) × (x < grid.width) }
+    ensures { (result ≡ y * grid.width + x) × (result < 1024) }
 {
-    y * width + x
+    y * grid.width + x
 }
 
 // As far from the end as x is from the start.
@@ -37,63 +38,77 @@ fn mirrored(x: usize, n: usize) -> usize
     n - 1 - x
 }
 
+// Rows for columns.
+fn swapped(grid: Grid) -> Grid
+    ensures { (result.height ≡ grid.width) × (result.width ≡ grid.height) }
+{
+    Grid {
+        height: grid.width,
+        width: grid.height,
+    }
+}
+
 impl Move {
-    // The height and the width of the moved grid.
-    fn sides(self, height: usize, width: usize) -> (usize, usize)
-        ensures { result ≡ ((step_of self (sized height width)).grid.height, (step_of self (sized height width)).grid.width) }
+    // The moved grid.
+    fn to_grid(self, grid: Grid) -> Grid
+        ensures { sized result.height result.width ≡ (step_of self (sized grid.height grid.width)).grid }
     {
         match self {
-            Move::Quarter => (width, height),
-            Move::Flip => (height, width),
+            Move::Quarter => swapped(grid),
+            Move::Flip => grid,
         }
     }
 
     // The cell that the cell i goes to.
     #[tactic(auto, unfolding(crate::specs::Turn::flip_cell, crate::specs::Turn::quarter_cell, grid::specs::Grid::row, grid::specs::Grid::col))]
-    fn to_cell(self, height: usize, width: usize, i: usize) -> usize
-        requires { InGrid height width i }
-        ensures { (result ≡ (step_of self (sized height width)).to i) × (result < 1024) }
+    fn to_cell(self, grid: Grid, i: usize) -> usize
+        requires { i < grid.height * grid.width }
+        ensures { (result ≡ (step_of self (sized grid.height grid.width)).to i) × (result < 1024) }
     {
-        let y = i / width;
-        let x = i % width;
+        let y = i / grid.width;
+        let x = i % grid.width;
         match self {
-            Move::Quarter => cell_at(width, height, x, mirrored(y, height)),
-            Move::Flip => cell_at(height, width, y, mirrored(x, width)),
+            Move::Quarter => cell_at(swapped(grid), x, mirrored(y, grid.height)),
+            Move::Flip => cell_at(grid, y, mirrored(x, grid.width)),
         }
     }
 
     // The cell that comes to the cell j.
     #[tactic(auto, unfolding(crate::specs::Turn::flip_cell, crate::specs::Turn::quarter_from, grid::specs::Grid::row, grid::specs::Grid::col))]
-    fn from_cell(self, height: usize, width: usize, j: usize) -> usize
-        requires { InGrid height width j }
-        ensures { (result ≡ (step_of self (sized height width)).from j) × (result < 1024) }
+    fn from_cell(self, grid: Grid, j: usize) -> usize
+        requires { j < grid.height * grid.width }
+        ensures { (result ≡ (step_of self (sized grid.height grid.width)).from j) × (result < 1024) }
     {
         match self {
-            Move::Quarter => cell_at(height, width, mirrored(j % height, height), j / height),
-            Move::Flip => cell_at(height, width, j / width, mirrored(j % width, width)),
+            Move::Quarter => {
+                let y = mirrored(j % grid.height, grid.height);
+                cell_at(grid, y, j / grid.height)
+            }
+            Move::Flip => cell_at(grid, j / grid.width, mirrored(j % grid.width, grid.width)),
         }
     }
 
     // The codes of the cells, each at its new place.
-    fn codes(self, height: usize, width: usize, cells: &[u8; 1024]) -> [u8; 1024]
-        requires { (height ≤ 32) × (width ≤ 32) }
-        ensures { result ≡ array_of 0 (map (λ j. get_or cells.now ((step_of self (sized height width)).from j) 0) (upto (height * width))) }
+    #[tactic(auto, using(grid::proofs::FilledLaws::filled_more))]
+    fn codes(self, grid: Grid, cells: &[u8; 1024]) -> [u8; 1024]
+        ensures { result ≡ array_of 0 (carried (step_of self (sized grid.height grid.width)) cells.now) }
     {
         let mut moved = [0; 1024];
-        for j in 0..height * width {
-            moved[j] = cells[self.from_cell(height, width, j)];
+        for j in 0..grid.size() {
+            moved[j] = cells[self.from_cell(grid, j)];
         }
         moved
     }
 
     // The cells of the arrows, moved.
-    fn line(self, height: usize, width: usize, line: &[u16; 1024], total: usize) -> [u16; 1024]
-        requires { (height ≤ 32) × (width ≤ 32) × (total ≤ 1024) × ((t : ℕ) → t < total → get_or line.now t 0 < height * width) }
-        ensures { result ≡ array_of 0 (map (λ t. (step_of self (sized height width)).to (get_or line.now t 0)) (upto total)) }
+    #[tactic(auto, using(crate::proofs::ArrayLaws::moved_more))]
+    fn line(self, grid: Grid, line: &[u16]) -> [u16; 1024]
+        requires { (length line.now ≤ 1024) × ((t : ℕ) → t < length line.now → get_or line.now t 0 < grid.height * grid.width) }
+        ensures { result ≡ array_of 0 (map (step_of self (sized grid.height grid.width)).to line.now) }
     {
         let mut moved = [0; 1024];
-        for t in 0..total {
-            moved[t] = self.to_cell(height, width, usize::from(line[t])) as u16;
+        for (t, &cell) in line.iter().enumerate() {
+            moved[t] = self.to_cell(grid, usize::from(cell)) as u16;
         }
         moved
     }
@@ -103,13 +118,17 @@ impl Move {
         requires { (p : Puzzle) × Valid p × (problem.now ≡ problem_of p) }
         ensures { (p : Puzzle) → Valid p → problem.now ≡ problem_of p → result ≡ problem_of (turned_by (step_of self p.grid) p) }
     {
+        let grid = Grid {
+            height: problem.height,
+            width: problem.width,
+        };
+        let moved = self.to_grid(grid);
         let total = problem.arrow_total();
-        let (height, width) = self.sides(problem.height, problem.width);
-        let cells = self.codes(problem.height, problem.width, &problem.cells);
-        let arrows = self.line(problem.height, problem.width, &problem.arrows, total);
+        let cells = self.codes(grid, &problem.cells);
+        let arrows = self.line(grid, &problem.arrows[..total]);
         Problem {
-            height,
-            width,
+            height: moved.height,
+            width: moved.width,
             cells,
             arrows,
             ends: problem.ends,
@@ -119,6 +138,7 @@ impl Move {
 }
 
 // The problem, flipped where k is 4 or more.
+#[tactic(auto, using(crate::proofs::AnswerLaws::flip_taken, crate::proofs::AnswerLaws::flip_left))]
 fn flipped(problem: Problem, k: u32) -> Problem
     requires { (p : Puzzle) × Valid p × (problem ≡ problem_of p) }
     ensures { (p : Puzzle) → Valid p → problem ≡ problem_of p → result ≡ problem_of (turned_by (flip_if (leb 4 k) p.grid) p) }
@@ -130,6 +150,7 @@ fn flipped(problem: Problem, k: u32) -> Problem
 }
 
 // The problem after some quarter turns.
+#[tactic(auto, using(crate::proofs::AnswerLaws::spun_none, crate::proofs::AnswerLaws::spun_more, crate::proofs::AnswerLaws::spun_Valid))]
 fn spin(problem: Problem, times: u32) -> Problem
     requires { (p : Puzzle) × Valid p × (problem ≡ problem_of p) }
     ensures { (p : Puzzle) → Valid p → problem ≡ problem_of p → result ≡ problem_of (spun times p) }
@@ -142,6 +163,7 @@ fn spin(problem: Problem, times: u32) -> Problem
 }
 
 // The problem, turned by k.
+#[tactic(auto, using(crate::proofs::StepLaws::turned_steps, crate::proofs::AnswerLaws::flipped_Valid))]
 fn turn_problem(problem: Problem, k: u32) -> Problem
     requires { (p : Puzzle) × Valid p × (problem ≡ problem_of p) }
     ensures { (p : Puzzle) → Valid p → problem ≡ problem_of p → result ≡ problem_of (turned k p) }

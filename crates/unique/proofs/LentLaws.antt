@@ -24,12 +24,12 @@ use Rattle.record.specs.Leaf.{Leaf}
 use Rattle.groups.specs.Arrays.{lines_of}
 use Rattle.literals.specs.Literals.{Found}
 use Rattle.literals.specs.Inside.{count_of, FoundAs}
-use Rattle.inconsistency.specs.Reasons.{find_reason}
+use Rattle.reasons.specs.Reasons.{find_reason}
 use Rattle.sizes.specs.LeafOf.{leaf_of}
 use Rattle.sizes.specs.declared.LentLeaf.{LentLeaf}
 use Rattle.finished.specs.Finished.{finished_test}
-use Rattle.call.specs.Inside.{Told}
-use Rattle.call.proofs.Opening.{returned_refused}
+use Rattle.calls.specs.Inside.{Told}
+use Rattle.calls.proofs.Opening.{returned_refused}
 use Rattle.certificate.specs.Certificate.{words_of, whole_words, claimed, headed, step_from}
 use Rattle.unique.specs.Unique.{base_cell, base_of, two_open, lonely, has_reason, refuted, close_of, step_of, steps_of, solution_or, check_on, unique_returned}
 use Rattle.unique.proofs.HeadLaws.{claimed_long}

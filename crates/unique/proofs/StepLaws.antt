@@ -64,14 +64,6 @@ step_Answer n base ws at =
     assumed (inl e) = inl (omega arith)
     assumed (inr e) = inr (omega arith, omega arith)
 
--- so it is a small number
-pub step_small : (n : ℕ) (base ws : List ℕ) (at : ℕ) → (step_from n base ws at).0 ≤ 28
-step_small n base ws at = go (step_Answer n base ws at)
-  where
-    go : Answer (step_from n base ws at) → (step_from n base ws at).0 ≤ 28
-    go (inl a) = omega arith
-    go (inr a) = omega arith
-
 module _ (l : Leaf) (s : State) where
   -- a clause is false
   pub close_clash : s.0 ≡ 1 → 0 ≡ close_of l s

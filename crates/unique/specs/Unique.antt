@@ -8,9 +8,9 @@ use Rattle.grid.specs.Cells.{potential}
 use Rattle.record.specs.Record.{Outcome, ok, refused, ◌>>=◌, unless}
 use Rattle.record.specs.Leaf.{Leaf}
 use Rattle.literals.specs.Literals.{Found}
-use Rattle.inconsistency.specs.Reasons.{find_reason}
+use Rattle.reasons.specs.Reasons.{find_reason}
 use Rattle.finished.specs.Finished.{Finished, finished_test}
-use Rattle.call.specs.Call.{leaf_from}
+use Rattle.calls.specs.Call.{leaf_from}
 use Rattle.certificate.specs.Certificate.{words_of, whole_words, width, next, State, step_from, claimed, headed}
 
 -- ---- a step

@@ -1,16 +1,18 @@
 // The call `evolmino_unique`: a record is opened in an edition with sizes, and a certificate that its leaf has one solution only is checked.
 #![tactic(auto)]
 
-ghost use Rattle.std.specs.Prelude.{◌≡◌, true, ℕ, ◌+◌, ◌*◌, ◌≤◌, length};
+ghost use Rattle.std.specs.Prelude.{◌≡◌, true, ℕ};
 ghost use Rattle.std.specs.Result.{ForOk};
 ghost use Rattle.refusal.specs.Refusals.{returned_of};
 ghost use Rattle.sizes.specs.LeafOf.{leaf_of};
+ghost use Rattle.reasons.specs.Lent.{HasRoom};
 ghost use Rattle.certificate.specs.Certificate.{words_of};
 ghost use Rattle.certificate.specs.Inside.{refusal_number};
 ghost use Rattle.unique.specs.Unique.{base_cell, base_of, refuted, step_of, steps_of, check_on, host_unique, unique_returned};
 
-use call::Question;
+use calls::Question;
 use certificate::Closing;
+use record::{BLACK, GIVEN};
 use refusal::Refusal;
 use sizes::LentLeaf;
 
@@ -20,13 +22,13 @@ fn base_cell(code: u8) -> u8
     ensures { result ≡ base_cell code }
 {
     match code {
-        1 => 0,
-        2 => 1,
-        _ => 2,
+        BLACK => grid::EMPTY,
+        GIVEN => grid::SQUARE,
+        _ => grid::UNDECIDED,
     }
 }
 
-// The cells that the leaf decides.
+// The cells that the leaf decides. No zip: of the cells that it lends to be written a proof knows nothing afterwards.
 #[tactic(auto, using(grid::proofs::FilledLaws::filled_none, grid::proofs::FilledLaws::filled_more))]
 fn base_cells(leaf: &LentLeaf<'_>) -> [u8; 1024]
     ensures { result ≡ base_of (leaf_of leaf.now) }
@@ -41,13 +43,13 @@ fn base_cells(leaf: &LentLeaf<'_>) -> [u8; 1024]
 
 // Whether no finished board of the leaf has these cells: an arrow is short of two squares, or there is a reason. The reason is left in the buffer and read by nobody.
 fn is_refuted(leaf: &LentLeaf<'_>, cells: &[u8; 1024], buffer: &mut [u16]) -> bool
-    requires { 3 * (leaf.now.problem.now.height * leaf.now.problem.now.width) + 1 ≤ length buffer.old }
+    requires { HasRoom leaf.now buffer.old }
     ensures { result ≡ refuted (leaf_of leaf.now) cells.now }
 {
     if !finished::two_on_each(leaf.problem, |i| cells[i] != grid::EMPTY) {
         return true;
     }
-    inconsistency::find_inconsistency(leaf, cells, buffer).is_some()
+    reasons::inconsistency::find_inconsistency(leaf, cells, buffer).is_some()
 }
 
 // Checks the step at a place: it closes, or it is refused.
@@ -57,7 +59,7 @@ fn check_step(
     at: usize,
     buffer: &mut [u16],
 ) -> Result<(), Refusal>
-    requires { 3 * (leaf.now.problem.now.height * leaf.now.problem.now.width) + 1 ≤ length buffer.old }
+    requires { HasRoom leaf.now buffer.old }
     ensures { refusal_number result ≡ step_of (leaf_of leaf.now) (words_of certificate.now) at }
 {
     let mut cells = base_cells(leaf);
@@ -99,11 +101,11 @@ fn check_steps(leaf: &LentLeaf<'_>, certificate: &[u8]) -> Result<(), Refusal>
 
 // The check of a certificate for a leaf: 1 where it is accepted; a claimed solution that is not finished is refused, and then a step.
 #[derive(Clone, Copy)]
-struct Check<'a> {
+struct CheckCertificate<'a> {
     certificate: &'a [u8],
 }
 
-impl Question for Check<'_> {
+impl Question for CheckCertificate<'_> {
     ghost told = { λ check l before after answer.
         (returned_of answer ≡ unique_returned (check_on check.certificate.now l)) × (after ≡ before) };
 
@@ -125,11 +127,17 @@ impl Question for Check<'_> {
     }
 }
 
-// Opens the record in an edition with sizes, as `host_find::find_with` does, and checks a certificate that the leaf has one solution only. Returns 1 where it is accepted, and then the
+// Opens the record in an edition with sizes, as `calls::first_reason::find_with` does, and checks a certificate that the leaf has one solution only. Returns 1 where it is accepted, and then the
 // claimed solution is finished and every finished board of the leaf is it; or the negated number of a refusal: 1 to 5 for the record, 16 for another edition than 1 and 2, 22 for sizes
 // that may not stand, 23 to 30 for the certificate.
 pub fn unique(record: &[u8], edition: u32, sizes: &[u8], certificate: &[u8]) -> i32
     ensures { result ≡ unique_returned (host_unique «record».now edition sizes.now certificate.now) }
 {
-    refusal::returned(call::ask(record, edition, sizes, &Check { certificate }, &mut []))
+    refusal::returned(calls::ask(
+        record,
+        edition,
+        sizes,
+        &CheckCertificate { certificate },
+        &mut [],
+    ))
 }

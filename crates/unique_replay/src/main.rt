@@ -6,7 +6,7 @@
 // 256 less the number of the refusal. A number has its high byte first.
 #![tactic(auto)]
 
-ghost use Rattle.std.specs.Prelude.{◌<◌, ◌≡◌};
+ghost use Rattle.std.specs.Prelude.{◌≡◌};
 ghost use Rattle.replay.specs.Comparisons.{DiffersUnless};
 ghost use Rattle.unique_replay.specs.Certificates.{expected, CallSo, EntrySo};
 
@@ -14,25 +14,18 @@ use replay::{Cursor, Entries, Run};
 use std::io;
 
 // The number that this byte of a list stands for.
-fn expected_number(answer: usize) -> i32
-    requires { answer < 256 }
+#[tactic(auto, using(std::proofs::lemmas::Bool::Decides::nat_tests), unfolding(crate::specs::Certificates::expected))]
+fn expected_number(answer: u8) -> i32
     ensures { result ≡ expected answer }
 {
     if answer == 1 {
         return 1;
     }
-    grid::offset(256, answer)
+    i32::from(answer) - 256
 }
 
 // Whether the check of a certificate returns another number than this byte of a list stands for.
-fn call_differs(
-    record: &[u8],
-    edition: u32,
-    sizes: &[u8],
-    certificate: &[u8],
-    answer: usize,
-) -> bool
-    requires { answer < 256 }
+fn call_differs(record: &[u8], edition: u32, sizes: &[u8], certificate: &[u8], answer: u8) -> bool
     ensures { DiffersUnless result (CallSo «record».now edition sizes.now certificate.now answer) }
 {
     unique::unique(record, edition, sizes, certificate) != expected_number(answer)
@@ -53,13 +46,12 @@ impl Entries for Certificates {
         Certificates
     }
 
-    fn run(&self, list: &[u8], at: usize) -> Option<Run> {
-        let mut cursor = Cursor { list, at };
+    fn run(&self, mut cursor: Cursor<'_>) -> Option<Run> {
         let bytes = cursor.counted()?;
         let edition = u32::from(cursor.byte()?);
         let sizes = cursor.counted()?;
         let certificate = cursor.counted()?;
-        let answer = usize::from(cursor.byte()?);
+        let answer = cursor.byte()?;
         let differs = call_differs(bytes, edition, sizes, certificate, answer);
         Some(Run::of(differs, cursor.at))
     }

@@ -26,6 +26,7 @@ struct PotentialGroup<'a> {
 
 impl PotentialGroup<'_> {
     // Whether cell i touches the group.
+    #[tactic(auto, using(grid::proofs::AroundLaws::side_cell, grid::proofs::SideLaws::cell_small))]
     fn touches(&self, i: usize) -> bool
         requires { i < self.now.grid.height * self.now.grid.width }
         ensures { result ≡ any (λ j. eqb (get_or self.now.labels.now j 0) self.now.name) (neighbours (sized self.now.grid.height self.now.grid.width) i) }

@@ -30,7 +30,7 @@ use Rattle.paths.specs.Paths.{reason2}
 use Rattle.growth.specs.Growth.{block_name as view_name, gap, most_apart, reason3_at, reason4a_at, reason4b_at, reason4_at, reason34}
 use Rattle.growth.proofs.Gap.{most_apart_lem}
 use Rattle.sized.specs.Sized.{reason_low, reason_high, reason5_at, reason5}
-use Rattle.inconsistency.specs.Reasons.{find_reason}
+use Rattle.reasons.specs.Reasons.{find_reason}
 use Rattle.reasons.proofs.Sound1.{filled_So}
 use Rattle.reasons.proofs.Sound2.{Two-of}
 use Rattle.reasons.proofs.Quiet12.{quiet_1, quiet_2}

@@ -13,7 +13,7 @@ use Rattle.record.proofs.LineLaws.{valid_arrows}
 use Rattle.record.specs.Leaf.{Range, Leaf}
 use Rattle.record.proofs.LeafLaws.{ValidLeaf}
 use Rattle.kinds.specs.Meaning.{Setting}
-use Rattle.inconsistency.specs.Reasons.{find_reason}
+use Rattle.reasons.specs.Reasons.{find_reason}
 use Rattle.embed.proofs.InverseLaws.{back, away, home, back_embeds}
 use Rattle.verdict.specs.Applies.{Lone, TwoArrowCells, Unshiftable, Misgrown, OutOfRange, Applies, first, second, third, fourth, fifth}
 use Rattle.verdict.specs.Isomorphism.{range_to, Isomorphism, SameReasons}

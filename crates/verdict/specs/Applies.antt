@@ -22,7 +22,7 @@ use Rattle.paths.specs.Paths.{reason2}
 use Rattle.growth.specs.Growth.{most_apart, reason3_at, reason4_at}
 use Rattle.growth.specs.Gap.{Most}
 use Rattle.sized.specs.Sized.{reason5}
-use Rattle.inconsistency.specs.Reasons.{find_reason}
+use Rattle.reasons.specs.Reasons.{find_reason}
 
 -- so many cells of the grid of p satisfy P
 abbrev pub Size : Puzzle → (ℕ → Type 0) → ℕ → Type 0

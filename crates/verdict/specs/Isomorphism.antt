@@ -5,7 +5,7 @@ use mathlib.Core.List.{List, map, Memᴰ}
 use Rattle.std.proofs.Math.Option.{none}
 use Rattle.grid.specs.Grid.{size}
 use Rattle.record.specs.Leaf.{Range, Leaf}
-use Rattle.inconsistency.specs.Reasons.{find_reason}
+use Rattle.reasons.specs.Reasons.{find_reason}
 use Rattle.embed.specs.Embedding.{Embedding}
 use Rattle.verdict.specs.Applies.{Lone, TwoArrowCells, Unshiftable, Misgrown, OutOfRange}
 

@@ -4,34 +4,22 @@ use Prim.Native.Nat.{ℕ, ◌+◌, ◌*◌, ◌≤◌, ◌<◌}
 use native.Mathlib.Omega.{arith}
 use mathlib.Core.Path.{◌≡◌, refl, sym, ap, subst, ◌∙◌}
 use mathlib.Core.List.{List, [], ◌∷◌, map, map-append}
-use lib.ListN.{length, get_or, take, length-map}
-use lib.Seq.{ext_get_or}
-use Rattle.grid.specs.Lists.{upto, last, flat_map, array_of}
+use lib.ListN.{length, get_or, length-map}
+use Rattle.grid.specs.Lists.{last, flat_map}
 use Rattle.grid.specs.Grid.{size}
-use Rattle.grid.proofs.ListLaws.{length-map-upto, map-upto_at, map_at, at_mem}
+use Rattle.grid.proofs.ListLaws.{at_mem}
 use Rattle.grid.proofs.ArrayLaws.{array_length, array_in}
 use Rattle.fields.specs.Fields.{bytes_for}
 use Rattle.record.specs.Record.{Puzzle}
 use Rattle.record.specs.Head.{head_bits}
 use Rattle.record.specs.Valid.{Valid}
-use Rattle.record.specs.Problem.{ends_from, arrow_cells, problem_of}
+use Rattle.record.specs.Problem.{ends_from, arrow_cells, problem_of, total_of}
 use Rattle.record.specs.declared.Problem.{Problem}
 use Rattle.record.proofs.FreshLaws.{arrows_length}
 use Rattle.record.proofs.ProblemLaws.{length_ends}
 use Rattle.record.proofs.RecordLaws.{Valid-size}
 use Rattle.record.proofs.LinesLaws.{Lines-of}
 use Rattle.form.proofs.ProblemForm.{ends_taken, last_end, line_below}
-
--- how many cells the arrows have together
-abbrev pub total : List ℕ → ℕ → ℕ
-total ends count = last 0 (take count ends)
-
--- a mapped list by its places
-pub map_places : (f : ℕ → ℕ) (l : List ℕ) → map (λ t. f (get_or l t 0)) (upto (length l)) ≡ map f l
-map_places f l = ext_get_or 0 (map (λ t. f (get_or l t 0)) (upto (length l))) (map f l) (length-map-upto (λ t. f (get_or l t 0)) (length l) ∙ sym (length-map l f))
-    λ i h.
-    let b : i < length l = omega (arith, length-map-upto (λ t. f (get_or l t 0)) (length l)) in
-    map-upto_at (λ t. f (get_or l t 0)) (length l) i 0 b ∙ sym (map_at f l i b)
 
 -- arrows with every cell moved: the ends stay, and so does the order of the cells
 pub ends_map : (f : ℕ → ℕ) (at : ℕ) (as' : List (List ℕ)) → ends_from at (map (map f) as') ≡ ends_from at as'
@@ -50,17 +38,19 @@ pub record Parts (q : Problem) : Type 0 where
   pub wide : q.width ≤ 32
   pub few : q.count ≤ 1024
   pub ended : q.count ≤ length q.ends
-  pub short : total q.ends q.count ≤ 1024
-  pub cells : (t : ℕ) → t < total q.ends q.count → get_or q.arrows t 0 < q.height * q.width
+  pub short : total_of q ≤ 1024
+  pub cells : (t : ℕ) → t < total_of q → get_or q.arrows t 0 < q.height * q.width
 
 module _ (p : Puzzle) (v : Valid p) where
-  pub total_is : total (array_of 0 (ends_from 0 p.arrows)) (length p.arrows) ≡ length (arrow_cells p.arrows)
+  -- how many cells the arrows have together
+  pub total_is : total_of (problem_of p) ≡ length (arrow_cells p.arrows)
+  unfolding problem_of
   total_is = ap (last 0) (ends_taken p v) ∙ last_end p v
 
   -- how many bytes the record has
-  pub length_in : (q : Problem) → q ≡ problem_of p → bytes_for (21 + 2 * (q.height * q.width) + 18 * q.count + 2 * total q.ends q.count) ≡ bytes_for (head_bits p)
+  pub length_in : (q : Problem) → q ≡ problem_of p → bytes_for (21 + 2 * (q.height * q.width) + 18 * q.count + 2 * total_of q) ≡ bytes_for (head_bits p)
   unfolding head_bits problem_of size
-  length_in q e = ap (λ (x : Problem). bytes_for (21 + 2 * (x.height * x.width) + 18 * x.count + 2 * total x.ends x.count)) e
+  length_in q e = ap (λ (x : Problem). bytes_for (21 + 2 * (x.height * x.width) + 18 * x.count + 2 * total_of x)) e
       ∙ ap (λ (n : ℕ). bytes_for (21 + 2 * (p.grid.height * p.grid.width) + 18 * length p.arrows + 2 * n)) total_is
 
   pub few : length (arrow_cells p.arrows) ≤ 1024

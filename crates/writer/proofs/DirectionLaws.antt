@@ -1,6 +1,6 @@
 -- The code of a step, by the indexes of its cells.
 -- Assumes nothing.
-use Prim.Native.Nat.{ℕ, ◌+◌, ◌%◌, ◌<◌}
+use Prim.Native.Nat.{ℕ, ◌+◌, ◌*◌, ◌%◌, ◌<◌}
 use native.Mathlib.Omega.{arith}
 use native.Mathlib.Nat.{mod-le}
 use mathlib.Core.Path.{◌≡◌, refl}
@@ -34,9 +34,9 @@ module _ (g : Grid) (i j : ℕ) where
   unfolding up
   up_not n = only_out (λ t e. let z = leb-true g.width i t in n (omega arith))
 
-  down_is : j < size g → j ≡ i + g.width → member j (down g i) ≡ true
-  unfolding down
-  down_is l e = only_in (lt-ltb (i + g.width) (size g) (omega arith)) e
+  down_is : j < g.height * g.width → j ≡ i + g.width → member j (down g i) ≡ true
+  unfolding down size
+  down_is l e = only_in (lt-ltb (i + g.width) (g.height * g.width) (omega arith)) e
 
   down_not : (j ≡ i + g.width → ⊥) → member j (down g i) ≡ false
   unfolding down
@@ -58,7 +58,7 @@ module _ (g : Grid) (i j : ℕ) where
   code_up e = rw (up_is e)
 
   module _ (n : j + g.width ≡ i → ⊥) where
-    pub code_down : j < size g → j ≡ i + g.width → 1 ≡ direction g i j
+    pub code_down : j < g.height * g.width → j ≡ i + g.width → 1 ≡ direction g i j
     unfolding direction
     code_down l e = rw (up_not n, down_is l e)
 

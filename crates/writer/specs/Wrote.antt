@@ -1,12 +1,13 @@
 -- Bits written to the front of lent bytes.
 -- Assumes nothing.
-use Rattle.std.specs.Prelude.{ℕ, ◌+◌, ◌-◌, ◌*◌, ◌/◌, ◌^◌, ◌≤◌, ◌<◌, ◌≡◌, List, ◌++◌, length, get_or, drop}
-use Rattle.grid.specs.Lists.{flat_map, upto}
-use Rattle.grid.specs.Grid.{Grid, row, col}
-use Rattle.grid.specs.Side.{sized}
+use Rattle.std.specs.Prelude.{ℕ, ◌+◌, ◌*◌, ◌/◌, ◌-◌, ◌^◌, ◌≤◌, ◌<◌, ◌≡◌, List, ◌++◌, length, get_or, drop}
+use Rattle.grid.specs.Grid.{Grid}
 use Rattle.record.specs.Record.{Puzzle}
-use Rattle.record.specs.Lines.{start_at}
-use Rattle.record.specs.Write.{value_of, bits_of, direction, write_record}
+use Rattle.record.specs.Problem.{total_of}
+use Rattle.record.specs.declared.Problem.{Problem}
+use Rattle.record.specs.Lines.{Lines}
+use Rattle.record.specs.Write.{value_of, write_record}
+use Rattle.writer.specs.declared.BitWriter.{BitWriter}
 
 -- the bits b stand at the front of `new`, most significant first, with zeros behind them in their last byte; the other bytes are those of `old`
 pub record Wrote (old b new : List ℕ) : Type 0 where
@@ -18,46 +19,36 @@ pub record Wrote (old b new : List ℕ) : Type 0 where
 abbrev pub put_byte : ℕ → ℕ → ℕ → ℕ
 put_byte r v x = v / (2 * 2 ^ (7 - r)) * (2 * 2 ^ (7 - r)) + 2 ^ (7 - r) * x
 
--- the bits c are written behind the first `at` bits, whatever these are, and `end` is the place behind them
-pub record Appends (at : ℕ) (c entry exit : List ℕ) (end : ℕ) : Type 0 where
-  pub place : end ≡ at + length c
-  pub long : length exit ≡ length entry
-  pub wrote : (old b : List ℕ) → length b ≡ at → Wrote old b entry → Wrote old (b ++ c) exit
+-- the k bits c are written behind the first bits of the record, whatever these are
+pub record Appends (k : ℕ) (c : List ℕ) (old new : BitWriter) : Type 0 where
+  pub same : new.out.ghost_name ≡ old.out.ghost_name
+  pub many : length c ≡ k
+  pub place : new.at ≡ old.at + k
+  pub long : length new.out.now ≡ length old.out.now
+  pub wrote : (before b : List ℕ) → length b ≡ old.at → Wrote before b old.out.now → Wrote before (b ++ c) new.out.now
 
--- n more bits find room behind the first `at`
-pub record Room (at n : ℕ) (out : List ℕ) : Type 0 where
-  pub fits : at + n ≤ 8 * length out
-  pub small : at + n ≤ 65536
+-- k bits more find room, and can be counted
+abbrev pub Room : BitWriter → ℕ → Type 0
+Room writer k = (writer.at + k ≤ 8 * length writer.out.now) × (writer.at + k ≤ 65536)
 
--- an arrow of some steps stands in the line from the place `from` on
-pub record OnLine (height width : ℕ) (line : List ℕ) (from steps : ℕ) : Type 0 where
-  pub tall : height ≤ 32
-  pub some : 0 < width
-  pub wide : width ≤ 32
-  pub ends : from + steps < 1024
-  pub cells : (k : ℕ) → k ≤ steps → get_or line (from + k) 0 < height * width
+-- at least one cell, and each one of the grid
+pub record IsArrow (g : Grid) (arrow : List ℕ) : Type 0 where
+  pub some : 0 < length arrow
+  pub cells : (k : ℕ) → k < length arrow → get_or arrow k 0 < g.height * g.width
 
--- the bits of its step t
-abbrev pub step_piece : Grid → List ℕ → ℕ → ℕ → List ℕ
-step_piece g line from t = bits_of (direction g (get_or line (from + t) 0) (get_or line (from + t + 1) 0)) 2
+-- how many bits the arrows of a problem have
+abbrev pub arrows_size : Problem → ℕ
+arrows_size q = 18 * q.count + 2 * total_of q
 
--- the bits of the arrow
-unfoldable pub arrow_piece : Grid → List ℕ → ℕ → ℕ → List ℕ
-arrow_piece g line from steps =
-    bits_of (row g (get_or line from 0)) 5 ++ (bits_of (col g (get_or line from 0)) 5 ++ (bits_of steps 10 ++ flat_map (step_piece g line from) (upto steps)))
+-- how many bits all its fields have
+abbrev pub fields_size : Problem → ℕ
+fields_size q = 21 + 2 * (q.height * q.width) + 18 * q.count + 2 * total_of q
 
--- the bits of arrow k
-abbrev pub line_piece : Grid → List ℕ → List ℕ → ℕ → List ℕ
-line_piece g line ends k = arrow_piece g line (start_at ends k) (get_or ends k 0 - start_at ends k - 1)
-
--- all fields of a record that is kept in arrays
-unfoldable pub field_bits : ℕ → ℕ → List ℕ → List ℕ → List ℕ → ℕ → List ℕ
-field_bits h w cells line ends count =
-    bits_of (h - 1) 5
-    ++ (bits_of (w - 1) 5
-    ++ (bits_of count 11
-    ++ (flat_map (λ i. bits_of (get_or cells i 0) 2) (upto (h * w))
-    ++ flat_map (line_piece (sized h w) line ends) (upto count))))
+-- the arrows of a problem stand in its line, and all its fields find room
+pub record Ready (q : Problem) (writer : BitWriter) : Type 0 where
+  pub high : 0 < q.height
+  pub lines : Lines q.height q.width q.arrows q.ends q.count
+  pub room : Room writer (fields_size q)
 
 -- the record of the puzzle stands at the front of `new`, the bytes behind it are those of `old`, and n is its length
 pub record Recorded (p : Puzzle) (old new : List ℕ) (n : ℕ) : Type 0 where

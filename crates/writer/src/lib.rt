@@ -1,17 +1,27 @@
 // Writing a record: fields of a few bits, most significant bit first, into a lent slice.
 #![tactic(auto)]
 
-ghost use Rattle.std.specs.Prelude.{◌≡◌, [], ◌∷◌, ◌+◌, ◌-◌, ◌*◌, ◌^◌, ◌≤◌, ◌<◌, length, get_or};
-ghost use Rattle.grid.specs.Lists.{flat_map, upto};
+ghost use Rattle.std.specs.Prelude.{◌≡◌, [], ◌∷◌, ◌+◌, ◌-◌, ◌*◌, ◌^◌, ◌≤◌, ◌<◌, length, get_or, drop};
+ghost use Rattle.grid.specs.Lists.{flat_map};
 ghost use Rattle.grid.specs.Side.{sized};
 ghost use Rattle.record.specs.Record.{Puzzle};
 ghost use Rattle.record.specs.Valid.{Valid};
-ghost use Rattle.record.specs.Problem.{problem_of};
-ghost use Rattle.record.specs.Write.{write_record, bits_of, direction as direction_of};
-ghost use Rattle.record.specs.Lines.{start_at, Lines};
-ghost use Rattle.writer.specs.Wrote.{put_byte, Appends, Room, OnLine, step_piece, arrow_piece, line_piece, field_bits, Recorded};
+ghost use Rattle.record.specs.Problem.{problem_of, puzzle_of, total_of, grid_of};
+ghost use Rattle.record.specs.Write.{write_record, bits_of, direction as direction_of, step_bits, arrow_bits, record_bits};
+ghost use Rattle.record.specs.Lines.{Lines};
+ghost use Rattle.writer.specs.Wrote.{put_byte, Appends, Room, IsArrow, arrows_size, fields_size, Ready, Recorded};
 
+use grid::Grid;
 use record::Problem;
+
+// The codes of a step's directions.
+const UP: usize = 0;
+
+const DOWN: usize = 1;
+
+const LEFT: usize = 2;
+
+const RIGHT: usize = 3;
 
 // What bit r of a byte counts, the first being bit 0.
 fn weight(r: usize) -> usize
@@ -22,149 +32,129 @@ fn weight(r: usize) -> usize
 }
 
 // The byte with bit r put in: what stands before it is kept, and what stands behind it is cleared.
+#[tactic(auto, using(crate::proofs::PutLaws::sum_small))]
 fn with_bit(byte: u8, r: usize, bit: usize) -> u8
     requires { (r < 8) × (bit ≤ 1) }
     ensures { result ≡ put_byte r byte bit }
 {
     let w = weight(r);
-    let kept = byte as usize / (2 * w) * (2 * w);
+    let kept = usize::from(byte) / (2 * w) * (2 * w);
     (kept + w * bit) as u8
 }
 
-// Writes one bit behind the first `at` bits, clears the rest of its byte, and returns the place behind it.
-fn put_bit(out: &mut [u8], at: usize, bit: usize) -> usize
-    requires { Room at 1 out.old × (bit ≤ 1) }
-    ensures { Appends at (bit ∷ []) out.old out.new result }
-{
-    let q = at / 8;
-    let byte = out[q];
-    out[q] = with_bit(byte, at % 8, bit);
-    at + 1
-}
-
-// Writes the k low bits of x behind the first `at` bits, and returns the place behind them.
-fn put(out: &mut [u8], at: usize, x: usize, k: usize) -> usize
-    requires { Room at k out.old }
-    ensures { Appends at (bits_of x k) out.old out.new result }
-{
-    if k == 0 {
-        return at;
-    }
-    let end = put(out, at, x / 2, k - 1);
-    put_bit(out, end, x % 2)
-}
-
-// Writes the codes of n cells.
-fn write_cells(out: &mut [u8], at: usize, cells: &[u8; 1024], n: usize) -> usize
-    requires { Room at (2 * n) out.old × (n ≤ 1024) }
-    ensures { Appends at (flat_map (λ i. bits_of (get_or cells.now i 0) 2) (upto n)) out.old out.new result }
-{
-    let mut end = at;
-    for i in 0..n {
-        end = put(out, end, usize::from(cells[i]), 2);
-    }
-    end
-}
-
 // The code of the step from the cell i to its neighbour j.
-fn direction(height: usize, width: usize, i: usize, j: usize) -> usize
-    requires { (height ≤ 32) × (0 < width) × (width ≤ 32) × (i < height * width) × (j < height * width) }
-    ensures { result ≡ direction_of (sized height width) i j }
+#[tactic(auto, using(crate::proofs::DirectionLaws::code_up, crate::proofs::DirectionLaws::code_down, crate::proofs::DirectionLaws::code_left, crate::proofs::DirectionLaws::code_right))]
+fn direction(grid: Grid, i: usize, j: usize) -> usize
+    requires { (i < grid.height * grid.width) × (j < grid.height * grid.width) }
+    ensures { result ≡ direction_of (sized grid.height grid.width) i j }
 {
-    if j + width == i {
-        return 0;
+    if j + grid.width == i {
+        return UP;
     }
-    if j == i + width {
-        return 1;
+    if j == i + grid.width {
+        return DOWN;
     }
-    if i % width == 0 {
-        return 3;
+    if j + 1 == i && i % grid.width != 0 {
+        return LEFT;
     }
-    if j + 1 == i {
-        return 2;
-    }
-    3
+    RIGHT
 }
 
-// Writes the steps of the arrow that stands from `from` on in the line.
-fn write_steps(
-    out: &mut [u8],
+// A record that is being written: `at` bits so far, with zeros behind them in their last byte.
+#[derive(Drop)]
+struct BitWriter<'a> {
+    out: &'a mut [u8],
     at: usize,
-    height: usize,
-    width: usize,
-    line: &[u16; 1024],
-    from: usize,
-    steps: usize,
-) -> usize
-    requires { Room at (2 * steps) out.old × OnLine height width line.now from steps }
-    ensures { Appends at (flat_map (step_piece (sized height width) line.now from) (upto steps)) out.old out.new result }
-{
-    let mut end = at;
-    for t in 0..steps {
-        let i = usize::from(line[from + t]);
-        let j = usize::from(line[from + t + 1]);
-        let d = direction(height, width, i, j);
-        end = put(out, end, d, 2);
+}
+
+impl BitWriter<'_> {
+    // Writes one bit, and clears the rest of its byte.
+    fn put_bit(&mut self, bit: usize)
+        requires { (bit ≤ 1) × Room self.old 1 }
+        ensures { Appends 1 (bit ∷ []) self.old self.new }
+    {
+        let q = self.at / 8;
+        let byte = self.out[q];
+        self.out[q] = with_bit(byte, self.at % 8, bit);
+        self.at += 1;
     }
-    end
-}
 
-// Writes that arrow: its start, its length and its steps.
-fn write_arrow(
-    out: &mut [u8],
-    at: usize,
-    height: usize,
-    width: usize,
-    line: &[u16; 1024],
-    from: usize,
-    steps: usize,
-) -> usize
-    requires { Room at (20 + 2 * steps) out.old × OnLine height width line.now from steps }
-    ensures { Appends at (arrow_piece (sized height width) line.now from steps) out.old out.new result }
-{
-    let i = usize::from(line[from]);
-    let y = put(out, at, i / width, 5);
-    let x = put(out, y, i % width, 5);
-    let n = put(out, x, steps, 10);
-    write_steps(out, n, height, width, line, from, steps)
-}
-
-// Writes the arrows of a problem.
-fn write_arrows(out: &mut [u8], at: usize, problem: &Problem) -> usize
-    requires { Room at (18 * problem.now.count + 2 * start_at problem.now.ends problem.now.count) out.old
-        × Lines problem.now.height problem.now.width problem.now.arrows problem.now.ends problem.now.count }
-    ensures { Appends at (flat_map (line_piece (sized problem.now.height problem.now.width) problem.now.arrows problem.now.ends) (upto problem.now.count)) out.old out.new result }
-{
-    let mut end = at;
-    let mut from = 0;
-    for k in 0..problem.count {
-        let to = usize::from(problem.ends[k]);
-        end = write_arrow(
-            out,
-            end,
-            problem.height,
-            problem.width,
-            &problem.arrows,
-            from,
-            to - from - 1,
-        );
-        from = to;
+    // Writes the k low bits of x.
+    fn put(&mut self, x: usize, k: usize)
+        requires { Room self.old k }
+        ensures { Appends k (bits_of x k) self.old self.new }
+    {
+        if k == 0 {
+            return;
+        }
+        self.put(x / 2, k - 1);
+        self.put_bit(x % 2);
     }
-    end
-}
 
-// Writes all fields of a record, and returns the number of bits.
-fn write_fields(out: &mut [u8], problem: &Problem) -> usize
-    requires { (0 < problem.now.height)
-        × Room 0 (21 + 2 * (problem.now.height * problem.now.width) + (18 * problem.now.count + 2 * start_at problem.now.ends problem.now.count)) out.old
-        × Lines problem.now.height problem.now.width problem.now.arrows problem.now.ends problem.now.count }
-    ensures { Appends 0 (field_bits problem.now.height problem.now.width problem.now.cells problem.now.arrows problem.now.ends problem.now.count) out.old out.new result }
-{
-    let h = put(out, 0, problem.height - 1, 5);
-    let w = put(out, h, problem.width - 1, 5);
-    let m = put(out, w, problem.count, 11);
-    let c = write_cells(out, m, &problem.cells, problem.height * problem.width);
-    write_arrows(out, c, problem)
+    // Writes the codes of cells.
+    fn write_cells(&mut self, codes: &[u8])
+        requires { Room self.old (2 * length codes.now) }
+        ensures { Appends (2 * length codes.now) (flat_map (λ c. bits_of c 2) codes.now) self.old self.new }
+    {
+        for &code in codes {
+            self.put(usize::from(code), 2);
+        }
+    }
+
+    // Writes the steps of an arrow.
+    fn write_steps(&mut self, grid: Grid, arrow: &[u16])
+        requires { IsArrow (sized grid.height grid.width) arrow.now × Room self.old (2 * (length arrow.now - 1)) }
+        ensures { Appends (2 * (length arrow.now - 1)) (step_bits (sized grid.height grid.width) (get_or arrow.now 0 0) (drop 1 arrow.now)) self.old self.new }
+    {
+        for step in arrow.windows(2) {
+            self.put(
+                direction(grid, usize::from(step[0]), usize::from(step[1])),
+                2,
+            );
+        }
+    }
+
+    // Writes an arrow: its start, its length and its steps.
+    fn write_arrow(&mut self, grid: Grid, arrow: &[u16])
+        requires { IsArrow (sized grid.height grid.width) arrow.now × Room self.old (18 + 2 * length arrow.now) }
+        ensures { Appends (18 + 2 * length arrow.now) (arrow_bits (sized grid.height grid.width) arrow.now) self.old self.new }
+    {
+        let start = usize::from(arrow[0]);
+        self.put(start / grid.width, 5);
+        self.put(start % grid.width, 5);
+        self.put(arrow.len() - 1, 10);
+        self.write_steps(grid, arrow);
+    }
+
+    // Writes the arrows of a problem.
+    fn write_arrows(&mut self, problem: &Problem)
+        requires { Lines problem.now.height problem.now.width problem.now.arrows problem.now.ends problem.now.count × Room self.old (arrows_size problem.now) }
+        ensures { Appends (arrows_size problem.now) (flat_map (arrow_bits (grid_of problem.now)) (puzzle_of problem.now).arrows) self.old self.new }
+    {
+        let grid = Grid {
+            height: problem.height,
+            width: problem.width,
+        };
+        let mut from = 0;
+        for &end in &problem.ends[..problem.count] {
+            let to = usize::from(end);
+            self.write_arrow(grid, &problem.arrows[from..to]);
+            from = to;
+        }
+    }
+
+    // Writes all fields of a record.
+    fn write_fields(&mut self, problem: &Problem)
+        requires { Ready problem.now self.old }
+        ensures { Appends (fields_size problem.now) (record_bits (puzzle_of problem.now)) self.old self.new }
+    {
+        let cells = &problem.cells[..problem.height * problem.width];
+        self.put(problem.height - 1, 5);
+        self.put(problem.width - 1, 5);
+        self.put(problem.count, 11);
+        self.write_cells(cells);
+        self.write_arrows(problem);
+    }
 }
 
 // Writes the record of a puzzle to the front of a slice that has room for it, and returns its length.
@@ -172,6 +162,7 @@ pub fn write(problem: Problem, out: &mut [u8]) -> usize
     requires { (p : Puzzle) × Valid p × (problem ≡ problem_of p) × (length (write_record p) ≤ length out.old) }
     ensures { (p : Puzzle) → Valid p → problem ≡ problem_of p → Recorded p out.old out.new result }
 {
-    let bits = write_fields(out, &problem);
-    (bits + 7) / 8
+    let mut writer = BitWriter { out, at: 0 };
+    writer.write_fields(&problem);
+    writer.at.div_ceil(8)
 }

@@ -6,7 +6,7 @@ use mir.ValLaws.{to_z-of_z}
 use Rattle.std.specs.Prelude.{ℕ, Err}
 use Rattle.refusal.specs.Refusals.{number_of, Outcome}
 use Rattle.literals.specs.Literals.{Found}
-use Rattle.host_find.specs.Host.{returned, output_after}
+use Rattle.calls.specs.Found.{returned, output_after}
 use Rattle.text.specs.Told.{told_by}
 use Rattle.answer.proofs.Inputs.{host_program}
 use Rattle.answer.proofs.Answers.{refusal_told, refusal_leaves}

@@ -7,6 +7,7 @@ use mathlib.Core.Bool.{true}
 use mathlib.Core.List.{List}
 use lib.ListN.{length, get_or, set, take}
 use lib.Seq.{set-set}
+use Rattle.std.specs.Prelude.{Option, Some}
 use Rattle.grid.specs.Lists.{how_many}
 use Rattle.grid.proofs.ArrayLaws.{fewer_set}
 use Rattle.form.specs.Form.{problem_formed}
@@ -15,10 +16,8 @@ use Rattle.sizes.specs.declared.LentLeaf.{LentLeaf}
 use Rattle.sizes.specs.LeafOf.{leaf_of}
 use Rattle.finished.proofs.VerdictLaws.{few}
 use Rattle.certain.specs.Inside.{States, left_number, Meets}
-use Rattle.certain.specs.declared.Met.{Met}
-use Rattle.certain.specs.declared.Met.TheVariants as met
 use Rattle.certain.proofs.StepLaws.{States-set, cells_long}
-use Rattle.certain.proofs.WayLaws.{way_none, way_back, way_full, undecided_there, way_exhausted, way_both}
+use Rattle.certain.proofs.WayLaws.{way_none, way_back, undecided_there, way_exhausted, way_both}
 use Rattle.certain.proofs.+search_from.Goals as goal
 
 -- how many cells the leaf has
@@ -30,9 +29,9 @@ module _ (leaf : LentLeaf) (formed : problem_formed leaf.problem.now ≡ true) (
   size_is = let q = leaf.problem.now in cells_long q (Formed-is q formed) leaf.edition (leaf_of leaf).sizes s
 
   -- an undecided cell is met, with some steps left
-  module _ (before : List ℕ) (long : length before ≡ 1024) (left : ℕ) (some : 0 < left) {m : Met} {after : List ℕ} (i : ℕ) (is : m ≡ met.Undecided i) (meets : Meets (leaf_of leaf) (cells_of leaf) states before after m) where
-    there : Meets (leaf_of leaf) (cells_of leaf) states before after (met.Undecided i)
-    there = subst (λ (r : Met). Meets (leaf_of leaf) (cells_of leaf) states before after r) is meets
+  module _ (before : List ℕ) (long : length before ≡ 1024) (left : ℕ) (some : 0 < left) {m : Option ℕ} {after : List ℕ} (i : ℕ) (is : m ≡ Some i) (meets : Meets (leaf_of leaf) (cells_of leaf) states before after m) where
+    there : Meets (leaf_of leaf) (cells_of leaf) states before after (Some i)
+    there = subst (λ (r : Option ℕ). Meets (leaf_of leaf) (cells_of leaf) states before after r) is meets
 
     spot : (i < cells_of leaf) × (get_or states i 0 ≡ 2)
     spot = undecided_there (cells_of leaf) left (leaf_of leaf) states before long some size_is there
@@ -51,66 +50,60 @@ returns-then-left-eq0 t c =
 pub bounds-cells-i : goal.bounds-cells-i
 bounds-cells-i t c =
     let a = c.args in
-    placed a.leaf.now c.requires.formed a.cells.now c.requires.states a.facts.now c.told-facts a.left (omega (arith, c.if-left-eq0.false)) c.in-Undecided.i c.in-Undecided.is c.step.ensures
+    placed a.leaf.now c.requires.formed a.cells.now c.requires.states a.facts.now c.told-facts a.left (omega (arith, c.if-left-eq0.false)) c.in-Some.i c.in-Some.is c.step.ensures
 
 pub bounds-cells-i-in-None : goal.bounds-cells-i-in-None
 bounds-cells-i-in-None t c =
     let a = c.args in
-    placed a.leaf.now c.requires.formed a.cells.now c.requires.states a.facts.now c.told-facts a.left (omega (arith, c.if-left-eq0.false)) c.in-Undecided.i c.in-Undecided.is c.step.ensures
+    placed a.leaf.now c.requires.formed a.cells.now c.requires.states a.facts.now c.told-facts a.left (omega (arith, c.if-left-eq0.false)) c.in-Some.i c.in-Some.is c.step.ensures
 
-pub bounds-cells-i-in-Some : goal.bounds-cells-i-in-Some
-bounds-cells-i-in-Some t c =
+pub bounds-cells-i-in-Some-first : goal.bounds-cells-i-in-Some-first
+bounds-cells-i-in-Some-first t c =
     let a = c.args in
-    placed a.leaf.now c.requires.formed a.cells.now c.requires.states a.facts.now c.told-facts a.left (omega (arith, c.if-left-eq0.false)) c.in-Undecided.i c.in-Undecided.is c.step.ensures
+    placed a.leaf.now c.requires.formed a.cells.now c.requires.states a.facts.now c.told-facts a.left (omega (arith, c.if-left-eq0.false)) c.in-Some.i c.in-Some.is c.step.ensures
 
-pub bounds-cells-i-in-Some-2 : goal.bounds-cells-i-in-Some-2
-bounds-cells-i-in-Some-2 t c =
+pub bounds-cells-i-in-Some-first-2 : goal.bounds-cells-i-in-Some-first-2
+bounds-cells-i-in-Some-first-2 t c =
     let a = c.args in
-    placed a.leaf.now c.requires.formed a.cells.now c.requires.states a.facts.now c.told-facts a.left (omega (arith, c.if-left-eq0.false)) c.in-Undecided.i c.in-Undecided.is c.step.ensures
+    placed a.leaf.now c.requires.formed a.cells.now c.requires.states a.facts.now c.told-facts a.left (omega (arith, c.if-left-eq0.false)) c.in-Some.i c.in-Some.is c.step.ensures
 
 pub search_from-first-requires : goal.search_from-first-requires
 search_from-first-requires t c =
     let a = c.args in
     let some : 0 < a.left = omega (arith, c.if-left-eq0.false) in (
-      omega (arith, c.decreases, less a.leaf.now c.requires.formed a.cells.now c.requires.states a.facts.now c.told-facts a.left some c.in-Undecided.i c.in-Undecided.is c.step.ensures 1 (omega arith)),
-      (c.requires.formed, States-set c.in-Undecided.i 1 c.requires.states (omega arith)),
+      omega (arith, c.decreases, less a.leaf.now c.requires.formed a.cells.now c.requires.states a.facts.now c.told-facts a.left some c.in-Some.i c.in-Some.is c.step.ensures 1 (omega arith)),
+      (c.requires.formed, States-set c.in-Some.i 1 c.requires.states (omega arith)),
     )
 
 pub search_from-second-requires : goal.search_from-second-requires
 search_from-second-requires t c =
     let a = c.args in
-    let i = c.in-Undecided.i in
+    let i = c.in-Some.i in
     let some : 0 < a.left = omega (arith, c.if-left-eq0.false) in
     let e : set c.search_from-first.new.cells i 0 ≡ set a.cells.now i 0 = ap (λ (z : List ℕ). set z i 0) c.search_from-first.ensures.same ∙ set-set a.cells.now i 1 0 in
-    let fall : how_many 2 (set c.search_from-first.new.cells i 0) < how_many 2 a.cells.now = rw e (less a.leaf.now c.requires.formed a.cells.now c.requires.states a.facts.now c.told-facts a.left some i c.in-Undecided.is c.step.ensures 0 (omega arith)) in (
+    let fall : how_many 2 (set c.search_from-first.new.cells i 0) < how_many 2 a.cells.now = rw e (less a.leaf.now c.requires.formed a.cells.now c.requires.states a.facts.now c.told-facts a.left some i c.in-Some.is c.step.ensures 0 (omega arith)) in (
       omega (arith, c.decreases, fall),
       (c.requires.formed, rw e (States-set i 0 c.requires.states (omega arith))),
     )
 
-pub returns-in-Reason : goal.returns-in-Reason
-returns-in-Reason t c =
+pub returns-in_default : goal.returns-in_default
+returns-in_default t c =
     let a = c.args in
     let some : 0 < a.left = omega (arith, c.if-left-eq0.false) in
-    way_back (cells_of a.leaf.now) a.left (leaf_of a.leaf.now) a.cells.now a.facts.now c.told-facts some (size_is a.leaf.now c.requires.formed a.cells.now c.requires.states) (rw c.in-Reason.is at c.step.ensures)
-
-pub returns-in-Full : goal.returns-in-Full
-returns-in-Full t c =
-    let a = c.args in
-    let some : 0 < a.left = omega (arith, c.if-left-eq0.false) in
-    way_full (cells_of a.leaf.now) a.left (leaf_of a.leaf.now) a.cells.now a.facts.now c.told-facts some (size_is a.leaf.now c.requires.formed a.cells.now c.requires.states) (rw c.in-Full.is at c.step.ensures)
+    way_back (cells_of a.leaf.now) a.left (leaf_of a.leaf.now) a.cells.now a.facts.now c.told-facts some (size_is a.leaf.now c.requires.formed a.cells.now c.requires.states) c.in_default.ensures
 
 pub returns-in-None : goal.returns-in-None
 returns-in-None t c =
     let a = c.args in
     let some : 0 < a.left = omega (arith, c.if-left-eq0.false) in
     way_exhausted (cells_of a.leaf.now) a.left (leaf_of a.leaf.now) a.cells.now a.facts.now c.told-facts some (size_is a.leaf.now c.requires.formed a.cells.now c.requires.states)
-    (there a.leaf.now c.requires.formed a.cells.now c.requires.states a.facts.now c.told-facts a.left some c.in-Undecided.i c.in-Undecided.is c.step.ensures)
+    (there a.leaf.now c.requires.formed a.cells.now c.requires.states a.facts.now c.told-facts a.left some c.in-Some.i c.in-Some.is c.step.ensures)
     (omega arith) (ap left_number c.in-None.is) c.search_from-first.ensures
 
-pub returns-in-Some : goal.returns-in-Some
-returns-in-Some t c =
+pub returns-in-Some-first : goal.returns-in-Some-first
+returns-in-Some-first t c =
     let a = c.args in
     let some : 0 < a.left = omega (arith, c.if-left-eq0.false) in
     way_both (cells_of a.leaf.now) a.left (leaf_of a.leaf.now) a.cells.now a.facts.now c.told-facts some (size_is a.leaf.now c.requires.formed a.cells.now c.requires.states)
-    (there a.leaf.now c.requires.formed a.cells.now c.requires.states a.facts.now c.told-facts a.left some c.in-Undecided.i c.in-Undecided.is c.step.ensures)
-    (rw c.in-Some.is at c.search_from-first.ensures) c.search_from-second.ensures
+    (there a.leaf.now c.requires.formed a.cells.now c.requires.states a.facts.now c.told-facts a.left some c.in-Some.i c.in-Some.is c.step.ensures)
+    (rw c.in-Some-first.is at c.search_from-first.ensures) c.search_from-second.ensures

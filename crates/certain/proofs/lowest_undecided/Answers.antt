@@ -1,27 +1,32 @@
--- `certain::lowest_undecided` meets its contract: no cell passed is undecided.
+-- `certain::lowest_undecided` meets its contract: the number that `find` gives is the first of an undecided cell.
 -- Assumes nothing.
-use Prim.Native.Nat.{ℕ, ◌≤◌, ◌<◌}
-use native.Mathlib.Omega.{arith}
-use mathlib.Core.Path.{◌≡◌, sym, ◌∙◌}
-use mathlib.Core.List.{List}
-use lib.ListN.{length, get_or, take}
+use Rattle.std.proofs.Common.{rules, tests, arith, ℕ, ◌<◌, ◌≤◌, ◌≡◌, List, length, get_or}
+use mathlib.Core.Path.{sym, ◌∙◌}
+use lib.ListN.{take}
 use lib.Seq.{get_or-take, length-take-le}
+use Rattle.std.specs.Prelude.{Option, Some, None, MatchOption}
+use Rattle.std.proofs.lemmas.Iterator.{first_from_Range}
+use Rattle.std.proofs.lemmas.List.{get_or_read}
+use Rattle.certain.specs.Inside.{lowest_or}
 use Rattle.certain.specs.Tree.{lowest}
 use Rattle.certain.proofs.LowestLaws.{lowest_is, lowest_end}
 use Rattle.certain.proofs.lowest_undecided.Goals as goal
-use Rattle.certain.proofs.lowest_undecided.Invariants.{NoneBelow}
 
-found : (cells : List ℕ) (n i : ℕ) → n ≤ length cells → i < n → NoneBelow cells i → get_or cells i 0 ≡ 2 → i ≡ lowest (take n cells)
-found cells n i long l none e =
-    lowest_is (take n cells) i (omega (arith, length-take-le n cells long)) (λ j k q. none j k (sym (get_or-take n cells j 0 (omega arith)) ∙ q)) (get_or-take n cells i 0 l ∙ e)
+-- the first of n cells that is undecided, or none
+abbrev IsFirst : List ℕ → ℕ → Option ℕ → Type 0
+IsFirst cells n r = MatchOption r ((k : ℕ) → 0 ≤ k → k < n → get_or cells k 0 ≡ 2 → ⊥)
+    (λ i. (0 ≤ i) × (i < n) × (get_or cells i 0 ≡ 2) × ((k : ℕ) → 0 ≤ k → k < i → get_or cells k 0 ≡ 2 → ⊥))
 
-past : (cells : List ℕ) (n i : ℕ) → n ≤ length cells → n ≤ i → NoneBelow cells i → n ≡ lowest (take n cells)
-past cells n i long l none =
+first : (cells : List ℕ) (n : ℕ) → n ≤ length cells → (r : Option ℕ) → IsFirst cells n r → lowest_or n r ≡ lowest (take n cells)
+first cells n long None x =
     let z = length-take-le n cells long in
-    sym z ∙ lowest_end (take n cells) (λ j k q. none j (omega (arith, k)) (sym (get_or-take n cells j 0 (omega (arith, k))) ∙ q))
-
-pub returns-then-cells-i-eq-UNDECIDED-clause-lowest : goal.returns-then-cells-i-eq-UNDECIDED-clause-lowest
-returns-then-cells-i-eq-UNDECIDED-clause-lowest c = found c.args.cells.now c.args.n c.loop-i.i (omega (arith, c.requires)) (omega arith) c.loop-i.invariant c.if-cells-i-eq-UNDECIDED.true
+    sym z ∙ lowest_end (take n cells) (λ j k q. x j (omega arith) (omega (arith, z, k)) (sym (get_or-take n cells j 0 (omega (arith, z, k))) ∙ q))
+first cells n long (Some i) x =
+    lowest_is (take n cells) i (omega (arith, length-take-le n cells long, x.1)) (λ j k q. x.3 j (omega arith) k (sym (get_or-take n cells j 0 (omega (arith, k, x.1))) ∙ q)) (get_or-take n cells i 0 x.1 ∙ x.2)
 
 pub returns-clause-lowest : goal.returns-clause-lowest
-returns-clause-lowest c = past c.args.cells.now c.args.n c.args.n (omega (arith, c.requires)) (omega arith) (λ j k. c.loop-i.invariant j (omega (arith, k)))
+returns-clause-lowest c =
+    let cells = c.args.cells.now in
+    first cells c.args.n (omega (arith, c.requires)) _ (first_from_Range _ _ _ _ (λ k. get_or cells k 0 ≡ 2) (λ k. get_or cells k 0 ≡ 2 → ⊥) c.find.ensures.ran
+    (λ x q k. grind (arith, tests, get_or_read))
+    (λ x q k. (search rules, grind (arith, tests, get_or_read))))

@@ -1,24 +1,20 @@
 -- `clauses::write_problem` meets its contract: the length is counted first, and what is written then is the sheet.
 -- Assumes nothing.
 use native.Mathlib.Omega.{arith}
-use Rattle.clauses.proofs.BytesLaws.{sheeted}
-use Rattle.clauses.proofs.AnswerLaws.{flat_Line, Writes-13, Writes-sheet}
+use mathlib.Core.Path.{refl}
+use Rattle.std.proofs.Common.{rules}
+use Rattle.record.specs.Problem.{puzzle_of}
+use Rattle.clauses.proofs.AnswerLaws.{valid, long, Writes-13, Writes-sheet}
 use Rattle.clauses.proofs.write_problem.Goals as goal
 
-pub arrow_total-requires : goal.arrow_total-requires
-arrow_total-requires c = (sheeted c.requires.0 c.requires.1 c.args.problem.now c.requires.2).lines.few
-
-pub mark_arrow_cells-requires : goal.mark_arrow_cells-requires
-mark_arrow_cells-requires c = record { line = flat_Line c.requires.0 c.requires.1 c.args.problem.now c.requires.2 c.arrow_total.result c.arrow_total.ensures }
-
-pub write_sheet-length-requires : goal.write_sheet-length-requires
-write_sheet-length-requires c = (sheeted c.requires.0 c.requires.1 c.args.problem.now c.requires.2).lines
-
-pub returns-then-output-length : goal.returns-then-output-length
-returns-then-output-length c = λ p v e. Writes-13 p v c.args.problem.now e c.arrow_total.result c.arrow_total.ensures _ c.mark_arrow_cells.ensures c.args.output.now c.write_sheet-length.ensures c.if-output-length.true
-
-pub write_sheet-requires : goal.write_sheet-requires
-write_sheet-requires c = (sheeted c.requires.0 c.requires.1 c.args.problem.now c.requires.2).lines
+pub returns-then-output-count : goal.returns-then-output-count
+returns-then-output-count c =
+    let q = c.args.problem.now in
+    Writes-13 (puzzle_of q) (valid q c.requires) refl c.write_sheet.ensures c.args.output.now c.if-output-count.true
 
 pub returns : goal.returns
-returns c = λ p v e. Writes-sheet p v c.args.problem.now e c.arrow_total.result c.arrow_total.ensures _ c.mark_arrow_cells.ensures c.args.output.now _ c.write_sheet-length.ensures (omega (arith, c.if-output-length.false)) c.write_sheet.ensures
+returns c =
+    let q = c.args.problem.now in
+    let v = valid q c.requires in
+    Writes-sheet (puzzle_of q) v refl c.write_sheet-2.ensures c.args.output.now refl
+    (omega (arith, c.if-output-count.false, long (puzzle_of q) v refl c.write_sheet.ensures c.args.output.now)) _ (search rules)

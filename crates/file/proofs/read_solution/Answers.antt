@@ -4,16 +4,17 @@ use Prim.Native.Nat.{ℕ, ◌+◌, ◌*◌}
 use native.Mathlib.Omega.{arith}
 use mathlib.Core.Path.{ap, ◌∙◌}
 use mathlib.Core.List.{List}
-use lib.ListN.{set}
-use Rattle.grid.specs.Lists.{upto, range}
+use lib.ListN.{set, drop}
+use Rattle.grid.proofs.FilledLaws.{filled_none}
+use Rattle.fields.specs.Fields.{bit}
 use Rattle.fields.proofs.OutcomeLaws.{number-lt}
 use Rattle.file.specs.File.{solution_in}
 use Rattle.file.proofs.AnswerLaws.{solution_more}
 use Rattle.file.proofs.read_solution.Goals as goal
 
 pub loop-i-init : goal.loop-i-init
-unfolding range solution_in upto
-loop-i-init c = c.requires.2
+unfolding solution_in
+loop-i-init c = filled_none 0 (λ j. bit (drop c.args.from c.args.file.now) (3 + j))
 
 pub overflow_cast-cells : goal.overflow_cast-cells
 overflow_cast-cells c =

@@ -2,12 +2,11 @@
 -- Assumes nothing.
 use Prim.Native.Nat.{◌*◌}
 use native.Mathlib.Omega.{arith}
-use mathlib.Core.Path.{◌≡◌, refl, sym, ap, ◌∙◌}
+use mathlib.Core.Path.{◌≡◌, sym, ap, ◌∙◌}
 use Rattle.refusal.specs.declared.Refusal.{Refusal}
 use Rattle.refusal.specs.Refusals.{number_of}
 use Rattle.fields.specs.Fields.{refused}
 use Rattle.fields.proofs.OutcomeLaws.{outcome_fault}
-use Rattle.grid.specs.Lists.{array_of}
 use Rattle.record.proofs.HeadLaws.{head_Valid, head_length}
 use Rattle.writer.proofs.ArrayLaws.{parts}
 use Rattle.file.specs.Answers.{setter_of}
@@ -63,18 +62,17 @@ returns-in_err-edition c =
     outcome_fault _ _ c.from_residual-in_err-edition.ensures.1
     (no ∙ sym (ap setter_of (setter_16 a.file.now b.reads a.room a.edition (omega (arith, c.if-room-n.false, b.cells)) (sym b.tailed ∙ c.if-not-is_tail.false) c.in_err-edition.ensures.0) ∙ setter_no))
 
-pub read_solution-requires : goal.read_solution-requires
-unfolding array_of
-read_solution-requires c =
+pub read_solution-cells-requires : goal.read_solution-cells-requires
+read_solution-cells-requires c =
     let b = behind c.args.file.now c.in_ok-problem.ensures c.record_length-length.ensures c.is_tail.ensures in
-    (omega (arith, b.bytes, head_length c.args.file.now b.reads), cells_few c.args.file.now b.reads c.in_ok-problem.problem b.is, refl)
+    (omega (arith, b.bytes, head_length c.args.file.now b.reads), cells_few c.args.file.now b.reads c.in_ok-problem.problem b.is)
 
 -- 21
 pub returns-then-not-is_finished : goal.returns-then-not-is_finished
 returns-then-not-is_finished c =
     let a = c.args in
     let b = behind a.file.now c.in_ok-problem.ensures c.record_length-length.ensures c.is_tail.ensures in
-    let verdict = judged a.file.now b.reads c.in_ok-problem.problem b.is a.edition c.read_solution.new.cells c.record_length-length.result b.bytes c.read_solution.ensures c.is_finished.result
+    let verdict = judged a.file.now b.reads c.in_ok-problem.problem b.is a.edition c.read_solution-cells.result c.record_length-length.result b.bytes c.read_solution-cells.ensures c.is_finished.result
     (rw (c.bare.ensures.leaf, c.bare.ensures.problem, c.in_ok-edition.ensures.1) at c.is_finished.ensures) in
     sym (ap setter_of (setter_21 a.file.now b.reads a.room a.edition (omega (arith, c.if-room-n.false, b.cells)) (sym b.tailed ∙ c.if-not-is_tail.false) c.in_ok-edition.ensures.0 (sym verdict ∙ c.if-not-is_finished.true)) ∙ setter_no)
 
@@ -87,7 +85,7 @@ pub returns : goal.returns
 returns c =
     let a = c.args in
     let b = behind a.file.now c.in_ok-problem.ensures c.record_length-length.ensures c.is_tail.ensures in
-    let verdict = judged a.file.now b.reads c.in_ok-problem.problem b.is a.edition c.read_solution.new.cells c.record_length-length.result b.bytes c.read_solution.ensures c.is_finished.result
+    let verdict = judged a.file.now b.reads c.in_ok-problem.problem b.is a.edition c.read_solution-cells.result c.record_length-length.result b.bytes c.read_solution-cells.ensures c.is_finished.result
     (rw (c.bare.ensures.leaf, c.bare.ensures.problem, c.in_ok-edition.ensures.1) at c.is_finished.ensures) in
     setter_done a.file.now b.reads a.room a.edition (omega (arith, c.if-room-n.false, b.cells)) (sym b.tailed ∙ c.if-not-is_tail.false) c.in_ok-edition.ensures.0 (sym verdict ∙ c.if-not-is_finished.false)
-    c.record_length-length.result c.read_grade.result (c.in_ok-problem.problem.height * c.in_ok-problem.problem.width) c.read_solution.new.cells b.bytes c.read_grade.ensures b.cells c.read_solution.ensures
+    c.record_length-length.result c.read_grade.result (c.in_ok-problem.problem.height * c.in_ok-problem.problem.width) c.read_solution-cells.result b.bytes c.read_grade.ensures b.cells c.read_solution-cells.ensures

@@ -10,7 +10,7 @@ returns-in_err-setter c = setter_refused (length c.args.output.now) c.args.file.
 pub write_solution-requires : goal.write_solution-requires
 write_solution-requires c =
     let b = setter_bounds (length c.args.output.now) c.args.file.now c.args.edition c.in_ok-setter.ensures in
-    (b.1, b.2, b.0)
+    (b.1, b.0)
 
 pub returns : goal.returns
 returns c = setter_given_lem (length c.args.output.now) c.args.file.now c.args.edition c.in_ok-setter.ensures c.args.output.now _ c.write_solution.ensures

@@ -10,11 +10,11 @@ use Rattle.groups.specs.Arrays.{lines_of}
 use Rattle.finished.specs.Counting.{Tells, two_of}
 use Rattle.finished.proofs.two_on_each.Given as goal
 
-abbrev pub invariant-loop-a : goal.invariant-loop-a
-invariant-loop-a g l =
+abbrev pub invariant-loop-end : goal.invariant-loop-end
+invariant-loop-end g l =
     let q = l.problem in
     ((test : ℕ → Bool)
     → Tells (goal.F-post g l.counts) test
-    → all (two_of test) (lines_of q.arrows q.ends q.count) ≡ (l.good && all (two_of test) (arrows_from q.arrows l.from (drop l.a (take q.count q.ends)))))
-    × (l.a < q.count → l.from ≤ get_or q.ends l.a 0)
+    → all (two_of test) (lines_of q.arrows q.ends q.count) ≡ (l.good && all (two_of test) (arrows_from q.arrows l.from (drop l.end-index (take q.count q.ends)))))
+    × (l.end-index < q.count → l.from ≤ get_or q.ends l.end-index 0)
     × (l.from ≤ 1024)

@@ -4,7 +4,7 @@ use Prim.Native.Nat.{ℕ}
 use mathlib.Core.Path.{◌≡◌}
 use mathlib.Core.Bool.{◌&&◌, Bool}
 use lib.Dec.{ltb}
-use lib.ListN.{take, drop}
+use lib.ListN.{drop}
 use Rattle.grid.specs.Lists.{all}
 use Rattle.form.proofs.low_codes.Given as goal
 
@@ -12,5 +12,5 @@ use Rattle.form.proofs.low_codes.Given as goal
 abbrev pub low : ℕ → Bool
 low x = ltb x 3
 
-abbrev pub invariant-loop-k : goal.invariant-loop-k
-invariant-loop-k l = all low (take l.n l.a) ≡ (l.good && all low (drop l.k (take l.n l.a)))
+abbrev pub invariant-loop-code : goal.invariant-loop-code
+invariant-loop-code l = all low l.codes ≡ (l.good && all low (drop l.code-index l.codes))

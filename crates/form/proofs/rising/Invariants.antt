@@ -2,12 +2,9 @@
 -- Assumes nothing.
 use mathlib.Core.Path.{◌≡◌}
 use mathlib.Core.Bool.{◌&&◌}
-use lib.ListN.{take, drop}
-use Rattle.grid.specs.Lists as Lists
+use lib.ListN.{drop}
 use Rattle.form.specs.Form.{rises}
 use Rattle.form.proofs.rising.Given as goal
 
-abbrev pub invariant-loop-k : goal.invariant-loop-k
-invariant-loop-k l =
-    (rises 0 (take l.count l.ends) ≡ (l.rise && rises l.last (drop l.k (take l.count l.ends))))
-    × (Lists.last 0 (take l.count l.ends) ≡ Lists.last l.last (drop l.k (take l.count l.ends)))
+abbrev pub invariant-loop-end : goal.invariant-loop-end
+invariant-loop-end l = rises 0 l.ends ≡ (l.rise && rises l.last (drop l.end-index l.ends))

@@ -18,11 +18,12 @@ pub returns : goal.returns
 unfolding counts size
 returns c =
     let a = c.args in
-    let g = sized a.grid.height a.grid.width in
-    let n = a.grid.height * a.grid.width in
+    let board = a.board.now in
+    let g = sized board.grid.height board.grid.width in
+    let n = board.grid.height * board.grid.width in
     let some : 0 < a.rounds.labels = omega (arith, c.if-rounds-eq0.false) in
     λ arrows marks. same_differs
     (λ h. record { labelled = some; told = omega (arith, c.if-rounds-eq0-2.false); groups_so = h })
     (λ q. q.groups_so) c.groups_differ.result
-    (groups_told g (potential (take n a.cells.now)) (square (take n a.cells.now)) (on_arrow arrows) a.list.now a.at n (omega arith) (area a.grid.height a.grid.width a.grid.tall a.grid.wide)
-    (table_on g _ arrows marks (c.label.ensures.computed some)) c.groups_differ.result (rw c.size.ensures.value at c.groups_differ.ensures))
+    (groups_told g (potential (take n board.cells.now)) (square (take n board.cells.now)) (on_arrow arrows) a.cursor.list.now a.cursor.at n (omega arith) (area board.grid.height board.grid.width board.grid.tall board.grid.wide)
+    (table_on g _ arrows marks (c.label-groups.ensures.computed some)) c.groups_differ.result (rw c.size.ensures.value at c.groups_differ.ensures))

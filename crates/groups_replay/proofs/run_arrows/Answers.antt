@@ -18,16 +18,17 @@ pub returns : goal.returns
 unfolding counts size
 returns c =
     let a = c.args in
-    let g = sized a.grid.height a.grid.width in
-    let n = a.grid.height * a.grid.width in
-    let cells = take n a.cells.now in
+    let board = a.board.now in
+    let g = sized board.grid.height board.grid.width in
+    let n = board.grid.height * board.grid.width in
+    let cells = take n board.cells.now in
     λ arrows marks some kinds.
-    let table = table_on g (square cells) arrows marks (c.label.ensures.computed some) in
+    let table = table_on g (square cells) arrows marks (c.label-blocks.ensures.computed some) in
     record {
       rest = c.run_kinds.result;
       rest_so = rw (c.size-n.ensures.value, names_arrowed g (square cells) table) at (c.run_kinds.ensures arrows kinds (record { named = table.groups_are; counted = table.arrowed_are }));
       answer = c.groups_differ-differs.result;
-      told = groups_told g (square cells) (square cells) (on_arrow arrows) a.list.now a.at n (omega arith) (area a.grid.height a.grid.width a.grid.tall a.grid.wide) table
+      told = groups_told g (square cells) (square cells) (on_arrow arrows) a.cursor.list.now a.cursor.at n (omega arith) (area board.grid.height board.grid.width board.grid.tall board.grid.wide) table
           c.groups_differ-differs.result (rw c.size-n.ensures.value at c.groups_differ-differs.ensures);
       counted = c.also.ensures;
     }

@@ -26,7 +26,7 @@ returns c =
     let same = c.grid-grid.ensures in
     let marks = rw c.arrow_total.ensures at c.mark_arrow_cells.ensures in (
       rw (c.size-n.ensures.value, same.0, same.1, told.2) at c.if-list-at.false,
-      rw told.2 at (board_told lent.problem.now lent.arrows lent.tall lent.wide a.rounds (take n a.board.now.cells) marks n a.list.now a.at
+      rw told.2 at (board_told lent.problem.now lent.arrows lent.tall lent.wide a.rounds (take n a.board.now.cells) marks n a.cursor.list.now a.cursor.at
           c.potential_groups_differ-differs.result (rw (same.0, same.1) at c.potential_groups_differ-differs.ensures)
           c.run_arrows-found.result (rw (c.size-n.ensures.value, same.0, same.1) at c.run_arrows-found.ensures) c.also.ensures),
     )

@@ -10,6 +10,6 @@ use Rattle.growth.proofs.reason_for_arrow_block.Given as goal
 -- the cells of the block below i are written
 abbrev pub invariant-loop-i : goal.invariant-loop-i
 invariant-loop-i l = record {
-  wrote : Wrote (each 1 (filter (of_block l.info.kinds.now l.info.owners.now l.f) (upto l.i))) l.initial.buffer l.buffer l.count;
+  wrote : Wrote (each 1 (filter (of_block l.kinds l.owners l.f) (upto l.i))) l.initial.buffer l.buffer l.count;
   few : l.count ≤ l.i;
 }

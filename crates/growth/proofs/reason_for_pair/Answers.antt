@@ -1,6 +1,7 @@
 -- `growth::reason_for_pair` meets its contract: the block, and behind it the arrow cell with the fence.
 -- Assumes nothing.
 use native.Mathlib.Omega.{arith}
+use mathlib.Core.Path.{◌∙◌}
 use mathlib.Core.List.{[], ◌∷◌, append_assoc}
 use Prim.Native.Nat.{◌≤◌}
 use lib.ListN.{length}
@@ -17,7 +18,7 @@ returns-clause-wrote c =
     let i = a.info.now in
     λ lines k.
     let v = view_on i.grid.height i.grid.width lines i.cells.now in
-    let first = c.reason_for_arrow_block-count.ensures.wrote v k (view_size i.grid.height i.grid.width lines i.cells.now) in
+    let first = c.reason_for_arrow_block-count.ensures.wrote v k (c.size.ensures.value ∙ view_size i.grid.height i.grid.width lines i.cells.now) in
     let fits : c.reason_for_arrow_block-count.result ≤ length a.buffer.now = omega arith in
     rw (append_assoc (each 1 (block v a.b)) (each 1 (a.i ∷ [])) (fence v a.f))
     (Wrote-part first fits (rw (lent first fits) at (c.reason_for_cell-more.ensures lines k)))

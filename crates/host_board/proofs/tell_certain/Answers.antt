@@ -6,7 +6,7 @@ use lib.ListN.{length}
 use Rattle.std.proofs.lemmas.Result.{err_from_is_err_and}
 use Rattle.certain.specs.Facts.{certain_of}
 use Rattle.certain.specs.Told.{facts_as}
-use Rattle.host_certain.proofs.ToldLaws.{Tells-refused, Tells-said}
+use Rattle.calls.proofs.ToldLaws.{Tells-refused, Tells-said}
 use Rattle.host_board.proofs.LentLaws.{certain_ill, certain_short, certain_said, certain_made}
 use Rattle.host_board.proofs.tell_certain.Goals as goal
 

@@ -7,12 +7,12 @@ use lib.ListN.{length}
 use Rattle.refusal.specs.declared.Refusal.TheVariants.{UnequalHeights, TooWide, RecordOutputShort}
 use Rattle.record.specs.Record.{Puzzle}
 use Rattle.record.specs.Valid.{Valid}
-use Rattle.record.specs.Problem.{problem_of}
+use Rattle.record.specs.Problem.{problem_of, total_of}
 use Rattle.record.specs.declared.Problem.{Problem}
 use Rattle.record.specs.Write.{write_record}
 use Rattle.record.proofs.Accepted.{record_length}
 use Rattle.fields.specs.Fields.{bytes_for}
-use Rattle.writer.proofs.ArrayLaws.{total, parts, length_in}
+use Rattle.writer.proofs.ArrayLaws.{parts, length_in}
 use Rattle.writer.proofs.BridgeLaws.{written_length}
 use Rattle.exported.proofs.WrittenLaws.{Writes-refused, Writes-ok}
 use Rattle.join.specs.Join.{joined_grid, joined}
@@ -30,7 +30,7 @@ record Whole (p q : Puzzle) (whole : Problem) (long : ℕ) : Type 0 where
   small : length (write_record (joined p q)) ≤ 4096
 
 whole_is : (p q : Puzzle) (v : Valid p) (w : Valid q) (l r : Problem) (e : l ≡ problem_of p) (f : r ≡ problem_of q) → l.height ≡ r.height → l.width + 1 + r.width ≤ 32
-    → (z : Problem) → z ≡ problem_of (joined p q) → Whole p q z (bytes_for (21 + 2 * (z.height * z.width) + 18 * z.count + 2 * total z.ends z.count))
+    → (z : Problem) → z ≡ problem_of (joined p q) → Whole p q z (bytes_for (21 + 2 * (z.height * z.width) + 18 * z.count + 2 * total_of z))
 whole_is p q v w l r e f h k z d =
     let level = level_of p q v w l r e f h in
     let wide = wide_of p q v w l r e f k in

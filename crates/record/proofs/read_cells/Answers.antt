@@ -2,17 +2,11 @@
 -- Assumes nothing.
 use native.Mathlib.Omega.{arith}
 use Rattle.fields.proofs.OutcomeLaws.{agrees_fault}
-use Rattle.record.proofs.CellLaws.{cells_start, cells_fault, cells_more, cells_end}
+use Rattle.record.proofs.CellLaws.{cells_fault, cells_end}
 use Rattle.record.proofs.read_cells.Goals as goal
-
-pub loop-i-init : goal.loop-i-init
-loop-i-init c = cells_start c.args.s.now c.args.n c.args.cells.now c.requires.1
 
 pub returns-in_err-cells : goal.returns-in_err-cells
 returns-in_err-cells c = agrees_fault _ _ _ c.from_residual.ensures.1 (cells_fault c.args.s.now c.args.n c.loop-i.i c.loop-i-test.true c.loop-i.invariant c.in_err-cells.ensures)
-
-pub loop-i-preserved : goal.loop-i-preserved
-loop-i-preserved c = cells_more c.args.s.now c.args.n c.loop-i.i _ c.loop-i-test.true c.requires.0 c.loop-i.invariant c.in_ok-cells.ensures
 
 pub returns : goal.returns
 returns c = cells_end c.args.s.now c.args.n c.loop-i.i (omega arith) c.loop-i-test.false c.loop-i.invariant

@@ -1,57 +1,77 @@
 -- `record_replay::arrows_differ` holds one arrow after another against what the list says, and then what stands behind them.
 -- Assumes nothing.
-use Prim.Native.Nat.{ℕ, ◌-◌, ◌<◌}
-use mathlib.Core.Path.{◌≡◌, subst}
+use Rattle.std.proofs.Common.{rules}
+use Prim.Native.Nat.{ℕ, ◌+◌, ◌-◌, ◌*◌, ◌<◌}
+use mathlib.Core.Path.{◌≡◌, subst, ◌∙◌}
 use native.Mathlib.Omega.{arith}
+use lib.ListN.{length, take, drop}
 use Rattle.replay.specs.Comparisons.{DiffersUnless}
+use Rattle.replay.specs.Lists.{number_at, number_in, differs}
 use Rattle.record_replay.specs.Problems.{ZerosFrom}
 use Rattle.replay.proofs.ComparisonLaws.{fails_so, then_differs}
-use Rattle.record_replay.proofs.ProblemLaws.{no_arrows, too_short, too_long, other_cells, other_end, this_arrow}
+use Rattle.record_replay.proofs.ProblemLaws.{no_arrows, too_short, too_long, other_cells, other_end, this_arrow, behind_left, rest_told}
 use Rattle.record_replay.proofs.arrows_differ.Goals as goal
-use Rattle.record_replay.proofs.arrows_differ.Goals.{After-number_at-n}
+use Rattle.record_replay.proofs.arrows_differ.Goals.{In-Some, After-numbers_differ}
 
--- its test
-tested : (c : After-number_at-n) → c.loop-i.i < c.args.arrows
-tested c = c.loop-i-test.true
+-- the number of cells
+cells_of : (c : In-Some) → c.in-Some.n ≡ number_at c.args.said.list.now c.loop-i.arrow.at
+cells_of c = rw c.loop-i.invariant.1 at c.in-Some.ensures.taken.0
 
-pub returns-then-saturating_sub-lt2 : goal.returns-then-saturating_sub-lt2
-returns-then-saturating_sub-lt2 c =
+-- the answer about them
+cells_told : (c : After-numbers_differ) → c.numbers_differ.result ≡ differs (take (c.loop-i.end + c.in-Some.n - c.loop-i.end) (drop c.loop-i.end c.args.line.now)) (number_in c.args.said.list.now (c.loop-i.arrow.at + 2) c.in-Some.n 0) 0
+cells_told c = rw (c.in-Some.ensures.same ∙ c.loop-i.invariant.1, c.in-Some.ensures.taken.2) at c.numbers_differ.ensures
+
+pub returns-in_default : goal.returns-in_default
+returns-in_default c =
     let a = c.args in
-    too_short a.list.now a.line.now a.ends.now a.start a.arrows c.loop-i.at c.loop-i.end c.loop-i.i c.loop-i-test.true c.loop-i.invariant.1 (omega (arith, c.saturating_sub.ensures))
+    let i = c.loop-i in
+    let short : length i.arrow.list.now < i.arrow.at + 2 = search (rules, c.number.ensures.short) in
+    too_short a.said.list.now a.line.now a.ends.now a.said.at a.count i.arrow.at i.end i.i c.loop-i-test.true i.invariant.2 (rw i.invariant.1 at short)
 
 pub returns-then-next-gt1024 : goal.returns-then-next-gt1024
 returns-then-next-gt1024 c =
     let a = c.args in
-    too_long a.list.now a.line.now a.ends.now a.start a.arrows c.loop-i.at c.loop-i.end c.loop-i.i c.number_at-n.result c.number_at-n.ensures.0 (tested (goal.at.returns-then-next-gt1024 c).After-number_at-n) c.loop-i.invariant.1 c.if-next-gt1024.true
+    let i = c.loop-i in
+    too_long a.said.list.now a.line.now a.ends.now a.said.at a.count i.arrow.at i.end i.i c.in-Some.n (cells_of (goal.at.returns-then-next-gt1024 c).In-Some) c.loop-i-test.true i.invariant.2 c.if-next-gt1024.true
 
 pub returns-then-numbers_differ : goal.returns-then-numbers_differ
 returns-then-numbers_differ c =
     let a = c.args in
-    other_cells a.list.now a.line.now a.ends.now a.start a.arrows c.loop-i.at c.loop-i.end c.loop-i.i c.number_at-n.result c.number_at-n.ensures.0 (tested (goal.at.returns-then-numbers_differ c).After-number_at-n) c.loop-i.invariant.1 c.numbers_differ.result c.numbers_differ.ensures c.if-numbers_differ.true
+    let i = c.loop-i in
+    other_cells a.said.list.now a.line.now a.ends.now a.said.at a.count i.arrow.at i.end i.i c.in-Some.n (cells_of (goal.at.returns-then-numbers_differ c).In-Some) c.loop-i-test.true i.invariant.2 c.numbers_differ.result (cells_told (goal.at.returns-then-numbers_differ c).After-numbers_differ) c.if-numbers_differ.true
 
 pub returns-then-from-end : goal.returns-then-from-end
 returns-then-from-end c =
     let a = c.args in
-    other_end a.list.now a.line.now a.ends.now a.start a.arrows c.loop-i.at c.loop-i.end c.loop-i.i c.number_at-n.result c.number_at-n.ensures.0 (tested (goal.at.returns-then-from-end c).After-number_at-n) c.loop-i.invariant.1 c.from.result c.from.ensures c.if-from-end.true
+    let i = c.loop-i in
+    other_end a.said.list.now a.line.now a.ends.now a.said.at a.count i.arrow.at i.end i.i c.in-Some.n (cells_of (goal.at.returns-then-from-end c).In-Some) c.loop-i-test.true i.invariant.2 c.from.result c.from.ensures c.if-from-end.true
 
 pub loop-i-preserved : goal.loop-i-preserved
 loop-i-preserved c =
-    let a = c.args in (
+    let a = c.args in
+    let i = c.loop-i in (
       omega arith,
-      this_arrow a.list.now a.line.now a.ends.now a.start a.arrows c.loop-i.at c.loop-i.end c.loop-i.i c.number_at-n.result c.number_at-n.ensures.0 (tested (goal.at.loop-i-preserved c).After-number_at-n) c.loop-i.invariant.1
-          (omega arith) (omega arith) c.numbers_differ.result c.numbers_differ.ensures c.if-numbers_differ.false c.from.result c.from.ensures c.if-from-end.false,
+      c.skip.ensures.same ∙ (c.in-Some.ensures.same ∙ i.invariant.1),
+      λ r d. this_arrow a.said.list.now a.line.now a.ends.now a.said.at a.count i.arrow.at i.end i.i c.in-Some.n (cells_of (goal.at.loop-i-preserved c).In-Some) c.loop-i-test.true i.invariant.2
+          (search (rules, c.number.new.self.inside)) (omega arith) c.numbers_differ.result (cells_told (goal.at.loop-i-preserved c).After-numbers_differ) c.if-numbers_differ.false c.from.result c.from.ensures c.if-from-end.false r
+          (behind_left a.said.list.now a.line.now a.ends.now (i.arrow.at + 2) (2 * c.in-Some.n) c.skip.new.self.at (i.end + c.in-Some.n) (i.i + 1) (a.count - (i.i + 1)) (search (rules, c.skip.ensures.inside)) (search (rules, c.skip.ensures.short)) r d),
     )
 
-pub returns-then-tail_differs : goal.returns-then-tail_differs
-returns-then-tail_differs c =
+pub returns-then-zeros_differ : goal.returns-then-zeros_differ
+returns-then-zeros_differ c =
     let a = c.args in
-    c.loop-i.invariant.1 c.tail_differs.result (no_arrows a.list.now a.line.now a.ends.now c.loop-i.at c.loop-i.end c.loop-i.i (a.arrows - c.loop-i.i) (omega arith) c.tail_differs.result
-    (fails_so c.tail_differs.result c.if-tail_differs.true (λ s. c.tail_differs.ensures.1 c.if-tail_differs.true s.0)))
+    let i = c.loop-i in
+    let line = rest_told a.line.now i.end (search rules) c.zeros_differ.result c.zeros_differ.ensures in
+    i.invariant.2 c.zeros_differ.result (no_arrows a.said.list.now a.line.now a.ends.now i.arrow.at i.end i.i (a.count - i.i) (omega arith) c.zeros_differ.result
+    (fails_so c.zeros_differ.result c.if-zeros_differ.true (λ s. line.1 c.if-zeros_differ.true s.0)))
 
-pub returns-else-tail_differs : goal.returns-else-tail_differs
-returns-else-tail_differs c =
+pub returns-else-zeros_differ : goal.returns-else-zeros_differ
+returns-else-zeros_differ c =
     let a = c.args in
-    let last : a.arrows ≡ c.loop-i.i = omega arith in
-    let second = c.tail_differs-else-tail_differs.result in
-    c.loop-i.invariant.1 second (no_arrows a.list.now a.line.now a.ends.now c.loop-i.at c.loop-i.end c.loop-i.i (a.arrows - c.loop-i.i) (omega arith) second
-    (then_differs (c.tail_differs.ensures.0 c.if-tail_differs.false) second (subst (λ (k : ℕ). DiffersUnless second (ZerosFrom a.ends.now k)) last c.tail_differs-else-tail_differs.ensures)))
+    let i = c.loop-i in
+    let last : a.count ≡ i.i = omega arith in
+    let second = c.zeros_differ-else-zeros_differ.result in
+    let line = rest_told a.line.now i.end (search rules) c.zeros_differ.result c.zeros_differ.ensures in
+    let ends = rest_told a.ends.now a.count (search rules) second c.zeros_differ-else-zeros_differ.ensures in
+    i.invariant.2 second (no_arrows a.said.list.now a.line.now a.ends.now i.arrow.at i.end i.i (a.count - i.i) (omega arith) second
+    (then_differs (line.0 c.if-zeros_differ.false) second (subst (λ (k : ℕ). DiffersUnless second (ZerosFrom a.ends.now k)) last ends)))

@@ -2,11 +2,13 @@
 -- Assumes nothing.
 use Prim.Native.Nat.{◌-◌, ◌≤◌}
 use mathlib.Core.Bool.{Bool}
+use mathlib.Core.Path.{◌≡◌}
 use Rattle.replay.specs.Comparisons.{DiffersUnless}
 use Rattle.record_replay.specs.Problems.{ArrowsSo}
 use Rattle.record_replay.proofs.arrows_differ.Given as goal
 
 abbrev pub invariant-loop-i : goal.invariant-loop-i
 invariant-loop-i l =
-    (l.end ≤ 1024)
-    × ((r : Bool) → DiffersUnless r (ArrowsSo l.list l.at (l.arrows - l.i) l.line l.ends l.end l.i) → DiffersUnless r (ArrowsSo l.list l.start l.arrows l.line l.ends 0 0))
+    let list = l.fn.said.list.now in
+    (l.end ≤ 1024) × (l.arrow.list.now ≡ list)
+    × ((r : Bool) → DiffersUnless r (ArrowsSo list l.arrow.at (l.count - l.i) l.line l.ends l.end l.i) → DiffersUnless r (ArrowsSo list l.fn.said.at l.count l.line l.ends 0 0))

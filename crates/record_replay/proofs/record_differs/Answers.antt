@@ -4,7 +4,7 @@ use Rattle.record_replay.proofs.ReadingLaws.{accepted, not_accepted}
 use Rattle.record_replay.proofs.record_differs.Goals as goal
 
 pub returns-in-Ok : goal.returns-in-Ok
-returns-in-Ok c = accepted c.args.record.now c.args.list.now c.args.at c.problem_differs.result c.in-Ok.ensures c.problem_differs.ensures
+returns-in-Ok c = accepted c.args.«record».now c.args.said.list.now c.args.said.at c.problem_differs.result c.in-Ok.ensures c.problem_differs.ensures
 
 pub returns-in-Err : goal.returns-in-Err
-returns-in-Err c = not_accepted c.args.record.now c.args.list.now c.args.at c.in-Err.ensures
+returns-in-Err c = not_accepted c.args.«record».now c.args.said.list.now c.args.said.at c.in-Err.ensures

@@ -5,7 +5,7 @@ use Rattle.refusal.specs.Refusals.{number_of}
 use Rattle.certificate.specs.Certificate.{words_of}
 use Rattle.certificate.specs.Inside.{refusal_number}
 use Rattle.sizes.specs.LeafOf.{leaf_of}
-use Rattle.call.proofs.Opening.{lent_size}
+use Rattle.calls.proofs.Opening.{lent_size}
 use Rattle.unique.proofs.LentLaws.{step_clash, step_refused, step_told, step_open}
 use Rattle.unique.proofs.check_step.Goals as goal
 

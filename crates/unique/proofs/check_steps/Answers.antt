@@ -7,7 +7,7 @@ use Rattle.certificate.specs.Certificate.{words_of}
 use Rattle.certificate.specs.Inside.{refusal_number}
 use Rattle.certificate.proofs.Words.{words_length}
 use Rattle.sizes.specs.LeafOf.{leaf_of}
-use Rattle.call.proofs.Opening.{lent_size}
+use Rattle.calls.proofs.Opening.{lent_size}
 use Rattle.unique.specs.Unique.{steps_of}
 use Rattle.unique.proofs.StepLaws.{closed_whole, closed_ends, closed_tagged, refused_counts, Comes, come_past, come_refused, come_done, come_more, come_next}
 use Rattle.unique.proofs.check_steps.Goals as goal

@@ -3,7 +3,7 @@
 use mathlib.Core.Path.{◌∙◌}
 use mir.Syntax.{w32}
 use mir.ValLaws.{to_z-of_z}
-use Rattle.call.specs.Call.{leaf_from}
+use Rattle.calls.specs.Call.{leaf_from}
 use Rattle.unique.specs.Unique.{host_unique}
 use Rattle.unique.proofs.LentLaws.{told_unique}
 use Rattle.unique.proofs.unique.Goals as goal

@@ -38,7 +38,7 @@ overflow_mul-problem c =
 pub good_decisions-requires : goal.good_decisions-requires
 good_decisions-requires c =
     let formed : problem_formed c.args.self.now.problem ≡ true = sym c.is_formed.ensures ∙ c.if-not-is_formed.false in
-    (board_area c.args.self.now formed, search rules, search rules)
+    board_area c.args.self.now formed
 
 pub returns : goal.returns
 unfolding grid_of size

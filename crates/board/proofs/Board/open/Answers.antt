@@ -21,23 +21,23 @@ returns-in_err-edition c =
     let q = err_from_is_err_and c.from_residual-in_err-edition.result c.from_residual-in_err-edition.ensures.1 in
     rw (q.1, q.2, c.in_err-edition.ensures.1) (open_16 a.bytes.now a.edition a.sizes.now p.0 p.1 c.in_err-edition.ensures.0)
 
-pub read-requires-2-clause-drawn : goal.read-requires-2-clause-drawn
-read-requires-2-clause-drawn c =
+pub read-requires-2 : goal.read-requires-2
+read-requires-2 c =
     let p = problem_ok (read_record c.args.bytes.now) c.in_ok-problem.ensures in
-    (p.0, read_Drawn c.args.bytes.now p.0 p.1 p.2)
+    record { drawn = (p.0, read_Drawn c.args.bytes.now p.0 p.1 p.2) }
 
-pub returns-in_err-read : goal.returns-in_err-read
-returns-in_err-read c =
+pub returns-in_err-sizes : goal.returns-in_err-sizes
+returns-in_err-sizes c =
     let a = c.args in
     let p = problem_ok (read_record a.bytes.now) c.in_ok-problem.ensures in
-    outcome_fault _ _ c.from_residual-in_err-read.ensures.1
-    (open_22 a.bytes.now a.edition a.sizes.now p.0 p.1 c.in_ok-edition.ensures.0 (sym (sizes_words p.0 a.sizes.now) ∙ c.in_err-read.ensures p.0 (read_Drawn a.bytes.now p.0 p.1 p.2)))
+    outcome_fault _ _ c.from_residual-in_err-sizes.ensures.1
+    (open_22 a.bytes.now a.edition a.sizes.now p.0 p.1 c.in_ok-edition.ensures.0 (sym (sizes_words p.0 a.sizes.now) ∙ c.in_err-sizes.ensures p.0 (read_Drawn a.bytes.now p.0 p.1 p.2)))
 
 pub returns : goal.returns
 returns c =
     let a = c.args in
     let p = problem_ok (read_record a.bytes.now) c.in_ok-problem.ensures in
-    let d = c.in_ok-read.ensures p.0 (read_Drawn a.bytes.now p.0 p.1 p.2) in
+    let d = c.in_ok-sizes.ensures p.0 (read_Drawn a.bytes.now p.0 p.1 p.2) in
     let e = c.in_ok-edition.ensures in
     rw (c.fresh.ensures, c.number.ensures, e.1)
     (open_fresh a.bytes.now a.edition a.sizes.now p.0 p.1 e.0 (sym (sizes_words p.0 a.sizes.now) ∙ d.1) p.2 d.2.0 d.2.1)

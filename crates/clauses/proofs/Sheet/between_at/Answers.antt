@@ -1,26 +1,40 @@
 -- `clauses::Sheet::between_at` meets its contract.
 -- Assumes nothing.
+use Prim.Native.Nat.{◌<◌}
 use native.Mathlib.Omega.{arith}
-use mathlib.Core.Path.{◌≡◌}
-use lib.ListN.{length}
+use mathlib.Core.Path.{◌≡◌, ◌∙◌}
+use lib.ListN.{length, get_or}
+use Rattle.std.proofs.lemmas.List.{length-take, get_or-take}
 use Rattle.grid.specs.Side.{sized}
-use Rattle.clauses.specs.Inside.{with_piece}
-use Rattle.clauses.proofs.AppendLaws.{Appends-start, Appends-none, Appends-more, Appends-most, Appends-is}
+use Rattle.clauses.specs.Clauses.{between}
+use Rattle.clauses.proofs.PieceLaws.{between_bytes}
+use Rattle.clauses.proofs.PushLaws.{push_as, push_same, push_no_clause, push_more, push_first_one, push_one_more}
 use Rattle.clauses.proofs.NearLaws.{place_is, between_on, between_off}
 use Rattle.clauses.proofs.Sheet.between_at.Goals as goal
 
 pub returns-then-marks-i-eq-ON_ARROW : goal.returns-then-marks-i-eq-ON_ARROW
-returns-then-marks-i-eq-ON_ARROW c = Appends-is (between_on c.args.marks.now (sized c.args.grid.height c.args.grid.width) c.args.i c.if-marks-i-eq-ON_ARROW.true) (Appends-none 128 c.args.self.now)
+returns-then-marks-i-eq-ON_ARROW c =
+    push_same (between_on c.args.marks.now (sized c.args.grid.height c.args.grid.width) c.args.i c.if-marks-i-eq-ON_ARROW.true) (push_no_clause c.args.self.now)
 
-pub loop-a-init : goal.loop-a-init
-loop-a-init c = Appends-start (with_piece c.args.i c.gather-near.result) 32 c.args.self.now
+pub loop-before-init : goal.loop-before-init
+loop-before-init c = push_first_one _ c.loop-a.self
+
+pub loop-before-preserved : goal.loop-before-preserved
+loop-before-preserved c =
+    let l = c.cells-cells.result.now in
+    let a = c.loop-a.a in
+    let b = c.loop-before.before-index in
+    let h : b < a = omega (arith, c.loop-before-test.true, length-take a l) in
+    push_one_more (between c.args.i l a) b c.loop-before.invariant (push_as (between_bytes (get_or l a 0) c.args.i (get_or l b 0)) (rw (get_or-take a l b 0 h) at c.put.ensures))
 
 pub loop-a-preserved : goal.loop-a-preserved
-loop-a-preserved c = Appends-more (with_piece c.args.i c.gather-near.result) c.loop-a.a c.loop-a.invariant (Appends-most 32 (omega (arith, c.loop-a-test.true, c.len-a-end.ensures.1)) c.write_with.ensures)
+loop-a-preserved c =
+    let e : c.loop-before.before-index ≡ c.loop-a.a = omega (arith, c.loop-before.auto.before-index-end, c.loop-before-test.false, length-take c.loop-a.a c.cells-cells.result.now, c.loop-a-test.true) in
+    push_more _ c.loop-a.a c.loop-a.invariant (rw e at c.loop-before.invariant)
 
 pub returns : goal.returns
 returns c =
     let g = c.args.grid in
-    let e : c.loop-a.a ≡ length c.gather-near.result = omega (arith, c.loop-a.auto.a-end, c.loop-a-test.false, c.len-a-end.ensures.0) in
-    Appends-is (between_off c.args.marks.now (sized g.height g.width) c.args.i c.if-marks-i-eq-ON_ARROW.false (rw (place_is g.height g.width c.args.i) at c.gather-near.ensures))
-    (Appends-most 128 (omega (arith, c.loop-a.auto.a-end, c.len-a-end.ensures.1)) (rw e at c.loop-a.invariant))
+    let e : c.loop-a.a ≡ length c.cells-cells.result.now = omega (arith, c.loop-a.auto.a-end, c.loop-a-test.false) in
+    push_same (between_off c.args.marks.now (sized g.height g.width) c.args.i c.if-marks-i-eq-ON_ARROW.false (rw (place_is g.height g.width c.args.i) at (c.cells-cells.ensures ∙ c.gather-near.ensures)))
+    (rw e at c.loop-a.invariant)

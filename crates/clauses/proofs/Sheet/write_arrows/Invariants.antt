@@ -1,12 +1,18 @@
 -- What holds at each turn of the loop of `clauses::Sheet::write_arrows`.
 -- Assumes nothing.
-use Prim.Native.Nat.{◌*◌}
+use Prim.Native.Nat.{◌<◌, ◌≤◌}
 use mathlib.Core.Path.{◌≡◌}
-use Rattle.grid.specs.Lists.{flat_map, upto}
-use Rattle.record.specs.Lines.{start_at}
-use Rattle.clauses.specs.Inside.{Appends, line_piece}
+use lib.ListN.{get_or, take}
+use Rattle.grid.specs.Lists.{flat_map, last}
+use Rattle.groups.specs.Arrays.{lines_of}
+use Rattle.clauses.specs.Clauses.{arrow_clauses, clauses_bytes}
+use Rattle.clauses.specs.Inside.{Pushed}
 use Rattle.clauses.proofs.Sheet.write_arrows.Given as goal
 
--- the arrows before arrow k are written, which starts at `from`
-abbrev pub invariant-loop-k : goal.invariant-loop-k
-invariant-loop-k l = (l.from ≡ start_at l.problem.ends l.k) × Appends (l.from * 2050) (flat_map (line_piece l.problem.arrows l.problem.ends) (upto l.k)) l.initial.self l.self
+-- the arrows so far are written, and the next one starts at `from`
+abbrev pub invariant-loop-end : goal.invariant-loop-end
+invariant-loop-end l = record {
+  start : l.from ≡ last 0 (take l.end-index l.problem.ends);
+  order : l.end-index < l.problem.count → l.from ≤ get_or l.problem.ends l.end-index 0;
+  written : Pushed l.initial.self l.self (clauses_bytes (flat_map arrow_clauses (lines_of l.problem.arrows l.problem.ends l.end-index)));
+}

@@ -1,10 +1,11 @@
 -- What holds at each turn of the loop of `clauses::Sheet::write_given`.
 -- Assumes nothing.
-use Prim.Native.Nat.{◌*◌}
+use lib.ListN.{get_or}
 use Rattle.grid.specs.Lists.{flat_map, upto}
-use Rattle.clauses.specs.Inside.{Appends, given_piece}
+use Rattle.clauses.specs.Clauses.{given_at, clauses_bytes}
+use Rattle.clauses.specs.Inside.{Pushed}
 use Rattle.clauses.proofs.Sheet.write_given.Given as goal
 
--- the cells below i are written
+-- the clauses of the cells below i are written
 abbrev pub invariant-loop-i : goal.invariant-loop-i
-invariant-loop-i l = Appends (l.i * 4) (flat_map (given_piece l.codes) (upto l.i)) l.initial.self l.self
+invariant-loop-i l = Pushed l.initial.self l.self (clauses_bytes (flat_map (λ i. given_at (get_or l.codes i 0) i) (upto l.i)))

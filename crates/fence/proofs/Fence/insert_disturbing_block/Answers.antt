@@ -1,18 +1,8 @@
 -- `fence::Fence::insert_disturbing_block` meets its contract: the arrow block of a neighbour is none, the same, there already, or new.
 -- Assumes nothing.
 use mathlib.Core.Path.{sym, ◌∙◌}
-use Rattle.fence.proofs.Fences.{none_added, disturbing_none, disturbing_own, disturbing_old, disturbing_new}
+use Rattle.fence.proofs.Fences.{disturbing_old, disturbing_new}
 use Rattle.fence.proofs.Fence.insert_disturbing_block.Goals as goal
-
-pub returns-then-info-j-ne-ARROW_BLOCK : goal.returns-then-info-j-ne-ARROW_BLOCK
-returns-then-info-j-ne-ARROW_BLOCK c =
-    let info = c.args.info.now in
-    λ lent t whole o. record { same = o.same; ordered = none_added t _ (disturbing_none info.kinds.now info.owners.now c.args.f c.args.j c.if-info-j-ne-ARROW_BLOCK.true) o.ordered }
-
-pub returns-then-e-f : goal.returns-then-e-f
-returns-then-e-f c =
-    let info = c.args.info.now in
-    λ lent t whole o. record { same = o.same; ordered = none_added t _ (disturbing_own info.kinds.now info.owners.now c.args.f c.args.j c.if-e-f.true) o.ordered }
 
 pub returns-then-contains : goal.returns-then-contains
 returns-then-contains c =

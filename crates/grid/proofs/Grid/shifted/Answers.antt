@@ -1,6 +1,6 @@
 -- `grid::Grid::shifted` meets its contract: the two moves, and the index of the cell that they lead to.
 -- Assumes nothing.
-use mathlib.Core.Path.{◌≡◌, sym, ◌∙◌}
+use mathlib.Core.Path.{◌≡◌, sym}
 use Prim.Native.Nat.{ℕ, ◌*◌, ◌+◌, ◌<◌}
 use native.Mathlib.Omega.{arith}
 use lib.IntN.{ℤ}
@@ -9,7 +9,7 @@ use mir.Val.{SFits, to_z, of_z}
 use mir.ValLaws.{to_z-of_z}
 use Rattle.std.specs.Prelude.{Option}
 use Rattle.grid.specs.Side.{moved_of}
-use Rattle.grid.proofs.SideLaws.{moved_to, index_small, both, off_row, off_column}
+use Rattle.grid.proofs.SideLaws.{moved_to, index_small, both}
 use Rattle.grid.proofs.Grid.shifted.Goals as goal
 use Rattle.grid.proofs.Grid.shifted.Goals.{In_ok-to_x}
 
@@ -23,15 +23,6 @@ small c =
     index_small _ _ a.self.tall a.self.wide
     (moved_to _ a.dy _ _ (sym (by a.y a.dy a.self.height c.ranges.dy c.in_ok-to_y.ensures))).0
     (moved_to _ a.dx _ _ (sym (by a.x a.dx a.self.width c.ranges.dx c.in_ok-to_x.ensures))).0
-
-pub returns-in_err-to_y : goal.returns-in_err-to_y
-returns-in_err-to_y c = let a = c.args in c.from_residual.ensures ∙ off_row a.self.height a.self.width a.y a.x a.dy a.dx (by a.y a.dy a.self.height c.ranges.dy c.in_err-to_y.ensures)
-
-pub returns-in_err-to_x : goal.returns-in_err-to_x
-returns-in_err-to_x c =
-    let a = c.args in
-    c.from_residual-in_err-to_x.ensures
-    ∙ off_column a.self.height a.self.width a.y a.x a.dy a.dx _ (by a.y a.dy a.self.height c.ranges.dy c.in_ok-to_y.ensures) (by a.x a.dx a.self.width c.ranges.dx c.in_err-to_x.ensures)
 
 pub overflow_mul-result : goal.overflow_mul-result
 overflow_mul-result c = omega (arith, (small (goal.at.overflow_mul-result c).In_ok-to_x).0)

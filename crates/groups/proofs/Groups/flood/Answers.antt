@@ -17,8 +17,8 @@ use Rattle.groups.specs.Flood.{unlabelled, free, Ready}
 use Rattle.groups.specs.Table.{Counting}
 use Rattle.groups.specs.declared.Groups.{Groups}
 use Rattle.groups.proofs.GroupLaws.{linked_size}
-use Rattle.groups.proofs.CountLaws.{bit_few, Offered-counts, counted, labelled_none, Counting-none, Counting-all, Counting-few}
-use Rattle.groups.proofs.FloodLaws.{Offered-labelled, flood_starts, flood_ends}
+use Rattle.groups.proofs.CountLaws.{bit_few, Offered-counts, counted, Counting-none, Counting-all, Counting-few}
+use Rattle.groups.proofs.FloodLaws.{Offered-labelled, flood_starts}
 use Rattle.groups.proofs.Groups.flood.Goals as goal
 use Rattle.groups.proofs.Groups.flood.Goals.{Start, In-loop-count}
 use Rattle.groups.proofs.Groups.flood.Invariants.{Amid}
@@ -54,12 +54,6 @@ written :
     (G₀ G : Groups) (s : ℕ) {x a y b : ℕ} → G ≡ record G₀ { labels = G.labels } → x ≡ a → y ≡ b
     → record G { squares = set G.squares s x; arrowed = set G.arrowed s y } ≡ record G₀ { labels = G.labels; squares = set G₀.squares s a; arrowed = set G₀.arrowed s b }
 written G₀ G s rest p q = cc
-
-pub returns-then-self-s-ne-UNLABELLED-clause-counted : goal.returns-then-self-s-ne-UNLABELLED-clause-counted
-returns-then-self-s-ne-UNLABELLED-clause-counted c =
-    let G = c.args.self.now in
-    let s = c.args.s in
-    written G G s refl (labelled_none s (marked c.args.cells.now) G.labels c.requires.unused) (labelled_none s (marked c.args.onarrow.now) G.labels c.requires.unused)
 
 pub offer-count-requires : goal.offer-count-requires
 offer-count-requires c =
@@ -130,12 +124,6 @@ overflow_cast-self c = omega (arith, Counting-few c.args.s (marked c.args.cells.
 
 pub overflow_cast-self-2 : goal.overflow_cast-self-2
 overflow_cast-self-2 c = omega (arith, Counting-few c.args.s (marked c.args.onarrow.now) c.loop-count.invariant.crossings)
-
-pub returns-clause-walked : goal.returns-clause-walked
-unfolding size
-returns-clause-walked c =
-    let A = c.loop-count.invariant in
-    λ p only. flood_ends (area c.args.grid.height c.args.grid.width c.args.grid.tall c.args.grid.wide) (omega (arith, c.loop-count-test.false)) (A.floods p only) A.seed
 
 pub returns-clause-counted : goal.returns-clause-counted
 returns-clause-counted c =

@@ -2,7 +2,8 @@
 -- Assumes nothing.
 use Prim.Native.Nat.{◌*◌}
 use lib.ListN.{take}
-use Rattle.groups_replay.specs.Blocks.{view_by}
+use mathlib.Core.Path.{refl}
+use Rattle.kinds.specs.Board.{board_of}
 use Rattle.groups_replay.proofs.BlockLaws.{Block-told}
 use Rattle.groups_replay.proofs.blocks.block_differs.Goals as goal
 
@@ -13,5 +14,5 @@ returns-else-reach_differs c =
     let n = info.grid.height * info.grid.width in
     λ arrows held.
     let reach = c.compute_reach-size.ensures arrows (take n info.cells.now) held in
-    Block-told (view_by info arrows) a.f a.list.now a.at c.size-n.result n c.number_at.result c.size-n.ensures.value c.number_at.ensures.0 reach
-    c.fresh_buffer-part.ensures (c.reason_for_adjacent_floating_boundary-written.ensures arrows held reach.marked) c.reach_differs.result c.fence_differs.result c.reach_differs.ensures c.if-reach_differs.false c.fence_differs.ensures
+    Block-told (board_of info arrows) a.f a.block.list.now a.block.at c.size-n.result n c.number_at.result c.size-n.ensures.value c.number_at.ensures.0 reach
+    refl (c.reason_for_adjacent_floating_boundary-written.ensures arrows held reach.marked) c.reach_differs.result c.fence_differs.result c.reach_differs.ensures c.if-reach_differs.false c.fence_differs.ensures

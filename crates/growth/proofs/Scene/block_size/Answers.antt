@@ -2,14 +2,14 @@
 -- Assumes nothing.
 use mathlib.Core.Path.{ap, ◌∙◌}
 use lib.ListN.{length}
-use Prim.Native.Nat.{◌*◌}
+use Rattle.shift.specs.Shift.{block_in}
 use Rattle.growth.proofs.PairChecks.{block_in_lem}
 use Rattle.growth.proofs.Scene.block_size.Goals as goal
 
 pub returns : goal.returns
+unfolding block_in
 returns c =
     let s = c.args.self.now in
     let g = s.linked.info.grid in
     λ lines held arrow.
-    c.block_size.ensures s.linked.info.kinds.now s.linked.info.owners.now (g.height * g.width) s.blocks arrow
-    ∙ ap length (block_in_lem g.height g.width lines s.linked.info.cells.now held c.args.f)
+    rw (c.from-2.ensures, c.from.ensures) (s.blocks c.args.f c.requires.name arrow ∙ ap length (block_in_lem g.height g.width lines s.linked.info.cells.now held c.args.f))

@@ -2,15 +2,11 @@
 -- Assumes nothing.
 use Prim.Native.Nat.{◌+◌, ◌*◌, ◌≤◌}
 use native.Mathlib.Omega.{arith}
-use mathlib.Core.Path.{ap}
 use lib.ListN.{length}
 use Rattle.grid.specs.Side.{sized}
 use Rattle.fields.proofs.OutcomeLaws.{agrees_fault}
-use Rattle.record.proofs.ArrowsLaws.{arrows_start, arrows_fault, arrows_room, arrows_more, arrows_filled, arrows_unfilled}
+use Rattle.record.proofs.ArrowsLaws.{arrows_fault, arrows_room, arrows_filled, arrows_unfilled}
 use Rattle.record.proofs.Line.read_arrows.Goals as goal
-
-pub loop-i-init : goal.loop-i-init
-loop-i-init c = (omega (arith, ap length c.requires.1), arrows_start c.args.s.now (sized c.args.grid.height c.args.grid.width) (21 + 2 * (c.args.grid.height * c.args.grid.width)) c.args.arrows _ _ c.requires.1 c.requires.2)
 
 pub returns-in_err-read_arrow : goal.returns-in_err-read_arrow
 returns-in_err-read_arrow c =
@@ -21,12 +17,6 @@ bounds-ends-i c =
     let a = c.in_ok-read_arrow.ensures in
     let n : length c.read_arrow.new.self ≤ 1024 = omega (arith, c.len-in-loop-i.ensures.0, c.len-in-loop-i.ensures.1) in
     arrows_room c.args.s.now (sized c.args.grid.height c.args.grid.width) (21 + 2 * (c.args.grid.height * c.args.grid.width)) c.args.arrows c.loop-i.i c.loop-i.invariant.1 (rw (c.len.ensures.0, c.size.ensures.value) at a.1) a.2 n
-
-pub loop-i-preserved : goal.loop-i-preserved
-loop-i-preserved c =
-    let a = c.in_ok-read_arrow.ensures in
-    let n : length c.read_arrow.new.self ≤ 1024 = omega (arith, c.len-in-loop-i.ensures.0, c.len-in-loop-i.ensures.1) in
-    (n, rw c.len-in-loop-i.ensures.0 (arrows_more c.args.s.now (sized c.args.grid.height c.args.grid.width) (21 + 2 * (c.args.grid.height * c.args.grid.width)) c.args.arrows c.loop-i.i c.loop-i.invariant.1 (rw (c.len.ensures.0, c.size.ensures.value) at a.1) a.2 c.loop-i-test.true n))
 
 pub returns-then-may_end : goal.returns-then-may_end
 returns-then-may_end c =

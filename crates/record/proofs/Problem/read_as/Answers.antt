@@ -4,8 +4,8 @@ use Prim.Native.Nat.{◌+◌, ◌*◌, ◌≤◌, ◌<◌}
 use native.Mathlib.Omega.{arith}
 use mathlib.Core.Path.{refl, sym, ap, ◌∙◌}
 use Rattle.grid.specs.Lists.{array_of}
-use Rattle.fields.proofs.OutcomeLaws.{field-ok, outcome_fault}
-use Rattle.record.proofs.WholeLaws.{whole_cut, whole_cut_2, whole_cut_3, whole_size, whole_cells, whole_arrows, whole_done}
+use Rattle.fields.proofs.OutcomeLaws.{field-ok}
+use Rattle.record.proofs.WholeLaws.{whole_size, whole_done}
 use Rattle.record.proofs.Problem.read_as.Goals as goal
 use Rattle.record.proofs.Problem.read_as.Goals.{In_ok-count}
 
@@ -15,42 +15,21 @@ limits : (c : In_ok-count) → let h = c.in_ok-height.field-0 in
     (h < 32) × (w < 32) × ((h + 1) * (w + 1) ≤ 1024)
 limits c = whole_size c.args.extent c.args.bytes.now c.in_ok-height.ensures c.in_ok-width.ensures
 
-pub returns-in_err-height : goal.returns-in_err-height
-returns-in_err-height c = outcome_fault _ _ c.from_residual.ensures.1 (whole_cut c.args.extent c.args.bytes.now c.in_err-height.ensures)
-
 pub overflow_add-height : goal.overflow_add-height
 overflow_add-height c = omega (arith, field-ok c.args.bytes.now 0 5 (sym c.in_ok-height.ensures))
 
-pub returns-in_err-width : goal.returns-in_err-width
-returns-in_err-width c = outcome_fault _ _ c.from_residual-in_err-width.ensures.1 (whole_cut_2 c.args.extent c.args.bytes.now c.in_ok-height.ensures c.in_err-width.ensures)
-
 pub overflow_add-width : goal.overflow_add-width
 overflow_add-width c = omega (arith, field-ok c.args.bytes.now 5 5 (sym c.in_ok-width.ensures))
-
-pub returns-in_err-count : goal.returns-in_err-count
-returns-in_err-count c = outcome_fault _ _ c.from_residual-in_err-count.ensures.1 (whole_cut_3 c.args.extent c.args.bytes.now c.in_ok-height.ensures c.in_ok-width.ensures c.in_err-count.ensures)
 
 pub invariant_of-grid : goal.invariant_of-grid
 invariant_of-grid c =
     let z = limits (goal.at.invariant_of-grid c).In_ok-count in
     record { tall = omega (arith, z.0); wide = omega (arith, z.1) }
 
-pub read_cells-requires : goal.read_cells-requires
-unfolding array_of
-read_cells-requires c = (c.size.ensures.small, refl)
-
-pub returns-in_err-read_cells : goal.returns-in_err-read_cells
-returns-in_err-read_cells c = outcome_fault _ _ c.from_residual-in_err-read_cells.ensures.1 (whole_cells c.args.extent c.args.bytes.now c.in_ok-height.ensures c.in_ok-width.ensures c.in_ok-count.ensures (rw c.size.ensures.value at c.in_err-read_cells.ensures))
-
 pub read_arrows-requires : goal.read_arrows-requires
 unfolding array_of
 read_arrows-requires c =
     (omega (arith, field-ok c.args.bytes.now 10 11 (sym c.in_ok-count.ensures)), c.new-line.ensures, refl)
-
-pub returns-in_err-read_arrows : goal.returns-in_err-read_arrows
-returns-in_err-read_arrows c =
-    outcome_fault _ _ c.from_residual-in_err-read_arrows.ensures.1
-    (whole_arrows c.args.extent c.args.bytes.now c.in_ok-height.ensures c.in_ok-width.ensures c.in_ok-count.ensures (rw c.size.ensures.value at c.in_ok-read_cells.ensures.1) c.in_err-read_arrows.ensures)
 
 pub returns : goal.returns
 returns c =

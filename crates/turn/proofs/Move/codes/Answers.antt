@@ -1,21 +1,20 @@
--- `turn::Move::codes` meets its contract: the first j codes are in the array.
+-- `turn::Move::codes` meets its contract: no code is in the array at first, and all are at the end.
 -- Assumes nothing.
-use Prim.Native.Nat.{ℕ}
+use Prim.Native.Nat.{ℕ, ◌*◌}
 use native.Mathlib.Omega.{arith}
-use mathlib.Core.Path.{ap, ◌∙◌}
-use mathlib.Core.List.{List}
-use lib.ListN.{get_or, set}
-use Rattle.grid.proofs.SideLaws.{area}
-use Rattle.grid.proofs.FilledLaws.{filled_none, filled_more}
+use mathlib.Core.Path.{◌≡◌, ◌∙◌}
+use lib.ListN.{get_or}
+use Rattle.grid.specs.Side.{sized}
+use Rattle.grid.proofs.FilledLaws.{filled_none}
+use Rattle.turn.specs.Inside.{step_of}
+use Rattle.turn.proofs.ArrayLaws.{all_carried}
 use Rattle.turn.proofs.Move.codes.Goals as goal
-use Rattle.turn.proofs.Move.codes.Invariants.{from}
 
 pub loop-j-init : goal.loop-j-init
-loop-j-init c = filled_none 0 (from c.args.self c.args.height c.args.width c.args.cells.now)
+loop-j-init c = filled_none 0 (λ (k : ℕ). get_or c.args.cells.now ((step_of c.args.self (sized c.args.grid.height c.args.grid.width)).from k) 0)
 
-pub loop-j-preserved : goal.loop-j-preserved
-loop-j-preserved c =
-    let cells = c.args.cells.now in
-    let v = ap (λ (k : ℕ). get_or cells k 0) c.from_cell.ensures.0 in
-    ap (λ (x : List ℕ). set x c.loop-j.j (get_or cells c.from_cell.result 0)) c.loop-j.invariant
-    ∙ filled_more 0 (from c.args.self c.args.height c.args.width cells) c.loop-j.j (get_or cells c.from_cell.result 0) (omega (arith, area c.args.height c.args.width c.requires.0 c.requires.1)) v
+pub returns : goal.returns
+returns c =
+    let g = sized c.args.grid.height c.args.grid.width in
+    let e : c.loop-j.j ≡ g.height * g.width = omega (arith, c.loop-j.auto.j-end, c.loop-j-test.false, c.size-j-end.ensures.value) in
+    rw e at c.loop-j.invariant ∙ all_carried c.args.self g c.args.cells.now

@@ -1,37 +1,37 @@
 -- `turn::Move::step` meets its contract.
 -- Assumes nothing.
-use Prim.Native.Nat.{ℕ}
-use mathlib.Core.Path.{ap, ◌∙◌}
-use mathlib.Core.List.{map}
-use lib.ListN.{get_or}
-use Rattle.grid.specs.Lists.{upto, array_of}
-use Rattle.grid.specs.Side.{sized}
+use native.Mathlib.Omega.{arith}
+use Rattle.std.proofs.lemmas.List.{length-take, get_or-take}
 use Rattle.writer.proofs.ArrayLaws.{parts}
-use Rattle.turn.specs.Inside.{step_of}
-use Rattle.turn.proofs.ArrayLaws.{Stepped, stepped}
+use Rattle.turn.proofs.ArrayLaws.{stepped}
 use Rattle.turn.proofs.Move.step.Goals as goal
+
+pub invariant_of-grid : goal.invariant_of-grid
+invariant_of-grid c =
+    let r = parts c.requires.0 c.requires.1 c.args.problem.now c.requires.2 in
+    record { tall = r.tall; wide = r.wide }
 
 pub arrow_total-total-requires : goal.arrow_total-total-requires
 arrow_total-total-requires c =
     let r = parts c.requires.0 c.requires.1 c.args.problem.now c.requires.2 in
     r.few
 
-pub codes-cells-requires : goal.codes-cells-requires
-codes-cells-requires c =
+pub shared_ref_as_front-line : goal.shared_ref_as_front-line
+shared_ref_as_front-line c =
     let r = parts c.requires.0 c.requires.1 c.args.problem.now c.requires.2 in
-    (r.tall, r.wide)
+    omega (arith, c.arrow_total-total.ensures, r.short)
 
 pub line-arrows-requires : goal.line-arrows-requires
 line-arrows-requires c =
     let r = parts c.requires.0 c.requires.1 c.args.problem.now c.requires.2 in
-    (r.tall, r.wide, rw c.arrow_total-total.ensures r.short, λ t l. r.cells t (rw c.arrow_total-total.ensures at l))
+    let n = c.arrow_total-total.result in
+    let line = c.args.problem.now.arrows in (
+      omega (arith, length-take n line, c.arrow_total-total.ensures, r.short),
+      λ t h. rw (get_or-take n line t 0 (omega (arith, length-take n line))) (r.cells t (omega (arith, length-take n line, c.arrow_total-total.ensures))),
+    )
 
 pub returns : goal.returns
 returns c =
-    let m = c.args.self in
-    let q = c.args.problem.now in
-    let d : Stepped m q c.codes-cells.result c.line-arrows.result = record {
-      codes = c.codes-cells.ensures;
-      line = c.line-arrows.ensures ∙ ap (λ (k : ℕ). array_of 0 (map (λ t. (step_of m (sized q.height q.width)).to (get_or q.arrows t 0)) (upto k))) c.arrow_total-total.ensures;
-    } in
-    λ p v e. rw c.sides-height.ensures (stepped p v m q e c.codes-cells.result c.line-arrows.result d)
+    λ p v e.
+    stepped p v c.args.self c.args.problem.now e
+    (record { sides = c.to_grid-moved.ensures; all = c.arrow_total-total.ensures; codes = c.codes-cells.ensures; line = c.line-arrows.ensures })

@@ -4,14 +4,13 @@ use native.Mathlib.Omega.{arith}
 use mathlib.Core.Path.{◌≡◌, sym}
 use mathlib.Core.Bool.{false}
 use mathlib.Core.List.{List}
-use Prim.Native.Nat.{ℕ, ◌<◌}
+use Prim.Native.Nat.{ℕ}
 use borrow.Author.Tests.{eq-eqb, ne_eqb}
 use Rattle.std.proofs.Common.{rules}
 use Rattle.grid.specs.Lists.{any}
 use Rattle.grid.specs.Side.{sized, InGrid}
 use Rattle.grid.proofs.ListLaws.{mem-any}
-use Rattle.grid.proofs.SideLaws.{cell_small}
-use Rattle.grid.proofs.AroundLaws.{side_Adjacent, side_cell, side_at, side_off, sides_none, sides_all}
+use Rattle.grid.proofs.AroundLaws.{side_Adjacent, side_at, side_off, sides_none, sides_all}
 use Rattle.units.proofs.Boundary.{none_yet, none_more}
 use Rattle.units.proofs.PotentialGroup.touches.Goals as goal
 use Rattle.units.proofs.PotentialGroup.touches.Goals.{Start, in_default-via-in-None-1, in_default-via-in-Some+else-self-j}
@@ -23,14 +22,6 @@ here c = record { tall = c.args.self.now.grid.tall; wide = c.args.self.now.grid.
 
 pub loop-k-init : goal.loop-k-init
 loop-k-init c = let t = test c.args.self.now.labels.now c.args.self.now.name in sides_none (λ (l : List ℕ). any t l ≡ false) _ _ (none_yet t)
-
-pub bounds-self-j : goal.bounds-self-j
-bounds-self-j c = cell_small (side_cell (here (goal.at.bounds-self-j c).Start) c.loop-k.k c.toward.result c.toward.ensures _ c.in-Some.is)
-
-pub offset_bounds-self-j : goal.offset_bounds-self-j
-offset_bounds-self-j c =
-    let small : c.in-Some.j < 1024 = cell_small (side_cell (here (goal.at.offset_bounds-self-j c).Start) c.loop-k.k c.toward.result c.toward.ensures _ c.in-Some.is) in
-    omega (arith, small)
 
 pub returns-in-loop-k : goal.returns-in-loop-k
 returns-in-loop-k c =

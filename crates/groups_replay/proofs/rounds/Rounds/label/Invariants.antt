@@ -10,4 +10,4 @@ use Rattle.groups_replay.proofs.rounds.Rounds.label.Given as goal
 abbrev pub invariant-loop-i : goal.invariant-loop-i
 invariant-loop-i l =
     Names l.groups.firsts l.groups.count
-    × (0 < l._i → GroupTable (sized l.grid.height l.grid.width) (counts l.fn.members (take (l.grid.height * l.grid.width) l.cells)) (square (take (l.grid.height * l.grid.width) l.cells)) (marked l.onarrow) l.groups.labels l.groups.firsts l.groups.squares l.groups.arrowed l.groups.count)
+    × (0 < l._i → GroupTable (sized l.board.grid.height l.board.grid.width) (counts l.fn.members (take (l.board.grid.height * l.board.grid.width) l.board.cells.now)) (square (take (l.board.grid.height * l.board.grid.width) l.board.cells.now)) (marked l.board.onarrow.now) l.groups.labels l.groups.firsts l.groups.squares l.groups.arrowed l.groups.count)

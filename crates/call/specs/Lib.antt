@@ -1,2 +1,0 @@
-pub mod Call
-pub mod Inside

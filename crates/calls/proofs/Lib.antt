@@ -1,0 +1,9 @@
+pub mod Opened
+pub mod Steps
+pub mod Opening
+pub mod FindLaws
+pub mod FoundLaws
+pub mod Behind
+pub mod JudgedLaws
+pub mod ShadedLaws
+pub mod ToldLaws

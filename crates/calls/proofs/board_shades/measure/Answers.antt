@@ -1,0 +1,27 @@
+-- `calls::board_shades::measure` meets its contract: the grid of a record that is accepted.
+-- Assumes nothing.
+use mathlib.Core.Path.{ap}
+use Rattle.grid.specs.Side.{sized}
+use Rattle.fields.proofs.OutcomeLaws.{agrees_fault}
+use Rattle.record.specs.Record.{read_record}
+use Rattle.record.specs.Problem.{problem_of}
+use Rattle.record.specs.declared.Problem.{Problem}
+use Rattle.record.proofs.ProblemLaws.{problem_ok, problem_refused}
+use Rattle.record.proofs.RecordLaws.{record_Valid}
+use Rattle.calls.proofs.board_shades.measure.Goals as goal
+
+pub returns-in_err-problem : goal.returns-in_err-problem
+returns-in_err-problem c = agrees_fault _ c.from_residual.result c.in_err-problem.field-0.0 c.from_residual.ensures.1 (problem_refused (read_record c.args.«record».now) c.in_err-problem.ensures)
+
+pub invariant_of-result : goal.invariant_of-result
+unfolding problem_of
+invariant_of-result c =
+    let p = problem_ok (read_record c.args.«record».now) c.in_ok-problem.ensures in
+    let v = (record_Valid c.args.«record».now p.1).high in
+    record { tall = rw (ap (λ (q : Problem). q.height) p.2) v.0; wide = rw (ap (λ (q : Problem). q.width) p.2) v.1 }
+
+pub returns : goal.returns
+unfolding problem_of
+returns c =
+    let p = problem_ok (read_record c.args.«record».now) c.in_ok-problem.ensures in
+    (p.0, p.1, ap (λ (q : Problem). sized q.height q.width) p.2)

@@ -1,7 +1,0 @@
--- `near::count_cells` meets its contract: the cells passed are counted.
--- Assumes nothing.
-use Rattle.reach.proofs.NearLaws.{Sizes-none}
-use Rattle.near.proofs.count_cells.Goals as goal
-
-pub loop-i-init : goal.loop-i-init
-loop-i-init c = rw c.requires.fresh.1 (Sizes-none _ _)
