@@ -30,14 +30,14 @@ literal_back l h v =
 
 -- the literals, read back from their bytes
 literals_back : (r : List Literal) → ((l : Literal) → Memᴰ l r → (l.0 < 1024) × (l.1 ≤ 1)) → literals_in (bytes_of (map word r)) ≡ r
-unfolding literals_in bytes_of flat_map
+unfolding literals_in bytes_of
 literals_back [] h = refl
 literals_back (l ∷ r) h =
     let s = h l (Memᴰ.head refl) in
     rw (literal_back l s.0 s.1) (ap (λ (m : List Literal). l ∷ m) (literals_back r (λ k m. h k (Memᴰ.tail m))))
 
 bytes_long : (r : List Literal) → length (bytes_of (map word r)) ≡ 2 * length r
-unfolding bytes_of flat_map
+unfolding bytes_of
 bytes_long [] = refl
 bytes_long (l ∷ r) = omega (arith, bytes_long r)
 

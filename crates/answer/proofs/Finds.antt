@@ -67,7 +67,6 @@ program_refusals input low = program_Possible (λ k m. m) input (λ a b i j h. a
 
 -- these refusals are 1 to 12
 pub refusal_small : (k : ℕ) → Memᴰ k (8 ∷ refusals) → (0 < k) × (k ≤ 12)
-unfolding all
 refusal_small k m =
     let e = and-true (ltb 0 k) (leb k 12) (all-mem (λ j. ltb 0 j && leb j 12) (8 ∷ refusals) refl k m) in
     (ltb-true 0 k e.0, leb-true k 12 e.1)

@@ -37,5 +37,5 @@ pub prints :
     ∷ (114 ∷ 101 ∷ 102 ∷ 117 ∷ 115 ∷ 101 ∷ 100 ∷ 32 ∷ 49 ∷ 10 ∷ [])
     ∷ (114 ∷ 101 ∷ 102 ∷ 117 ∷ 115 ∷ 101 ∷ 100 ∷ 32 ∷ 49 ∷ 10 ∷ [])
     ∷ [])
-unfolding range upto filter any all last init tail flat_map member once size cells_of row col only up down left right neighbours touches rename join join_all edges labels group names ◌>>=◌ unless bit number field cell_codes there step_from step_cells arrow_at filler arrows_at read_record value_at cells_after empty square undecided potential decided after refusal after_all is_floating is_in is_neighbour kind_touching on_arrow arrow_block blocks_touched kind_at kinds_of has view_with view block float_near in_reach reach disturbing fence_at fence or_else reason_if first_found_of each reason1_at reason1 appended breadth_first parent path reason2_at reason2 pairs_from pairs fits most_apart block_name reason_grow reason3_at gap reason_shrink reason4_at reason4a_at reason4b_at reason34 reason5 find_reason find_on accept_or decide_bytes enough host_finds digits_within digits line none_text reason_text refused_text two_words literal_line text_of output_limit answer_of input_answer program_finds printed
+unfolding range upto last init tail member once size cells_of row col only up down left right neighbours touches rename join join_all edges labels group names ◌>>=◌ unless bit number field cell_codes there step_from step_cells arrow_at filler arrows_at read_record value_at cells_after empty square undecided potential decided after refusal after_all is_floating is_in is_neighbour kind_touching on_arrow arrow_block blocks_touched kind_at kinds_of has view_with view block float_near in_reach reach disturbing fence_at fence or_else reason_if first_found_of each reason1_at reason1 appended breadth_first parent path reason2_at reason2 pairs_from pairs fits most_apart block_name reason_grow reason3_at gap reason_shrink reason4_at reason4a_at reason4b_at reason34 reason5 find_reason find_on accept_or decide_bytes enough host_finds digits_within digits line none_text reason_text refused_text two_words literal_line text_of output_limit answer_of input_answer program_finds printed
 prints = refl

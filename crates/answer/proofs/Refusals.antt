@@ -44,7 +44,6 @@ printed_refusal input low k h e = refusal_told k h (program_refusals input low) 
 
 -- 6, 8, 10 and 11 are never printed
 pub never_printed : (input : List ℕ) → Bytes input → (k : ℕ) → Memᴰ k (6 ∷ 8 ∷ 10 ∷ 11 ∷ []) → printed input ≡ text_of (refused k) → ⊥
-unfolding all
 never_printed input low k m e =
     let t = and-true (leb k 12) (not (among k refusals)) (all-mem (λ j. leb j 12 && not (among j refusals)) (6 ∷ 8 ∷ 10 ∷ 11 ∷ []) refl k m) in
     let h = leb-true k 12 t.0 in

@@ -51,6 +51,7 @@ fn find_in(input: &[u8], found: &mut [u8; FOUND]) -> Result<usize, usize>
 }
 
 // Writes what the program `reason` prints for its input, and returns how many bytes that are. The bytes behind them stay as they were.
+// A writer and no `Display`: what a `Display` promises holds where the write succeeds, and this call has no way to fail.
 pub fn respond(input: &[u8], out: &mut [u8; TEXT]) -> usize
     ensures { Written out.old 0 (printed input.now) out.new result }
 {

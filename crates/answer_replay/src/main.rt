@@ -45,6 +45,7 @@ impl Entries for Inputs {
     }
 }
 
+// One line in each program that replays a list: `replay::replay` does the rest, and the entries and their words are the program's own.
 fn main(rt: HostRuntime) -> io::Result<()> {
-    replay::replay::<Inputs, _, _>(rt.reader(), &mut io::writer(&rt), " inputs, ", "")
+    replay::replay::<Inputs, _, _>(rt.reader(), &mut io::writer(&rt), " inputs, ", None)
 }

@@ -151,10 +151,6 @@ module _ (b : Board) (h : well_formed b ≡ true) where
   unfolding cells grid_of size
   most = whole_most b (Whole-is b h)
 
-  pub board_most : b.problem.height * b.problem.width ≤ 1024
-  unfolding cells
-  board_most = most
-
   module _ {lows highs : List ℕ} (lent : Lent b lows highs) where
     -- they sit on its arrows
     pub board_lent : SizesOn (b.problem.height * b.problem.width) (lines_of b.problem.arrows b.problem.ends b.problem.count) lows highs

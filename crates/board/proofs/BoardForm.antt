@@ -11,9 +11,10 @@ use lib.Dec.{eqb, leb}
 use lib.ListN.{length, get_or, take, length-map, length-append}
 use lib.Seq.{length-take-le, get_or-take, ext_get_or}
 use borrow.Author.Tests.{eqb-true, eq-eqb, leb-true, le-leb, ne_eqb}
+use Rattle.std.proofs.lemmas.Bool.{and_from}
 use Rattle.grid.specs.Lists.{all, any, member, upto, array_of, Distinct}
 use Rattle.grid.specs.Grid.{Grid, size}
-use Rattle.grid.proofs.ListLaws.{and-true, true-and, Dec-So, So-false, mem-member, member-mem, all-mem, mem-all, mem-upto, upto-mem, at_mem}
+use Rattle.grid.proofs.ListLaws.{and-true, Dec-So, So-false, mem-member, member-mem, all-mem, mem-all, mem-upto, upto-mem, at_mem}
 use Rattle.grid.proofs.AppendLaws.{eqb_sym}
 use Rattle.grid.proofs.ArrayLaws.{array_length, array_take, array_in}
 use Rattle.grid.proofs.GridLaws.{size_most}
@@ -53,7 +54,7 @@ valued-index f (i ∷ l) = ap (λ (r : List ℕ). i ∷ r) (valued-index f l)
 
 -- their value is f's at a listed cell, and 2 at any other
 valued_at : (f : ℕ → ℕ) (l : List ℕ) (i : ℕ) → value_at (valued f l) i ≡ cond (member i l) (f i) 2
-unfolding value_at valued member any
+unfolding value_at valued member
 valued_at f [] i = refl
 valued_at f (j ∷ l) i = go (Dec-So (eqb j i)) (valued_at f l i)
   where
@@ -63,7 +64,7 @@ valued_at f (j ∷ l) i = go (Dec-So (eqb j i)) (valued_at f l i)
 
 -- a cell is decided when it is listed
 pub decided_listed : (ds : List Literal) (i : ℕ) → decided ds i ≡ member i (map index ds)
-unfolding decided member any
+unfolding decided member
 decided_listed [] i = refl
 decided_listed (d ∷ ds) i = ap₂ (λ (a b : Bool). a || b) (eqb_sym d.0 i) (decided_listed ds i)
 
@@ -108,7 +109,7 @@ Standing-length {g} {ds} s =
 
 -- the value at a listed cell is 0 or 1, at any other 2
 pub value_listed : (ds : List Literal) (i : ℕ) → ((d : Literal) → Memᴰ d ds → d.1 ≤ 1) → decided ds i ≡ true → value_at ds i ≤ 1
-unfolding decided any value_at
+unfolding decided value_at
 value_listed [] i low h = absurd (false≢true h)
 value_listed (d ∷ ds) i low h = go (eqb d.0 i) h (value_listed ds i (λ e m. low e (Memᴰ.tail m)))
   where
@@ -117,7 +118,7 @@ value_listed (d ∷ ds) i low h = go (eqb d.0 i) h (value_listed ds i (λ e m. l
     go false q ih = ih q
 
 pub value_free : (ds : List Literal) (i : ℕ) → decided ds i ≡ false → value_at ds i ≡ 2
-unfolding decided any value_at
+unfolding decided value_at
 value_free [] i h = refl
 value_free (d ∷ ds) i h = go (eqb d.0 i) h (value_free ds i)
   where
@@ -176,11 +177,11 @@ Whole-is b h =
 pub is_Whole : (b : Board) → Whole b → well_formed b ≡ true
 unfolding well_formed sizes_good long ordered stated
 is_Whole b w =
-    true-and
-    (true-and (is_Formed b.problem w.problem)
-    (true-and (true-and (true-and (true-and (eq-eqb (length b.cells) 1024 w.cells_long) (eq-eqb (length b.order) 1024 w.order_long)) (is_Counts b.hints w.counts)) w.edition)
+    and_from _ _
+    (and_from _ _ (is_Formed b.problem w.problem)
+    (and_from _ _ (and_from _ _ (and_from _ _ (and_from _ _ (eq-eqb (length b.cells) 1024 w.cells_long) (eq-eqb (length b.order) 1024 w.order_long)) (is_Counts b.hints w.counts)) w.edition)
     (is_sizes (puzzle_of b.problem).arrows b.lowest b.highest w.sizes)))
-    (true-and (true-and (true-and (le-leb b.decided 1024 w.few) w.once) w.zeros) (true-and w.states w.twos))
+    (and_from _ _ (and_from _ _ (and_from _ _ (le-leb b.decided 1024 w.few) w.once) w.zeros) (and_from _ _ w.states w.twos))
 
 -- the decisions that a board lists, with the values of their cells
 unfoldable pub decisions_of : Board → List Literal
@@ -297,6 +298,14 @@ module _ (b : Board) (w : well_formed b ≡ true) where
   pub formed_area : b.problem.height * b.problem.width ≤ 1024
   unfolding grid_of size
   formed_area = whole_most b (Whole-is b w)
+
+  pub formed_tall : b.problem.height ≤ 32
+  unfolding grid_of
+  formed_tall = (Whole-is b w).problem.sizes.high.0
+
+  pub formed_wide : b.problem.width ≤ 32
+  unfolding grid_of
+  formed_wide = (Whole-is b w).problem.sizes.high.1
 
   pub formed_few : b.decided ≤ 1024
   formed_few = (Whole-is b w).few

@@ -45,7 +45,7 @@ use Rattle.board.proofs.BoardForm.{Whole, Whole-is, is_Whole, decisions_of, whol
 
 -- the value after one more decision
 value_more : (ds : List Literal) (i v j : ℕ) → decided ds i ≡ false → value_at (ds ++ ((i, v) ∷ [])) j ≡ cond (eqb i j) v (value_at ds j)
-unfolding decided any value_at
+unfolding decided value_at
 value_more [] i v j h = refl
 value_more (d ∷ ds) i v j h = go (eqb d.0 i) refl h (Dec-So (eqb d.0 j)) (value_more ds i v j)
   where

@@ -45,3 +45,6 @@ module _ (n count : ℕ) (order cells : List ℕ) where
   pub decisions_are : count ≤ 1024 → true ≡ fresh n [] (take count order) → true ≡ behind 0 count order → true ≡ all (shown (take count order) cells) (upto n) → behind 2 n cells ≡ decisions_formed
   unfolding ordered stated
   decisions_are few f z s = simp (le-leb count 1024 few, ← f, ← z, ← s)
+
+-- for the test of a board's decisions, a law for each way out
+pub ruleset decision_tests = (decisions_many, decisions_twice, decisions_zeros, decisions_shown, decisions_are)

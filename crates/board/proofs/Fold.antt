@@ -22,9 +22,9 @@ use Rattle.board.specs.Form.{well_formed}
 use Rattle.board.specs.Decide.{area, with_decisions, placed, decide_of, refused_with, onward, decide_all_of, placed_from, all_placed}
 use Rattle.board.specs.Inside.{Placing, bits, off, twice, put, Stands, whole, part, Held}
 use Rattle.board.proofs.Standing.{Standing, after-Standing}
-use Rattle.board.proofs.BoardForm.{Whole-is, decisions_of, whole_Standing, whole_leaf, whole_again}
+use Rattle.board.proofs.BoardForm.{Whole-is, decisions_of, whole_Standing, whole_leaf, whole_again, formed_tall, formed_wide, formed_area, formed_room, formed_few, formed_latest}
 use Rattle.board.proofs.CallLaws.{Standing-well, decide_left}
-use Rattle.board.proofs.Answers.{no, yes, decide_7, decide_9, decide_done}
+use Rattle.board.proofs.Answers.{no, yes, decide_6, decide_7, decide_8, decide_9, decide_done, decide_answers, decide_leaves, undo_6, undo_10, undo_answers, undo_leaves}
 
 -- decide keeps a board well formed
 pub decide_well : (b : Board) → well_formed b ≡ true → (i v : ℕ) → well_formed (decide_of b i v).board ≡ true
@@ -117,3 +117,8 @@ module _ (b : Board) (bytes cells order : List ℕ) (w : well_formed b ≡ true)
   pub formed_held : Held (b.problem.height * b.problem.width) b.decided b.cells b.order
   unfolding grid_of size
   formed_held = record { board = b; area = refl; well = w }
+
+-- for decide, undo and a list of decisions: what is answered at each way out, and what is known of a board that passed the test
+pub ruleset deciding = (decide_6, decide_7, decide_8, decide_9, decide_answers, decide_leaves, formed_tall, formed_wide, formed_area, formed_room)
+
+pub ruleset undoing = (undo_6, undo_10, undo_answers, undo_leaves, formed_few, formed_latest)

@@ -12,10 +12,11 @@ use lib.Dec.{eqb, leb, ltb}
 use lib.ListN.{length, get_or, set, replicate, length-append, length-set, get_or-eq_default}
 use lib.Seq.{ext_get_or, get_or-set_same, get_or-set_other}
 use borrow.Author.Tests.{eqb-true, eq-eqb, ne_eqb, leb-true, le-leb, lt-leb, lt-ltb, le-ltb}
+use Rattle.std.proofs.lemmas.Bool.{and_from}
 use Rattle.grid.specs.Lists.{all, filter, upto}
 use Rattle.grid.specs.Grid.{Grid}
 use Rattle.grid.specs.Cells.{Literal}
-use Rattle.grid.proofs.ListLaws.{and-true, true-and, all-mem, mem-all, at_mem, mem_at, length-map-upto, map-upto_at, map-upto_past}
+use Rattle.grid.proofs.ListLaws.{and-true, all-mem, mem-all, at_mem, mem_at, length-map-upto, map-upto_at, map-upto_past}
 use Rattle.grid.proofs.AppendLaws.{filter-append}
 use Rattle.board.specs.Board.{Call, find, after, refusal, after_all, enough, asks, how_often}
 use Rattle.board.specs.Kept.{no_hints}
@@ -38,7 +39,7 @@ Counts-is ns e =
 pub is_Counts : (ns : List ℕ) → Counts ns → counts_formed ns ≡ true
 unfolding counts_formed
 is_Counts ns h =
-    true-and (eq-eqb (length ns) 4 h.four) (mem-all (λ n. leb n 65535) ns (λ x m. let r = mem_at ns m in le-leb x 65535 (rw (← r.2) (h.low r.0))))
+    and_from _ _ (eq-eqb (length ns) 4 h.four) (mem-all (λ n. leb n 65535) ns (λ x m. let r = mem_at ns m in le-leb x 65535 (rw (← r.2) (h.low r.0))))
 
 -- a count for each player
 abbrev pub each : (ℕ → ℕ) → List ℕ
@@ -157,7 +158,7 @@ counted_none g c ns four h = sym (each_is (λ q. cond (asks g q c) (raised (get_
 
 -- one call more, before the others
 often_cons : (g : Grid) (q : ℕ) (c : Call) (cs : List Call) → how_often g q (c ∷ cs) ≡ cond (asks g q c) (suc (how_often g q cs)) (how_often g q cs)
-unfolding how_often filter
+unfolding how_often
 often_cons g q c cs = go (asks g q c)
   where
     go : (t : Bool) → length (cond t (c ∷ filter (asks g q) cs) (filter (asks g q) cs)) ≡ cond t (suc (length (filter (asks g q) cs))) (length (filter (asks g q) cs))
@@ -166,7 +167,7 @@ often_cons g q c cs = go (asks g q c)
 
 -- the counts after no call, after one call and then the others, and after calls on a fresh board
 pub count_none : (g : Grid) {ns : List ℕ} → Counts ns → counted_all g [] ns ≡ ns
-unfolding how_often filter
+unfolding how_often
 count_none g {ns} h = each_is (λ q. min (get_or ns q 0 + 0) 65535) ns h.four (λ q l.
     let e : get_or ns q 0 + 0 ≡ get_or ns q 0 = omega arith in
     rw e (min-eq_left (h.low q)))
@@ -203,14 +204,14 @@ module _ (g : Grid) where
 
   -- they count as n for that player, and for no other
   often_own : (q n : ℕ) → q ≤ 3 → how_often g q (times q n) ≡ n
-  often_own q zero l = unfold how_often filter in refl
+  often_own q zero l = unfold how_often in refl
   often_own q (suc n) l = often_cons g q (find q (enough g)) (times q n) ∙ rw (asks_own, often_own q n l) refl
     where
       asks_own : asks g q (find q (enough g)) ≡ true
       asks_own = unfold asks in rw (eq-eqb q q refl, le-leb q 3 l, le-leb (enough g) (enough g) (omega arith)) refl
 
   often_other : (q r n : ℕ) → (r ≡ q → ⊥) → how_often g q (times r n) ≡ 0
-  often_other q r zero d = unfold how_often filter in refl
+  often_other q r zero d = unfold how_often in refl
   often_other q r (suc n) d = often_cons g q (find r (enough g)) (times r n) ∙ rw (asks_other, often_other q r n d) refl
     where
       asks_other : asks g q (find r (enough g)) ≡ false
@@ -223,13 +224,13 @@ module _ (g : Grid) where
 
   asking_before : (q r : ℕ) (ns : List ℕ) → r < q → how_often g r (asking q ns) ≡ 0
   unfolding asking
-  asking_before q r [] l = unfold how_often filter in refl
+  asking_before q r [] l = unfold how_often in refl
   asking_before q r (n ∷ ns) l =
       often_append g r (times q n) (asking (suc q) ns) ∙ omega (arith, often_other r q n (λ e. omega arith), asking_before (suc q) r ns (omega arith))
 
   asking_from : (q : ℕ) (ns : List ℕ) (k : ℕ) → q + k ≤ 3 → how_often g (q + k) (asking q ns) ≡ get_or ns k 0
   unfolding asking
-  asking_from q [] k l = unfold how_often filter in refl
+  asking_from q [] k l = unfold how_often in refl
   asking_from q (n ∷ ns) zero l =
       let e : q + 0 ≡ q = omega arith in
       rw e (often_append g q (times q n) (asking (suc q) ns) ∙ omega (arith, often_own q n (omega arith), asking_before (suc q) q ns (omega arith)))

@@ -24,8 +24,7 @@ use Rattle.sizes.specs.Lent.{SizesOn}
 use Rattle.board.specs.Inside.{lent_sizes}
 
 -- nothing is gathered where each place gives nothing
-flat_none : (l : List ℕ) → flat_map {B = Range} (λ i. []) l ≡ []
-unfolding flat_map
+flat_none : (l : List ℕ) → flat_map {A = Range} (λ i. []) l ≡ []
 flat_none [] = refl
 flat_none (x ∷ l) = flat_none l
 
@@ -35,7 +34,7 @@ no_SizesOn n lines = record { few = omega arith; both = refl; are_on_arrow = λ 
 
 -- and they keep none
 pub none_kept : kept_ranges [] [] 0 ≡ []
-unfolding kept_by flat_map upto range
+unfolding kept_by upto range
 none_kept = refl
 
 -- no more cells are lent than there are

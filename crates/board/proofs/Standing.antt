@@ -11,7 +11,7 @@ use mathlib.Core.List.{List, [], ◌∷◌, ◌++◌, map, map-append, Memᴰ}
 use lib.Dec.{eqb, leb, ltb}
 use lib.ListN.{get_or, length}
 use borrow.Author.Tests.{lt-ltb, le-leb, ltb-true, leb-true, not-true, eqb-true, eq-eqb}
-use Rattle.grid.specs.Lists.{Distinct, range, upto, init, filter}
+use Rattle.grid.specs.Lists.{Distinct, range, upto, init}
 use Rattle.grid.proofs.ListLaws.{and-true, Dec-So, So-false, mem-any, Distinct-snoc, length-map-upto, map-upto_at, map-upto_past}
 use Rattle.grid.specs.Grid.{Grid, size, cells_of}
 use Rattle.grid.specs.Cells.{Literal, ValidCells}
@@ -50,7 +50,7 @@ calls_Standing g cs = all_Standing g cs none
 
 -- and what stands is left by some list of calls without an accepted find
 pub Standing-calls : (g : Grid) {ds : List Literal} → Standing g ds → (cs : List Call) × (after_all g cs [] ≡ ds) × ((q : ℕ) → how_often g q cs ≡ 0)
-unfolding after_all after how_often filter asks
+unfolding after_all after how_often asks
 Standing-calls g none = ([], refl, λ q. refl)
 Standing-calls g (more {ds} {i} {v} s h k d) =
     let r = Standing-calls g s in (

@@ -7,33 +7,30 @@ ghost use Rattle.form.specs.Form.{shown, stated, ordered};
 
 use grid::UNDECIDED;
 
-// Whether the state v is right for a cell with this mark: empty or square where it is marked, else undecided.
-fn right(mark: u8, v: u8) -> bool
-    ensures { result ≡ cond (eqb mark 0) (eqb v 2) (leb v 1) }
+// Whether the state is right for a cell with this mark: empty or square where it is marked, else undecided.
+fn right(mark: u8, state: u8) -> bool
+    ensures { result ≡ cond (eqb mark 0) (eqb state 2) (leb state 1) }
 {
     if mark == 0 {
-        return v == UNDECIDED;
+        return state == UNDECIDED;
     }
-    v < UNDECIDED
+    state < UNDECIDED
 }
 
-// Whether just the marked cells of the first n are decided.
+// Whether just the marked cells of the first n are decided. By `fold`, as `form::filled`.
 fn all_right(cells: &[u8; 1024], marks: &[u8; 1024], n: usize) -> bool
     requires { n ≤ 1024 }
     ensures { (listed : List ℕ) → Marks marks.now (λ i. member i listed) → result ≡ all (shown listed cells.now) (upto n) }
 {
-    let mut good = true;
-    for i in 0..n {
-        if !right(marks[i], cells[i]) {
-            good = false;
-        }
-    }
-    good
+    marks[..n]
+        .iter()
+        .zip(&cells[..n])
+        .fold(true, |good, (&mark, &state)| good & right(mark, state))
 }
 
 // Whether the states of the n cells and the order of the decisions agree. It is lent the arrays and not the board: behind a call that is lent the whole board
 // `is_formed` no longer knows that the counts of hints are of 16 bits.
-#[tactic(auto, using(form::proofs::Verdicts::zeros_blank, crate::proofs::DecisionLaws::decisions_many, crate::proofs::DecisionLaws::decisions_twice, crate::proofs::DecisionLaws::decisions_zeros, crate::proofs::DecisionLaws::decisions_shown, crate::proofs::DecisionLaws::decisions_are))]
+#[tactic(auto, using(form::proofs::Verdicts::zeros_blank, crate::proofs::DecisionLaws::decision_tests))]
 pub fn good_decisions(n: usize, decided: usize, cells: &[u8; 1024], order: &[u16; 1024]) -> bool
     requires { n ≤ 1024 }
     ensures { result ≡ (ordered n decided order.now && stated n (take decided order.now) cells.now) }
@@ -45,5 +42,5 @@ pub fn good_decisions(n: usize, decided: usize, cells: &[u8; 1024], order: &[u16
     form::mark(&mut marks, &order[..decided], n)
         && form::zeros(order, decided)
         && all_right(cells, &marks, n)
-        && form::filled(cells, n, 2)
+        && form::filled(cells, n, UNDECIDED)
 }

@@ -8,7 +8,7 @@ ghost use Rattle.std.specs.Prelude.{◌≡◌, true, false, ℕ, ◌≤◌, ◌<
 ghost use Rattle.grid.specs.Grid.{size};
 ghost use Rattle.record.specs.Problem.{grid_of};
 ghost use Rattle.refusal.specs.Refusals.{outcome_of};
-ghost use Rattle.board.specs.Answers.{opened_as, decided_as};
+ghost use Rattle.board.specs.Answers.{opened_as, decided_as, done_as};
 ghost use Rattle.board.specs.Kept.{open_of, leaf_on};
 ghost use Rattle.sizes.specs.LeafOf.{leaf_of};
 ghost use Rattle.refusal.specs.declared.Refusal.TheVariants as refusals;
@@ -20,7 +20,7 @@ ghost use Rattle.board.specs.Inside.{Placing, Stands, fresh_of, Held, lent_sizes
 use grid::UNDECIDED;
 use record::Problem;
 use refusal::Refusal;
-use sizes::{CellSizes, Edition, LentLeaf, Words};
+use sizes::{CellSizes, Edition, LentLeaf, SizeRanges, Words};
 
 // A problem with its decisions. `edition` is 1, or 2 for free growth; `cells` has the state of each cell (0 empty, 1 square, 2 undecided), with 2 behind the grid;
 // `order` has the decided cells in the order decided, `decided` of them, with 0 behind; `hints` counts for each player, 0 to 3, that
@@ -41,7 +41,7 @@ pub struct Board {
 // ---- lists of decisions
 
 // Adds the decision in a word: value (1 bit), five zero bits, index (10). Refused: 12 a bit that is not zero, 7 an index off the grid of n cells, 9 a cell
-// that is decided already.
+// that is decided already. By numbers, and no `literals::Literal`: its index has fifteen bits, and here five zero bits are asked for before there is one.
 #[tactic(auto, using(crate::specs::Inside::bits, crate::specs::Inside::off, crate::specs::Inside::twice, crate::specs::Inside::put))]
 fn place(
     cells: &mut [u8; Board::CELLS],
@@ -69,7 +69,9 @@ fn place(
 }
 
 // Adds the decisions in the bytes, two bytes each, to a board of n cells that is known to be well formed, up to the first that is refused; `decided` tells how
-// many then stand. It is for `decide_all`, which has tested its board, and for `calls::decide_in_order`, which has the arrays of a fresh one.
+// many then stand. It is for `decide_all`, which has tested its board, and for `calls::decide_in_order`, which has the arrays of a fresh one. They come apart,
+// here and in `place`: of each of the three references in a struct it would have to be promised that it stays the one that was lent. The bytes go two by two
+// from the front, as `placed_from` takes them; `as_chunks` would be a second list in what the loop keeps.
 pub fn place_all(
     cells: &mut [u8; Board::CELLS],
     order: &mut [u16; Board::CELLS],
@@ -101,7 +103,7 @@ fn fresh(problem: Problem, edition: u8, sizes: CellSizes) -> Board
     Board {
         problem,
         edition,
-        cells: [2; Board::CELLS],
+        cells: [UNDECIDED; Board::CELLS],
         order: [0; Board::CELLS],
         decided: 0,
         hints: [0; Board::PLAYERS],
@@ -162,15 +164,12 @@ impl Board {
         if !sizes::may_stand(problem, &self.lowest, &self.highest) {
             return false;
         }
-        decisions::good_decisions(
-            problem.height * problem.width,
-            self.decided,
-            &self.cells,
-            &self.order,
-        )
+        // Not `problem.size()`: that is one call more that is lent the problem, and behind it it is no longer known that the counts of hints are of 16 bits.
+        let n = problem.height * problem.width;
+        decisions::good_decisions(n, self.decided, &self.cells, &self.order)
     }
 
-    // The same of a board by value.
+    // The same of a board by value, under the name that refusal 6 has in the definitions.
     pub fn well_formed(self) -> bool
         ensures { result ≡ well_formed self }
     {
@@ -179,7 +178,7 @@ impl Board {
 
     // The leaf that the board is played on, lent with its sizes: what the search for a reason reads, but the states of the cells. A leaf without sizes lends
     // none. Refused: 6 a board that no list of calls could leave.
-    #[tactic(auto, using(crate::proofs::BoardArrays::board_most))]
+    #[tactic(auto, using(crate::proofs::BoardForm::formed_tall, crate::proofs::BoardForm::formed_wide))]
     pub fn leaf(&self) -> Result<LentLeaf<'_>, Refusal>
         ensures lent { IfOk result (λ leaf. (well_formed self.now ≡ true) × (leaf_of leaf ≡ leaf_on self.now) × (leaf.problem.now ≡ self.now.problem)) }
         ensures refused { IfErr result (λ r. (well_formed self.now ≡ false) × (r ≡ refusals.Board)) }
@@ -187,25 +186,28 @@ impl Board {
         if !self.is_formed() {
             return Err(Refusal::Board);
         }
-        let n = lent_sizes(&self.lowest, self.problem.height * self.problem.width);
+        let n = lent_sizes(&self.lowest, self.problem.size());
         Ok(LentLeaf {
             problem: &self.problem,
             edition: self.edition,
-            lowest: &self.lowest[..n],
-            highest: &self.highest[..n],
+            sizes: SizeRanges {
+                lowest: &self.lowest[..n],
+                highest: &self.highest[..n],
+            },
         })
     }
 
-    // Adds a standing decision. Refused: 6 a board that no list of calls could leave, 7 an index off the grid, 8 a value above 1,
-    // 9 a cell that is decided already.
-    #[tactic(auto, using(crate::proofs::Answers::decide_6, crate::proofs::Answers::decide_7, crate::proofs::Answers::decide_8, crate::proofs::Answers::decide_9, crate::proofs::Answers::decide_done, crate::proofs::BoardForm::formed_area, crate::proofs::BoardForm::formed_room), unfolding(crate::specs::Decide::area, crate::specs::Decide::placed, grid::specs::Grid::size, record::specs::Problem::grid_of))]
-    pub fn decide(self, index: usize, value: u8) -> Result<Board, Refusal>
-        ensures { outcome_of result ≡ decided_as (decide_of self index value) }
+    // Adds a standing decision to a board that is lent. Refused, which leaves the board as it was: 6 a board that no list of calls could leave, 7 an index off
+    // the grid, 8 a value above 1, 9 a cell that is decided already.
+    // It writes in place: a board by value is copied whole, and 55,308 instructions are made in place of 5,873.
+    #[tactic(auto, using(crate::proofs::Fold::deciding), unfolding(crate::specs::Decide::area, crate::specs::Decide::placed, grid::specs::Grid::size, record::specs::Problem::grid_of))]
+    pub fn decide_in(&mut self, index: usize, value: u8) -> Result<(), Refusal>
+        ensures { (outcome_of result ≡ done_as (decide_of self.old index value).answer) × (self.new ≡ (decide_of self.old index value).board) }
     {
         if !self.is_formed() {
             return Err(Refusal::Board);
         }
-        if self.problem.height * self.problem.width <= index {
+        if self.problem.size() <= index {
             return Err(Refusal::Index);
         }
         if 1 < value {
@@ -214,17 +216,26 @@ impl Board {
         if self.cells[index] != UNDECIDED {
             return Err(Refusal::Decided);
         }
+        self.cells[index] = value;
+        self.order[self.decided] = index as u16;
+        self.decided += 1;
+        Ok(())
+    }
+
+    // The same of a board by value.
+    pub fn decide(self, index: usize, value: u8) -> Result<Board, Refusal>
+        ensures { outcome_of result ≡ decided_as (decide_of self index value) }
+    {
         let mut next = self;
-        next.cells[index] = value;
-        next.order[self.decided] = index as u16;
-        next.decided = self.decided + 1;
+        next.decide_in(index, value)?;
         Ok(next)
     }
 
-    // Removes the latest decision, and leaves nothing of it. Refused: 6 a board that no list of calls could leave, 10 no decision.
-    #[tactic(auto, using(crate::proofs::Answers::undo_6, crate::proofs::Answers::undo_10, crate::proofs::Answers::undo_done, crate::proofs::BoardForm::formed_few, crate::proofs::BoardForm::formed_latest), unfolding(crate::specs::Decide::removed))]
-    pub fn undo(self) -> Result<Board, Refusal>
-        ensures { outcome_of result ≡ decided_as (undo_of self) }
+    // Removes the latest decision of a board that is lent, and leaves nothing of it. Refused, which leaves the board as it was: 6 a board that no list of calls
+    // could leave, 10 no decision. It writes in place, as `decide_in`.
+    #[tactic(auto, using(crate::proofs::Fold::undoing), unfolding(crate::specs::Decide::removed))]
+    pub fn undo_in(&mut self) -> Result<(), Refusal>
+        ensures { (outcome_of result ≡ done_as (undo_of self.old).answer) × (self.new ≡ (undo_of self.old).board) }
     {
         if !self.is_formed() {
             return Err(Refusal::Board);
@@ -233,23 +244,31 @@ impl Board {
             return Err(Refusal::NothingDecided);
         }
         let last = self.decided - 1;
+        self.cells[usize::from(self.order[last])] = UNDECIDED;
+        self.order[last] = 0;
+        self.decided = last;
+        Ok(())
+    }
+
+    // The same of a board by value.
+    pub fn undo(self) -> Result<Board, Refusal>
+        ensures { outcome_of result ≡ decided_as (undo_of self) }
+    {
         let mut next = self;
-        next.cells[usize::from(self.order[last])] = UNDECIDED;
-        next.order[last] = 0;
-        next.decided = last;
+        next.undo_in()?;
         Ok(next)
     }
 
     // Adds the decisions in a list of bytes, 16 bits each, most significant first, on a board that is tested once. Refused: 6; for
     // each decision in turn 12, 7, 9; an odd byte at the end 12. Nothing of the decisions before a refused one stands.
-    #[tactic(auto, using(crate::proofs::Fold::all_6, crate::proofs::Fold::formed_held, crate::proofs::BoardForm::formed_area), unfolding(grid::specs::Grid::size, record::specs::Problem::grid_of))]
+    #[tactic(auto, using(crate::proofs::Fold::all_6, crate::proofs::Fold::formed_held, crate::proofs::BoardForm::formed_tall, crate::proofs::BoardForm::formed_wide), unfolding(grid::specs::Grid::size, record::specs::Problem::grid_of))]
     pub fn decide_all(self, decisions: &[u8]) -> Result<Board, Refusal>
         ensures { outcome_of result ≡ decided_as (decide_all_of self decisions.now) }
     {
         if !self.is_formed() {
             return Err(Refusal::Board);
         }
-        let n = self.problem.height * self.problem.width;
+        let n = self.problem.size();
         let mut next = self;
         place_all(
             &mut next.cells,

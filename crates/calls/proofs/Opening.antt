@@ -145,11 +145,6 @@ module _ (q : Problem) (f : problem_formed q ≡ true) where
     arrays : SizeArrays shown.arrows (lowest_of k.ranges) (highest_of k.ranges)
     arrays = good_arrays shown k.ranges k.good
 
-    -- the arrays have a place for each cell
-    pub kept_long : (q.height * q.width ≤ length lowest) × (q.height * q.width ≤ length highest)
-    kept_long =
-        (omega (arith, formed_few, ap length k.low, array_long (λ (r : Range). r.lowest) k.ranges), omega (arith, formed_few, ap length k.high, array_long (λ (r : Range). r.highest) k.ranges))
-
     -- those of its cells are lent
     pub kept_on : SizesOn (q.height * q.width) (lines_of q.arrows q.ends q.count) (take (q.height * q.width) lowest) (take (q.height * q.width) highest)
     unfolding puzzle_of

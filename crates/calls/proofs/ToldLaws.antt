@@ -33,7 +33,7 @@ use Rattle.calls.specs.Inside.{Told, leaf_certain}
 
 -- the number of steps takes eight bytes
 pub steps_length : (n : ℕ) → length (step_bytes n) ≡ 8
-unfolding step_bytes bytes_of flat_map
+unfolding step_bytes bytes_of
 steps_length n = refl
 
 module _ (n : ℕ) (f : Facts) (out : List ℕ) where

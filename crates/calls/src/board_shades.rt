@@ -16,10 +16,7 @@ fn measure(record: &[u8]) -> Result<Grid, Refusal>
     ensures { Agrees (read_record «record».now) (λ p grid. sized grid.height grid.width ≡ p.grid) result }
 {
     let problem = Problem::read(record)?;
-    Ok(Grid {
-        height: problem.height,
-        width: problem.width,
-    })
+    Ok(problem.grid())
 }
 
 // Opens the record in edition 1, decides in order and writes the shades: how many bytes they are. Nothing is tested, as in `first_reason`.
@@ -31,8 +28,7 @@ fn shade(record: &[u8], decisions: &[u8], output: &mut [u8]) -> Result<usize, Re
     if output.len() < 2 * count {
         return Err(Refusal::OutputShort);
     }
-    let mut cells = [grid::UNDECIDED; 1024];
-    crate::decide_in_order(grid, decisions, &mut cells)?;
+    let cells = crate::decide_in_order(grid, decisions)?;
     let mut shades = [0; 2048];
     shades::shade_cells(grid, &cells, &mut shades);
     exported::write_numbers(&shades, count, output);

@@ -60,8 +60,7 @@ impl Question for CertainCells<'_> {
         if output.len() < 8 + n {
             return Err(Refusal::OutputShort);
         }
-        let mut cells = [grid::UNDECIDED; 1024];
-        crate::decide_in_order(grid, self.decisions, &mut cells)?;
+        let mut cells = crate::decide_in_order(grid, self.decisions)?;
         let facts = certain::certain_cells(leaf, &mut cells, self.budget);
         Ok(write_certain(&facts, n, output))
     }

@@ -27,8 +27,7 @@ impl Question for FirstReason<'_> {
         if output.len() < 2 * (3 * grid.size() + 1) {
             return Err(Refusal::OutputShort);
         }
-        let mut cells = [grid::UNDECIDED; 1024];
-        crate::decide_in_order(grid, self.decisions, &mut cells)?;
+        let cells = crate::decide_in_order(grid, self.decisions)?;
         let mut literals = reasons::no_literals();
         match reasons::inconsistency::find_inconsistency(leaf, &cells, &mut literals) {
             None => Ok(0),

@@ -19,8 +19,7 @@ impl Question for IsFinished<'_> {
         (returned_of answer ≡ judged (judge_on question.decisions.now l)) × (after ≡ before) };
 
     fn ask(&self, leaf: &LentLeaf<'_>, _output: &mut [u8]) -> Result<usize, Refusal> {
-        let mut cells = [grid::UNDECIDED; 1024];
-        crate::decide_in_order(leaf.grid(), self.decisions, &mut cells)?;
+        let cells = crate::decide_in_order(leaf.grid(), self.decisions)?;
         Ok(usize::from(finished::is_finished(leaf, &cells)))
     }
 }

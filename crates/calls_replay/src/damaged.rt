@@ -5,10 +5,10 @@ ghost use Rattle.std.specs.Prelude.{◌≤◌, true, ◌≡◌};
 use super::boards;
 use super::boards::Left;
 use board::Board;
-use finds::{Find, Literals, Way};
+use finds::{Find, Way};
 use record::Problem;
 use refusal::Refusal;
-use replay::{Cursor, Tally};
+use replay::Tally;
 
 // How many damages there are.
 const DAMAGES: usize = 41;
@@ -31,12 +31,7 @@ fn changed(left: Left, b: Board) -> bool {
 
 // Whether a find of the player on the board, made in this way, is not refused with 6, or changes the board or the lent buffer.
 fn asked_so(b: Board, find: Find, way: Way) -> bool {
-    let literals = Literals {
-        from: Cursor { list: b"", at: 0 },
-        count: 0,
-    };
-    let refusal = usize::from(Refusal::Board.number());
-    let made = finds::find_differs(b, find, way, refusal, literals);
+    let made = finds::find_differs(b, find, way, Err(Refusal::Board.number()));
     made.differs || made.board != b
 }
 

@@ -17,7 +17,7 @@ ghost use Rattle.std.specs.Prelude.{◌≤◌, length};
 
 use board::Board;
 use boards::Left;
-use finds::{Find, Literals, Way};
+use finds::{Find, Said, Way};
 use refusal::Refusal;
 use replay::{Cursor, Entries, Report, Run};
 use std::io;
@@ -26,24 +26,23 @@ use std::io::Write;
 // The most numbers of sizes that an entry may have.
 const SIZES: usize = 4096;
 
-// What a call left: the board, and whether something differed.
+// What a call left: the board, on which the next call is made whatever differed, and whether something did.
 #[derive(Clone, Copy)]
 struct Step {
     board: Board,
     differs: bool,
 }
 
-// The step of a call on the board b that by value answers and leaves d, and on a lent board l. A refused call leaves the board as it was.
-fn answered(b: Board, d: Left, l: Left, refusal: u8) -> Step {
-    let expected = usize::from(refusal);
+// The step of a call on the board b that by value answers and leaves d, and on a lent board l, and of which the list says whether it is refused. A
+// refused call leaves the board as it was.
+fn answered(b: Board, d: Left, l: Left, said: Result<(), u8>) -> Step {
     let board = d.board;
-    let lent = l.board;
     Step {
         board,
-        differs: boards::answer_differs(d.answer, expected)
-            || boards::answer_differs(l.answer, expected)
-            || lent != board
-            || expected != 0 && board != b,
+        differs: replay::answer_differs(d.answer, said)
+            || replay::answer_differs(l.answer, said)
+            || l.board != board
+            || said.is_err() && board != b,
     }
 }
 
@@ -51,36 +50,35 @@ fn answered(b: Board, d: Left, l: Left, refusal: u8) -> Step {
 fn make_decide(cursor: &mut Cursor<'_>, b: Board) -> Option<Step> {
     let index = cursor.number()?;
     let value = cursor.byte()?;
-    let refusal = cursor.byte()?;
+    let said = cursor.refusal()?;
     Some(answered(
         b,
         boards::after_call(b, b.decide(index, value)),
         boards::on_lent(b, |lent| lent::decide_in(lent, index, value)),
-        refusal,
+        said,
     ))
 }
 
 // Makes the undo at the cursor.
 fn make_undo(cursor: &mut Cursor<'_>, b: Board) -> Option<Step> {
-    let refusal = cursor.byte()?;
+    let said = cursor.refusal()?;
     Some(answered(
         b,
         boards::after_call(b, b.undo()),
         boards::on_lent(b, lent::undo_in),
-        refusal,
+        said,
     ))
 }
 
-// The step of a find on the board b, made by value and on a lent board, of which the list says this refusal, or, where that is 0, these literals. A
-// refused one leaves the board as it was.
-fn found(b: Board, find: Find, refusal: usize, literals: Literals<'_>) -> Step {
-    let m = finds::find_differs(b, find, Way::Value(1), refusal, literals);
-    let l = finds::find_differs(b, find, Way::Lent, refusal, literals);
+// The step of a find on the board b, made by value and on a lent board, of which the list says these literals, or the number of its refusal. A refused
+// one leaves the board as it was.
+fn found(b: Board, find: Find, said: Result<Said<'_>, u8>) -> Step {
+    let m = finds::find_differs(b, find, Way::Value(1), said);
+    let l = finds::find_differs(b, find, Way::Lent, said);
     let board = m.board;
-    let lent = l.board;
     Step {
         board,
-        differs: m.differs || l.differs || lent != board || refusal != 0 && board != b,
+        differs: m.differs || l.differs || l.board != board || said.is_err() && board != b,
     }
 }
 
@@ -88,31 +86,31 @@ fn found(b: Board, find: Find, refusal: usize, literals: Literals<'_>) -> Step {
 fn make_find(cursor: &mut Cursor<'_>, b: Board) -> Option<Step> {
     let player = cursor.byte()?;
     let size = cursor.number()?;
-    let refusal = usize::from(cursor.byte()?);
+    let said = cursor.refusal()?;
     if 4096 < size {
         return None;
     }
     let find = Find { player, size };
-    let from = *cursor;
-    if refusal != 0 {
-        return Some(found(b, find, refusal, Literals { from, count: 0 }));
+    if let Err(refusal) = said {
+        return Some(found(b, find, Err(refusal)));
     }
     let count = cursor.number()?;
     let from = *cursor;
     cursor.take(2 * count)?;
-    Some(found(b, find, 0, Literals { from, count }))
+    Some(found(b, find, Ok(Said { from, count })))
 }
 
 // Compares the cells at the cursor.
 fn compare_cells(cursor: &mut Cursor<'_>, b: Board) -> Option<Step> {
-    let n = replay::area(b.problem.height, b.problem.width);
+    let n = replay::area(b.problem.height, b.problem.width)?;
     let cells = b.cells;
     let differs = cursor.cells_differ(n, &cells, grid::UNDECIDED);
     cursor.take(n)?;
     Some(Step { board: b, differs })
 }
 
-// Makes the call at the cursor; none also where it is of no kind.
+// Makes the call at the cursor; none also where it is of no kind. A kind is a number in the list alone: an enum of the four would be made of it here and
+// matched at once.
 fn make_call(cursor: &mut Cursor<'_>, b: Board) -> Option<Step> {
     match cursor.byte()? {
         0 => make_decide(cursor, b),
@@ -203,16 +201,13 @@ impl Entries for Lists {
         let edition = cursor.byte()?;
         let count = cursor.number()?;
         let sizes = cursor.take(2 * count)?;
-        let refusal = usize::from(cursor.byte()?);
+        let said = cursor.refusal()?;
         if SIZES < count {
             return None;
         }
         let answer = opened(bytes, edition, sizes);
-        if refusal != 0 {
-            let differs = match answer {
-                Ok(_) => true,
-                Err(refused) => usize::from(refused.number()) != refusal,
-            };
+        if said.is_err() {
+            let differs = replay::answer_differs(answer.map(|_| ()), said);
             return Some(Run::of(differs, cursor.at));
         }
         let hints = cursor.take(2 * Board::PLAYERS)?;
@@ -224,13 +219,14 @@ impl Entries for Lists {
     }
 }
 
+// One line in each program that replays a list: `replay::replay` does it, and the entries and their words are the program's own. Then the damaged boards.
 fn main(rt: HostRuntime) -> io::Result<()> {
     let output = &mut io::writer(&rt);
-    replay::replay::<Lists, _, _>(rt.reader(), output, " lists, ", " calls, ")?;
+    replay::replay::<Lists, _, _>(rt.reader(), output, " lists, ", Some(" calls, "))?;
     let report = Report {
         tally: damaged::go_through(),
         entries: " damaged boards, ",
-        parts: "",
+        parts: None,
     };
     write!(output, "{report}")
 }

@@ -61,7 +61,7 @@ told_more s e v h = go s e (ℕ_discrete v 0)
     go s e (no z) = let o : v ≡ 1 = omega (arith, z) in rw o (ones s e)
 
 seen_more : (v : ℕ) (boards : List (List ℕ)) (b : List ℕ) (i : ℕ) → seen v (boards ++ (b ∷ [])) i ≡ (seen v boards i || (eqb (get_or b i 0) v || false))
-unfolding seen any
+unfolding seen
 seen_more v boards b i = any-append (λ (full : List ℕ). eqb (get_or full i 0) v) boards (b ∷ [])
 
 fact_more : (boards : List (List ℕ)) (b : List ℕ) (i : ℕ) → get_or b i 0 ≤ 1 → fact_of (boards ++ (b ∷ [])) i ≡ joined_of (fact_of boards i) (get_or b i 0)
@@ -83,7 +83,7 @@ Noted-more n {cells} {before} {after} few x low boards e =
 -- ---- no board
 
 pub fact_none : (i : ℕ) → fact_of [] i ≡ 3
-unfolding fact_of seen any
+unfolding fact_of seen
 fact_none i = refl
 
 -- where nothing is known of a cell there is no board

@@ -159,9 +159,6 @@ module _ (n left : ℕ) (l : Leaf) (cells before : List ℕ) (long : length befo
       pub undecided_there : (i < n) × (get_or cells i 0 ≡ 2)
       undecided_there = (spot.inside, spot.there)
 
-      pub facts_long : length after ≡ 1024
-      facts_long = ap length spot.kept ∙ long
-
       set_back : (v : ℕ) → set (set cells i v) i 2 ≡ cells
       set_back v = set-set cells i v 2 ∙ ap (set cells i) (sym spot.there) ∙ set-get_or cells i 0
 

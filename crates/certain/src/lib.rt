@@ -1,15 +1,13 @@
 // Cells that are certain: what holds in every finished board that agrees with the standing decisions.
 #![tactic(auto)]
 
-ghost use Rattle.std.specs.Prelude.{◌≡◌, true, ◌&&◌, ◌*◌, ◌<◌, ◌≤◌, length, take};
+ghost use Rattle.std.specs.Prelude.{◌≡◌, true, ◌<◌, ◌≤◌, take};
 ghost use Rattle.std.specs.Option.{ForSome};
-ghost use Rattle.grid.specs.Lists.{all};
 ghost use Rattle.refusal.specs.Refusals.{outcome_of};
 ghost use Rattle.form.specs.Form.{problem_formed};
-ghost use Rattle.groups.specs.Arrays.{lines_of, Drawn};
 ghost use Rattle.sizes.specs.LeafOf.{leaf_of};
 ghost use Rattle.reasons.specs.Lent.{cell_count, leaf_cells};
-ghost use Rattle.finished.specs.Finished.{keeps_all, two_squares};
+ghost use Rattle.finished.specs.Lent.{passes};
 ghost use Rattle.certain.specs.Tree.{lowest, search_of};
 ghost use Rattle.certain.specs.Facts.{certain_by, certain_of};
 ghost use Rattle.certain.specs.Told.{facts_as, told_as};
@@ -17,7 +15,6 @@ ghost use Rattle.certain.specs.Inside.{lowest_or, left_number, States, joined_of
 
 use board::Board;
 use grid::{EMPTY, SQUARE, UNDECIDED};
-use record::Problem;
 use refusal::Refusal;
 use sizes::LentLeaf;
 
@@ -44,7 +41,7 @@ const UNKNOWN: u8 = 3;
 
 const OPEN: u8 = 2;
 
-// What is known of a cell, where one more board has the value there.
+// What is known of a cell, where one more board has the value there. By numbers: those of `Facts::cells`, which a call writes as they are.
 #[tactic(auto, unfolding(crate::specs::Inside::joined_of))]
 fn joined(known: u8, value: u8) -> u8
     ensures { result ≡ joined_of known value }
@@ -58,8 +55,8 @@ fn joined(known: u8, value: u8) -> u8
     }
 }
 
-// Joins a board to what is known of the first n cells. No zip: of the cells that it lends to be
-// written a proof knows nothing afterwards.
+// Joins a board to what is known of the first n cells. No `iter_mut().zip(..)`: of places that are
+// written through it a proof does not know what they hold then.
 fn note_board(cells: &[u8; 1024], n: usize, facts: &mut [u8; 1024])
     requires { n ≤ 1024 }
     ensures { Noted n cells.now facts.old facts.new }
@@ -80,17 +77,15 @@ fn lowest_undecided(cells: &[u8; 1024], n: usize) -> Option<usize>
 
 // What lies beyond a board with no reason: its lowest undecided cell, or none where it is full. Then it is noted, if it meets all that is asked of a
 // finished board but the block rules, which hold where there is no reason.
-fn beyond(problem: &Problem, cells: &[u8; 1024], facts: &mut [u8; 1024]) -> Option<usize>
-    requires small { problem.now.height * problem.now.width ≤ 1024 }
-    requires drawn { Drawn (problem.now.height * problem.now.width) problem.now.arrows problem.now.ends problem.now.count }
-    ensures { Beyond (problem.now.height * problem.now.width) cells.now (keeps_all (problem.now.height * problem.now.width) problem.now.cells cells.now
-        && all (two_squares cells.now) (lines_of problem.now.arrows problem.now.ends problem.now.count)) facts.old facts.new result }
+fn beyond(leaf: &LentLeaf<'_>, cells: &[u8; 1024], facts: &mut [u8; 1024]) -> Option<usize>
+    ensures met { Beyond (cell_count leaf.now) cells.now (passes leaf.now.problem.now cells.now) facts.old facts.new result }
+    ensures small { ForSome result (λ i. i < 1024) }
 {
-    let n = problem.height * problem.width;
+    let n = leaf.grid().size();
     if let Some(i) = lowest_undecided(cells, n) {
         return Some(i);
     }
-    let counts = finished::all_but_rules(problem, cells);
+    let counts = finished::all_but_rules(leaf.problem, cells);
     if counts {
         note_board(cells, n, facts);
     }
@@ -106,10 +101,11 @@ fn step(
 ) -> Option<usize>
     requires formed { problem_formed leaf.now.problem.now ≡ true }
     requires states { States cells.now }
-    ensures { Meets (leaf_of leaf.now) (cell_count leaf.now) cells.now facts.old facts.new result }
+    ensures met { Meets (leaf_of leaf.now) (cell_count leaf.now) cells.now facts.old facts.new result }
+    ensures small { ForSome result (λ i. i < 1024) }
 {
     match reasons::inconsistency::find_inconsistency(leaf, cells, buffer) {
-        None => beyond(leaf.problem, cells, facts),
+        None => beyond(leaf, cells, facts),
         Some(_) => None,
     }
 }

@@ -6,7 +6,7 @@ use Rattle.std.specs.List.{list_all, range_with_len}
 use Rattle.grid.specs.Lists.{all, range, upto}
 
 all_range : (p : ℕ → Bool) (n a : ℕ) → list_all p (range_with_len a n) ≡ all p (range a n)
-unfolding all range
+unfolding range
 all_range p zero a = refl
 all_range p (suc n) a = ap (λ b. p a && b) (rw add-one (all_range p n (suc a)))
 

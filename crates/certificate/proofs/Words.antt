@@ -26,17 +26,17 @@ module _ (s : List ℕ) where
   words_past k h = map-upto_past (word_at s) (length s / 3) k 0 h
 
   -- the word of three bytes
-  pub word_is : (k : ℕ) {n : ℕ} → 3 * k + 2 < length s → n ≡ from_be_bytes w32 (0 ∷ get_or s (3 * k) 0 ∷ get_or s (3 * k + 1) 0 ∷ get_or s (3 * k + 2) 0 ∷ []) → n ≡ get_or (words_of s) k 0
+  pub word_is : (k : ℕ) {n : ℕ} → k < length (words_of s) → n ≡ from_be_bytes w32 (0 ∷ get_or s (3 * k) 0 ∷ get_or s (3 * k + 1) 0 ∷ get_or s (3 * k + 2) 0 ∷ []) → n ≡ get_or (words_of s) k 0
   unfolding word_at
-  word_is k h e = omega (arith, e, words_at k (omega arith))
+  word_is k h e = omega (arith, e, words_at k (omega (arith, words_length)))
 
-  -- the words from k on, by the first of them
-  module _ (k to : ℕ) (h : k < to) (l : to ≤ length s / 3) where
-    pub words_on : {w : ℕ} → w ≡ get_or (words_of s) k 0 → slice k to (words_of s) ≡ w ∷ slice (k + 1) to (words_of s)
-    words_on e = rw (e, add-one) (slice-cons k to (words_of s) 0 h (omega (arith, words_length)))
+-- the words from k on, by the first of them
+module _ (ws : List ℕ) (k to : ℕ) (h : k < to) (l : to ≤ length ws) where
+  pub words_on : {w : ℕ} → w ≡ get_or ws k 0 → slice k to ws ≡ w ∷ slice (k + 1) to ws
+  words_on e = rw (e, add-one) (slice-cons k to ws 0 h (omega arith))
 
-    pub words_left : length (slice (k + 1) to (words_of s)) ≡ to - (k + 1)
-    words_left = length-slice (k + 1) to (words_of s) (omega (arith, words_length))
+  pub words_left : length (slice (k + 1) to ws) ≡ to - (k + 1)
+  words_left = length-slice (k + 1) to ws (omega arith)
 
 -- n words from a on
 pub words_part : (l : List ℕ) (a n : ℕ) → slice a (a + n) l ≡ take n (drop a l)

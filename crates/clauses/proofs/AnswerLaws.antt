@@ -1,30 +1,28 @@
 -- What is returned, and what the output holds then.
 -- Assumes nothing.
-use Prim.Native.Nat.{ℕ, ◌+◌, ◌*◌, ◌≤◌, ◌<◌}
+use Prim.Native.Nat.{ℕ, ◌+◌, ◌*◌, ◌^◌, ◌≤◌, ◌<◌}
 use native.Mathlib.Omega.{arith}
-use mathlib.Core.Path.{◌≡◌, refl, sym, ap, ◌∙◌}
+use mathlib.Core.Path.{◌≡◌, refl, sym, ◌∙◌}
 use mathlib.Core.Bool.{true}
 use mathlib.Core.List.{List}
-use lib.ListN.{length}
+use lib.ListN.{length, take}
+use Rattle.std.specs.List.{All}
 use borrow.Author.Tests.{le-leb, lt-leb}
 use Rattle.std.specs.Prelude.{Ok, Err}
 use Rattle.refusal.specs.declared.Refusal.TheVariants.{SheetShort}
 use Rattle.record.specs.Record.{ok, refused, ◌>>=◌, unless, Puzzle, read_record}
-use Rattle.record.specs.Valid.{Valid}
-use Rattle.record.specs.Problem.{problem_of, puzzle_of, as_problem, grid_of, total_of}
+use Rattle.record.specs.Problem.{grid_of, total_of}
 use Rattle.record.specs.declared.Problem.{Problem}
-use Rattle.record.proofs.ProblemLaws.{problem_ok, problem_puzzle}
-use Rattle.record.proofs.RecordLaws.{record_Valid}
 use Rattle.form.specs.Form.{problem_formed}
-use Rattle.form.proofs.ProblemForm.{Formed, Formed-is, is_Formed, formed_Valid, formed_again, valid_Formed}
-use Rattle.groups.specs.Arrays.{Line, Drawn}
+use Rattle.form.proofs.ProblemForm.{Formed-is}
+use Rattle.groups.specs.Arrays.{Drawn}
+use Rattle.groups.proofs.MarkLaws.{line_cells}
 use Rattle.board.proofs.BoardArrays.{problem_arrays}
 use Rattle.exported.specs.Written.{Writes}
 use Rattle.exported.proofs.WrittenLaws.{Writes-refused, Writes-ok}
 use Rattle.clauses.specs.declared.Sheet.{Sheet}
 use Rattle.clauses.specs.Clauses.{sheet_bytes, sheet_within, sheet_for}
 use Rattle.clauses.specs.Inside.{Pushed}
-use Rattle.clauses.proofs.LengthLaws.{Valid_most}
 
 within_13 : (n : ℕ) (p : Puzzle) → n < length (sheet_bytes p) → sheet_within n p ≡ refused 13
 unfolding sheet_within ◌>>=◌ unless
@@ -34,31 +32,26 @@ within_ok : (n : ℕ) (p : Puzzle) → length (sheet_bytes p) ≤ n → sheet_wi
 unfolding sheet_within ◌>>=◌ unless
 within_ok n p h = rw (le-leb (length (sheet_bytes p)) n h) refl
 
--- the puzzle that a well-formed problem keeps is valid, and its arrays hold its arrows
+-- the arrays of a well-formed problem hold its arrows
 module _ (q : Problem) (r : problem_formed q ≡ true) where
-  formed : Formed q
-  formed = Formed-is q r
-
-  pub valid : Valid (puzzle_of q)
-  valid = formed_Valid q formed
-
-  pub kept : q ≡ problem_of (puzzle_of q)
-  kept = sym (formed_again q formed)
-
   pub high : (q.height ≤ 32) × (q.width ≤ 32)
   unfolding grid_of
-  high = formed.sizes.high
+  high = (Formed-is q r).sizes.high
 
   pub drawn : Drawn (q.height * q.width) q.arrows q.ends q.count
-  drawn = (problem_arrays q formed).drawn
+  drawn = (problem_arrays q (Formed-is q r)).drawn
 
-  pub line : Line q.arrows (total_of q)
-  line = record { long = drawn.places.long; within = (problem_arrays q formed).within; cells = λ k h. drawn.places.cells k }
+  -- so their cells can be marked
+  pub line_fits : total_of q ≤ 1024
+  line_fits = (problem_arrays q (Formed-is q r)).within
+
+  pub all_small : All (λ i. i < 1024) (take (total_of q) q.arrows)
+  all_small = line_cells q.arrows (total_of q) (λ k h. drawn.places.cells k)
 
 -- what is pushed to a sheet that has nothing yet
-module _ (p : Puzzle) (v : Valid p) {s t : Sheet} (none : s.len ≡ 0) (w : Pushed s t (sheet_bytes p)) (old : List ℕ) where
+module _ (p : Puzzle) (few : length (sheet_bytes p) < 2 ^ 31) {s t : Sheet} (none : s.len ≡ 0) (w : Pushed s t (sheet_bytes p)) (old : List ℕ) where
   pub long : t.len ≡ length (sheet_bytes p)
-  long = w.counted (omega (arith, none, Valid_most p v)) ∙ omega (arith, none)
+  long = w.counted (omega (arith, none, few)) ∙ omega (arith, none)
 
   -- too short an output
   pub Writes-13 : length old < t.len → Writes (sheet_within (length old) p) (Err SheetShort) old old
@@ -68,20 +61,14 @@ module _ (p : Puzzle) (v : Valid p) {s t : Sheet} (none : s.len ≡ 0) (w : Push
   pub Writes-sheet : s.out.now ≡ old → length (sheet_bytes p) ≤ length old → (new : List ℕ) → (s.out.ghost_name ≡ t.out.ghost_name → new ≡ t.out.now) → Writes (sheet_within (length old) p) (Ok t.len) old new
   Writes-sheet o h new back =
       let z : 0 + length (sheet_bytes p) ≡ length (sheet_bytes p) = omega arith in
-      Writes-ok (sheet_within (length old) p) old (sheet_bytes p) new t.len (within_ok (length old) p h) long (omega (arith, long, Valid_most p v))
-      (back (sym w.same) ∙ w.wrote (omega (arith, none, Valid_most p v)) (rw o (omega (arith, none, h))) ∙ rw (o, none, z) refl)
+      Writes-ok (sheet_within (length old) p) old (sheet_bytes p) new t.len (within_ok (length old) p h) long (omega (arith, long, few))
+      (back (sym w.same) ∙ w.wrote (omega (arith, none, few)) (rw o (omega (arith, none, h))) ∙ rw (o, none, z) refl)
 
 -- the record's refusals, and its puzzle
 pub sheet_refused : (n : ℕ) (s : List ℕ) (k : ℕ) → read_record s ≡ refused k → sheet_for n s ≡ refused k
 unfolding sheet_for ◌>>=◌
 sheet_refused n s k e = rw e refl
 
-pub read_formed : (s : List ℕ) {q : Problem} → ok q ≡ as_problem (read_record s) → problem_formed q ≡ true
-read_formed s {q} e = let p = problem_ok (read_record s) e in is_Formed q (rw p.2 (valid_Formed p.0 (record_Valid s p.1)))
-
-pub sheet_read : (n : ℕ) (s : List ℕ) {q : Problem} → ok q ≡ as_problem (read_record s) → sheet_for n s ≡ sheet_within n (puzzle_of q)
+pub sheet_read : (n : ℕ) (s : List ℕ) {p : Puzzle} → read_record s ≡ ok p → sheet_for n s ≡ sheet_within n p
 unfolding sheet_for ◌>>=◌
-sheet_read n s {q} e =
-    let p = problem_ok (read_record s) e in
-    let kept : puzzle_of q ≡ p.0 = ap puzzle_of p.2 ∙ problem_puzzle p.0 (record_Valid s p.1) in
-    rw (p.1, kept) refl
+sheet_read n s e = rw e refl

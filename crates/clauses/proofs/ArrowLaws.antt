@@ -27,7 +27,7 @@ arrows_more line at (x ∷ es) e = ap (λ (l : List (List ℕ)). take (x - at) (
 module _ (line ends : List ℕ) where
   -- no arrow yet
   pub push_no_arrow : (s : Sheet) → Pushed s s (clauses_bytes (flat_map arrow_clauses (lines_of line ends 0)))
-  unfolding flat_map arrows_from
+  unfolding arrows_from
   push_no_arrow s = push_no_clause s
 
   module _ (k : ℕ) (h : k < length ends) where
@@ -37,7 +37,6 @@ module _ (line ends : List ℕ) where
     -- the arrow that starts and ends there
     pub push_arrow : {from to : ℕ} {s t u : Sheet} → from ≡ last 0 (take k ends) → to ≡ get_or ends k 0 → Pushed s t (clauses_bytes (flat_map arrow_clauses (lines_of line ends k)))
         → Pushed t u (clauses_bytes (arrow_clauses (take (to - from) (drop from line)))) → Pushed s u (clauses_bytes (flat_map arrow_clauses (lines_of line ends (k + 1))))
-    unfolding flat_map
     push_arrow {from} {to} e f p q =
         let a : List ℕ = take (to - from) (drop from line) in
         rw (add-one k, take-suc ends k 0 h, arrows_more line 0 (take k ends) (get_or ends k 0), ← e, ← f, flat_map-append arrow_clauses (lines_of line ends k) (a ∷ []), append-nil (arrow_clauses a))

@@ -3,7 +3,7 @@
 use Prim.Native.Nat.{ℕ}
 use mathlib.Core.Path.{◌≡◌, refl}
 use mathlib.Core.List.{List, [], ◌∷◌}
-use Rattle.grid.specs.Lists.{range, upto, filter, any, flat_map, member}
+use Rattle.grid.specs.Lists.{range, upto, member}
 use Rattle.grid.specs.Grid.{size, cells_of, row, col, only, up, down, left, right}
 use Rattle.grid.specs.Cells.{word}
 use Rattle.record.specs.Record.{Outcome, ok, refused, ◌>>=◌, unless, bit, number, field, cell_codes, there, step_from, step_cells, arrow_at, filler, arrows_at, read_record}
@@ -45,5 +45,5 @@ pub sheets :
     ∷ ok []
     ∷ refused 1
     ∷ [])
-unfolding range upto filter any flat_map member size cells_of row col only up down left right word ◌>>=◌ unless bit number field there step_from filler cell_codes step_cells arrow_at arrows_at read_record on_arrow given_at onwards touching_at around pairs_of between_at others_of arrow_clauses given_part touching_part between_part arrow_part sheet bytes_of clause_bytes clauses_bytes sheet_bytes sheet_within sheet_for
+unfolding range upto member size cells_of row col only up down left right word ◌>>=◌ unless bit number field there step_from filler cell_codes step_cells arrow_at arrows_at read_record on_arrow given_at onwards touching_at around pairs_of between_at others_of arrow_clauses given_part touching_part between_part arrow_part sheet bytes_of clause_bytes clauses_bytes sheet_bytes sheet_within sheet_for
 sheets = refl

@@ -30,7 +30,6 @@ clause_length c = bytes_length (length c ∷ map word c) ∙ omega (arith, lengt
 
 -- pieces of at most k bytes
 flat_most : {A : Type 0} (f : A → List ℕ) (k : ℕ) (l : List A) → ((x : A) → Memᴰ x l → length (f x) ≤ k) → length (flat_map f l) ≤ length l * k
-unfolding flat_map
 flat_most f k [] h = omega (arith, zero-mul k)
 flat_most f k (x ∷ l) h =
     omega (arith, length-append (f x) (flat_map f l), h x (Memᴰ.head refl), flat_most f k l (λ y m. h y (Memᴰ.tail m)), suc-mul (length l) k)
@@ -128,7 +127,7 @@ arrow_most a h =
     )
 
 arrows_most : (as' : List (List ℕ)) → ((a : List ℕ) → Memᴰ a as' → length a ≤ 1024) → length (flat_map (λ a. clauses_bytes (arrow_clauses a)) as') ≤ length (arrow_cells as') * 2050
-unfolding flat_map arrow_cells
+unfolding arrow_cells
 arrows_most [] h = omega arith
 arrows_most (a ∷ as') h =
     omega (

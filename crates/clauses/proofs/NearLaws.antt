@@ -1,6 +1,6 @@
 -- The arrow cells beside a cell, and the clauses of the second and the third part for it.
 -- Assumes nothing.
-use Prim.Native.Nat.{ℕ, ◌+◌, ◌*◌, ◌/◌, ◌%◌, ◌≤◌, ◌<◌}
+use Prim.Native.Nat.{ℕ, ◌≤◌}
 use native.Mathlib.Omega.{arith}
 use mathlib.Core.Path.{◌≡◌, refl, sym, ap, ◌∙◌}
 use mathlib.Core.List.{List, [], ◌∷◌, ◌++◌, map, map-append, append_assoc}
@@ -8,36 +8,22 @@ use lib.ListN.{length, get_or}
 use borrow.Author.Tests.{eq-eqb, ne_eqb}
 use Rattle.std.specs.Prelude.{Option, Some, None, option_to_list}
 use Rattle.grid.specs.Lists.{flat_map, filter, upto}
-use Rattle.grid.specs.Grid.{Grid, size, row, col, up, down, left, right}
-use Rattle.grid.specs.Side.{sized, towards, beside_of, InPlace}
+use Rattle.grid.specs.Grid.{Grid, up, down, left, right}
+use Rattle.grid.specs.Side.{towards, beside_of}
 use Rattle.grid.proofs.AppendLaws.{filter-append}
-use Rattle.grid.proofs.GridLaws.{index}
-use Rattle.grid.proofs.SideLaws.{beside_at, beside_off, beside_in, in_grid, area}
+use Rattle.grid.proofs.SideLaws.{beside_at, beside_off}
 use Rattle.clauses.specs.Clauses.{apart, onwards, touching_at, around, between, pairs_of, between_at}
 use Rattle.clauses.specs.Inside.{marked}
-
--- a cell's row and column
-pub place_is : (h w i : ℕ) → i / w * w + i % w ≡ i
-unfolding row col
-place_is h w i = index (sized h w) i
-
--- the cell that a direction leads to is small
-pub side_small : {h w y x : ℕ} (d j : ℕ) → InPlace h w y x → Some j ≡ beside_of (sized h w) (y * w + x) d → j < 1024
-unfolding size
-side_small {h} {w} {y} {x} d j p e = omega (arith, beside_in (sized h w) (y * w + x) d j (in_grid p).within e, area h w p.tall p.wide)
 
 module _ (marks : List ℕ) (g : Grid) (i k : ℕ) where
   -- the arrow cell in a direction
   pub side_on : (j : ℕ) → Some j ≡ beside_of g i k → get_or marks j 0 ≡ 1 → j ∷ [] ≡ filter (marked marks) (towards g i k)
-  unfolding filter
   side_on j b m = rw (beside_at g i k j b, eq-eqb (get_or marks j 0) 1 m) refl
 
   pub side_plain : (j : ℕ) → Some j ≡ beside_of g i k → (get_or marks j 0 ≡ 1 → ⊥) → [] ≡ filter (marked marks) (towards g i k)
-  unfolding filter
   side_plain j b m = rw (beside_at g i k j b, ne_eqb (get_or marks j 0) 1 m) refl
 
   pub side_off : None ≡ beside_of g i k → [] ≡ filter (marked marks) (towards g i k)
-  unfolding filter
   side_off b = rw (beside_off g i k b) refl
 
 pub side_short : (s : Option ℕ) → length (option_to_list s) ≤ 1

@@ -1,6 +1,6 @@
 -- Clauses as bytes: one after another, and those of each kind.
 -- Assumes nothing.
-use Prim.Native.Nat.{ℕ, zero, suc, ◌+◌, ◌-◌, ◌<◌}
+use Prim.Native.Nat.{ℕ, zero, suc, ◌+◌, ◌-◌, ◌/◌, ◌%◌, ◌<◌}
 use native.Mathlib.Omega.{arith}
 use mathlib.Core.Path.{◌≡◌, refl, sym, ap, ◌∙◌}
 use mathlib.Core.Bool.{not}
@@ -25,20 +25,20 @@ unfolding clauses_bytes
 clauses_append l m = flat_map-append clause_bytes l m
 
 pub clauses_one : (c : Clause) → clauses_bytes (c ∷ []) ≡ clause_bytes c
-unfolding clauses_bytes flat_map
+unfolding clauses_bytes
 clauses_one c = append-nil (clause_bytes c)
 
 pub clauses_none : clauses_bytes [] ≡ []
-unfolding clauses_bytes flat_map
+unfolding clauses_bytes
 clauses_none = refl
 
 pub map_pieces : {A : Type 0} (f : A → Clause) (l : List A) → flat_map (λ x. clause_bytes (f x)) l ≡ clauses_bytes (map f l)
-unfolding clauses_bytes flat_map
+unfolding clauses_bytes
 map_pieces f [] = refl
 map_pieces f (x ∷ l) = ap (λ r. clause_bytes (f x) ++ r) (map_pieces f l)
 
 pub flat_pieces : {A : Type 0} (f : A → List Clause) (l : List A) → flat_map (λ x. clauses_bytes (f x)) l ≡ clauses_bytes (flat_map f l)
-unfolding clauses_bytes flat_map
+unfolding clauses_bytes
 flat_pieces f [] = refl
 flat_pieces f (x ∷ l) = ap (λ r. flat_map clause_bytes (f x) ++ r) (flat_pieces f l) ∙ sym (flat_map-append clause_bytes (f x) (flat_map f l))
 
@@ -95,12 +95,12 @@ next_square cells literals k h e =
 
 -- all but one
 rest_kept : (j s n : ℕ) → j < s → filter (λ t. not (eqb t j)) (range s n) ≡ range s n
-unfolding filter range
+unfolding range
 rest_kept j s zero h = refl
 rest_kept j s (suc n) h = rw (ne_eqb s j (λ e. omega arith)) (ap (λ (l : List ℕ). s ∷ l) (rest_kept j (suc s) n (omega arith)))
 
 others_range : (g : ℕ → ℕ) (j s k n : ℕ) → j ≡ s + k → k < n → map g (filter (λ t. not (eqb t j)) (range s n)) ≡ take k (map g (range s n)) ++ drop (suc k) (map g (range s n))
-unfolding filter range
+unfolding range
 others_range g j s k zero e h = absurd (omega arith)
 others_range g j s zero (suc n) e h = rw (eq-eqb s j (omega arith), rest_kept j (suc s) n (omega arith)) refl
 others_range g j s (suc k) (suc n) e h = rw (ne_eqb s j (λ q. omega arith)) (ap (λ (l : List ℕ). g s ∷ l) (others_range g j (suc s) k n (omega arith) (omega arith)))
@@ -121,7 +121,7 @@ others_words a k h =
 
 bytes_append : (l m : List ℕ) → bytes_of (l ++ m) ≡ bytes_of l ++ bytes_of m
 unfolding bytes_of
-bytes_append l m = flat_map-append _ l m
+bytes_append l m = flat_map-append (λ x. x / 256 ∷ x % 256 ∷ []) l m
 
 others_there : (a : List ℕ) (k : ℕ) → k < length a
     → bytes_of ((length (squares_of a) - 1) ∷ []) ++ (bytes_of (take k (squares_of a)) ++ bytes_of (drop (k + 1) (squares_of a))) ≡ clause_bytes (others_of a k)

@@ -63,7 +63,7 @@ push_no_clause s = push_as (sym clauses_none) (push_none s)
 
 -- of no number
 pub none_first : (F : ℕ → List Clause) → flat_map F (upto 0) ≡ []
-unfolding flat_map upto range
+unfolding upto range
 none_first F = refl
 
 -- the clauses of one number more

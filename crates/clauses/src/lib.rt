@@ -2,38 +2,29 @@
 // counts all. So the length of a sheet is what is counted on an output that has no room.
 #![tactic(auto)]
 
-ghost use Rattle.std.specs.Prelude.{◌≡◌, List, [], ◌++◌, map, ℕ, ◌+◌, ◌*◌, ◌≤◌, ◌<◌, length, get_or, take, option_to_list, true};
+ghost use Rattle.std.specs.Prelude.{◌≡◌, List, ◌++◌, map, ℕ, ◌+◌, ◌*◌, ◌^◌, ◌≤◌, ◌<◌, length, get_or, option_to_list, [], take};
 ghost use Rattle.grid.specs.Lists.{flat_map, upto, filter};
 ghost use Rattle.grid.specs.Side.{sized, towards};
 ghost use Rattle.grid.specs.Cells.{word};
-ghost use Rattle.record.specs.Problem.{puzzle_of};
-ghost use Rattle.form.specs.Form.{problem_formed};
 ghost use Rattle.groups.specs.Arrays.{CellArray, Drawn, lines_of};
 ghost use Rattle.exported.specs.Written.{bytes_of, written, output_with, Writes};
 ghost use Rattle.clauses.specs.Clauses.{given_at, apart, touching_at, around, between_at, arrow_clauses, clauses_bytes, sheet_bytes, sheet_within, sheet_for};
 ghost use Rattle.clauses.specs.Inside.{Pushed, marked};
 
-use grid::Grid;
+use form::accepted::Accepted;
+use grid::{DOWN, Grid, LEFT, RIGHT, UP};
 use record::{BLACK, GIVEN, Problem};
 use refusal::Refusal;
 use std::marker::Model;
 
-// The directions of a grid's neighbours.
-const UP: usize = 0;
-
-const DOWN: usize = 1;
-
-const LEFT: usize = 2;
-
-const RIGHT: usize = 3;
-
 // The mark of an arrow cell.
 const ON_ARROW: u8 = 1;
 
-// The bit of a literal's value: the literal of a cell as 1 is the cell and this bit, and as 0 it is the cell alone.
+// The bit of a literal's value: the literal of a cell as 1 is the cell and this bit, and as 0 it is the cell alone. By the bit, and no `literals::Literal`:
+// `squares` makes the literals of a whole array of cells by one sum each.
 const VALUE: u16 = 32768;
 
-// The arrow cells beside a cell, at most four.
+// The arrow cells beside a cell, at most four. By hand: the kit's `ArrayVec` fills itself with blanks, here for each cell of the grid anew.
 #[derive(Drop)]
 struct NearCells {
     cells: [u16; 4],
@@ -76,30 +67,30 @@ impl NearCells {
     }
 }
 
-// The arrow cell that the cell at row y, column x has in direction k.
-#[tactic(auto, using(crate::proofs::NearLaws::side_small, crate::proofs::NearLaws::side_on, crate::proofs::NearLaws::side_plain, crate::proofs::NearLaws::side_off))]
-fn arrow_toward(grid: Grid, marks: &[u8; 1024], y: usize, x: usize, k: usize) -> Option<u16>
-    requires { (y < grid.height) × (x < grid.width) × (k < 4) }
-    ensures { option_to_list result ≡ filter (marked marks.now) (towards (sized grid.height grid.width) (y * grid.width + x) k) }
+// The arrow cell that cell i has in direction k.
+#[tactic(auto, using(crate::proofs::NearLaws::side_on, crate::proofs::NearLaws::side_plain, crate::proofs::NearLaws::side_off))]
+fn arrow_toward(grid: Grid, marks: &[u8; 1024], i: usize, k: usize) -> Option<u16>
+    requires { (i < grid.height * grid.width) × (k < 4) }
+    ensures { option_to_list result ≡ filter (marked marks.now) (towards (sized grid.height grid.width) i k) }
 {
-    let j = grid.toward(y, x, k)?;
+    let j = grid.toward(i, k)?;
     if marks[j] == ON_ARROW {
         return Some(j as u16);
     }
     None
 }
 
-// The arrow cells beside the cell at row y, column x, in the order of the sheet.
+// The arrow cells beside cell i, in the order of the sheet.
 #[tactic(auto, using(crate::proofs::NearLaws::side_short, crate::proofs::NearLaws::around_sides))]
-fn gather(grid: Grid, marks: &[u8; 1024], y: usize, x: usize) -> NearCells
-    requires { (y < grid.height) × (x < grid.width) }
-    ensures { result ≡ filter (marked marks.now) (around (sized grid.height grid.width) (y * grid.width + x)) }
+fn gather(grid: Grid, marks: &[u8; 1024], i: usize) -> NearCells
+    requires { i < grid.height * grid.width }
+    ensures { result ≡ filter (marked marks.now) (around (sized grid.height grid.width) i) }
 {
     let mut near = NearCells::new();
-    near.add(arrow_toward(grid, marks, y, x, UP));
-    near.add(arrow_toward(grid, marks, y, x, LEFT));
-    near.add(arrow_toward(grid, marks, y, x, DOWN));
-    near.add(arrow_toward(grid, marks, y, x, RIGHT));
+    near.add(arrow_toward(grid, marks, i, UP));
+    near.add(arrow_toward(grid, marks, i, LEFT));
+    near.add(arrow_toward(grid, marks, i, DOWN));
+    near.add(arrow_toward(grid, marks, i, RIGHT));
     near
 }
 
@@ -155,8 +146,8 @@ impl Sheet<'_> {
         requires { n ≤ 1024 }
         ensures { Pushed self.old self.new (clauses_bytes (flat_map (λ i. given_at (get_or codes.now i 0) i) (upto n))) }
     {
-        for i in 0..n {
-            self.put_given(codes[i], i as u16);
+        for (i, &code) in codes[..n].iter().enumerate() {
+            self.put_given(code, i as u16);
         }
     }
 
@@ -178,10 +169,8 @@ impl Sheet<'_> {
         if marks[i] != ON_ARROW {
             return;
         }
-        let y = i / grid.width;
-        let x = i % grid.width;
-        self.put_touching(i as u16, arrow_toward(grid, marks, y, x, DOWN));
-        self.put_touching(i as u16, arrow_toward(grid, marks, y, x, RIGHT));
+        self.put_touching(i as u16, arrow_toward(grid, marks, i, DOWN));
+        self.put_touching(i as u16, arrow_toward(grid, marks, i, RIGHT));
     }
 
     // Writes the second part.
@@ -203,7 +192,7 @@ impl Sheet<'_> {
         if marks[i] == ON_ARROW {
             return;
         }
-        let near = gather(grid, marks, i / grid.width, i % grid.width);
+        let near = gather(grid, marks, i);
         let cells = near.cells();
         for (a, &later) in cells.iter().enumerate() {
             for &before in &cells[..a] {
@@ -222,7 +211,8 @@ impl Sheet<'_> {
         }
     }
 
-    // Writes for each cell of an arrow that there is a square on it beside that cell. The arrow is passed as the literals of its cells as 1.
+    // Writes for each cell of an arrow that there is a square on it beside that cell. The arrow is passed as the literals of its cells as 1. By index, since k cuts
+    // the arrow in two.
     fn write_arrow(&mut self, squares: &[u16])
         requires { length squares.now ≤ 1024 }
         ensures { (arrow : List ℕ) → squares.now ≡ map (λ j. word (j, 1)) arrow → Pushed self.old self.new (clauses_bytes (arrow_clauses arrow)) }
@@ -234,7 +224,7 @@ impl Sheet<'_> {
         }
     }
 
-    // Writes the fourth part.
+    // Writes the fourth part. It goes over the literals of the cells, of which there is no `problem.arrow(k)`.
     fn write_arrows(&mut self, problem: &Problem)
         requires { Drawn (problem.now.height * problem.now.width) problem.now.arrows problem.now.ends problem.now.count }
         ensures { Pushed self.old self.new (clauses_bytes (flat_map arrow_clauses (lines_of problem.now.arrows problem.now.ends problem.now.count))) }
@@ -248,17 +238,14 @@ impl Sheet<'_> {
         }
     }
 
-    // Writes the sheet of a problem, one part behind the other.
-    fn write_sheet(&mut self, problem: &Problem)
-        requires { problem_formed problem.now ≡ true }
-        ensures { Pushed self.old self.new (sheet_bytes (puzzle_of problem.now)) }
+    // Writes the sheet of a puzzle, one part behind the other.
+    fn write_sheet(&mut self, puzzle: &Accepted)
+        ensures sheet { Pushed self.old self.new (sheet_bytes puzzle.now) }
+        ensures few { length (sheet_bytes puzzle.now) < 2 ^ 31 }
     {
-        let grid = Grid {
-            height: problem.height,
-            width: problem.width,
-        };
-        let mut marks = [0; 1024];
-        groups::mark_arrow_cells(&problem.arrows, problem.arrow_total(), &mut marks);
+        let problem = &puzzle.problem;
+        let grid = problem.grid();
+        let marks = groups::mark_arrow_cells(&problem.arrows[..problem.arrow_total()]);
         self.write_given(&problem.cells, grid.size());
         self.write_touching(grid, &marks);
         self.write_between(grid, &marks);
@@ -266,16 +253,15 @@ impl Sheet<'_> {
     }
 }
 
-// Writes the sheet of a problem; 13 where the output is too short.
-fn write_problem(problem: &Problem, output: &mut [u8]) -> Result<usize, Refusal>
-    requires { problem_formed problem.now ≡ true }
-    ensures { Writes (sheet_within (length output.old) (puzzle_of problem.now)) result output.old output.new }
+// Writes the sheet of a puzzle; 13 where the output is too short.
+fn write_puzzle(puzzle: &Accepted, output: &mut [u8]) -> Result<usize, Refusal>
+    ensures { Writes (sheet_within (length output.old) puzzle.now) result output.old output.new }
 {
     let mut count = Sheet {
         out: &mut [],
         len: 0,
     };
-    count.write_sheet(problem);
+    count.write_sheet(puzzle);
     if output.len() < count.len {
         return Err(Refusal::SheetShort);
     }
@@ -283,7 +269,7 @@ fn write_problem(problem: &Problem, output: &mut [u8]) -> Result<usize, Refusal>
         out: output,
         len: 0,
     };
-    sheet.write_sheet(problem);
+    sheet.write_sheet(puzzle);
     Ok(sheet.len)
 }
 
@@ -291,8 +277,8 @@ fn write_problem(problem: &Problem, output: &mut [u8]) -> Result<usize, Refusal>
 fn write_record(record: &[u8], output: &mut [u8]) -> Result<usize, Refusal>
     ensures { Writes (sheet_for (length output.old) «record».now) result output.old output.new }
 {
-    let problem = Problem::read(record)?;
-    write_problem(&problem, output)
+    let puzzle = Accepted::read(record)?;
+    write_puzzle(&puzzle, output)
 }
 
 // Writes the clause sheet of a record to the front of the output, and returns the number of bytes; or the negated number of a refusal, which

@@ -70,7 +70,6 @@ arrow_bits-map g h f [] = refl
 arrow_bits-map g h f (i ∷ js) = length-arrow_bits h (f i) (map f js) ∙ rw (length-map js f) (sym (length-arrow_bits g i js))
 
 pub arrows_bits_map : (g h : Grid) (f : ℕ → ℕ) (as' : List (List ℕ)) → length (flat_map (arrow_bits h) (map (map f) as')) ≡ length (flat_map (arrow_bits g) as')
-unfolding flat_map
 arrows_bits_map g h f [] = refl
 arrows_bits_map g h f (a ∷ as') =
     length-append (arrow_bits h (map f a)) (flat_map (arrow_bits h) (map (map f) as'))

@@ -12,13 +12,13 @@ use Rattle.exported.specs.Written.{bytes_of}
 
 -- one more number
 pub bytes_more : (ws : List ℕ) (w : ℕ) → bytes_of (ws ++ (w ∷ [])) ≡ bytes_of ws ++ ((w / 256) ∷ (w % 256) ∷ [])
-unfolding bytes_of flat_map
+unfolding bytes_of
 bytes_more [] w = refl
 bytes_more (x ∷ ws) w = ap (λ (l : List ℕ). (x / 256) ∷ (x % 256) ∷ l) (bytes_more ws w)
 
 -- two bytes for each
 pub bytes_length : (ws : List ℕ) → length (bytes_of ws) ≡ 2 * length ws
-unfolding bytes_of flat_map
+unfolding bytes_of
 bytes_length [] = refl
 bytes_length (w ∷ ws) = omega (arith, bytes_length ws)
 

@@ -32,5 +32,5 @@ write_next ws out bytes k h l e =
 
 -- nothing is written yet
 pub written_none : (ws out : List ℕ) → out ≡ bytes_of (take 0 ws) ++ drop 0 out
-unfolding bytes_of flat_map
+unfolding bytes_of
 written_none ws out = refl

@@ -12,10 +12,11 @@ use lib.Dec.{eqb}
 use lib.ListN.{length, get_or, take, length-map}
 use lib.Seq.{get_or-take}
 use borrow.Author.Tests.{eqb-true, eq-eqb, ne_eqb}
+use Rattle.std.proofs.lemmas.Bool.{and_from}
 use Rattle.grid.specs.Lists.{upto, any, filter, flat_map, member}
 use Rattle.grid.specs.Grid.{Grid, size, cells_of, neighbours, touches}
 use Rattle.grid.specs.Side.{sized}
-use Rattle.grid.proofs.ListLaws.{and-true, true-and, any-mem, mem-any, upto-mem, mem-upto}
+use Rattle.grid.proofs.ListLaws.{and-true, any-mem, mem-any, upto-mem, mem-upto}
 use Rattle.grid.proofs.GridLaws.{beside as side, on_grid, adj_sym}
 use Rattle.grid.proofs.AppendLaws.{same_test, any_agree, filter_agree, member-filter}
 use Rattle.record.specs.Record.{Puzzle}
@@ -64,7 +65,6 @@ module _ (v : View) (f : ℕ) (r : List ℕ) where
   fence_word K i (neighbour x) e = refl
 
 flat_filter : (F : ℕ → List Literal) (lit : ℕ → ℕ) (t : ℕ → Bool) (l : List ℕ) → ((x : ℕ) → Memᴰ x l → map word (F x) ≡ cond (t x) (lit x ∷ []) []) → map word (flat_map F l) ≡ map lit (filter t l)
-unfolding flat_map filter
 flat_filter F lit t [] h = refl
 flat_filter F lit t (x ∷ l) h = map-append word (F x) (flat_map F l) ∙ rw (h x (Memᴰ.head refl), flat_filter F lit t l (λ y m. h y (Memᴰ.tail m))) (by (t x))
   where
@@ -175,11 +175,11 @@ module _ (p : Puzzle) (small : size p.grid ≤ 1024) (values K O marks : List �
           let o : get_or O x 0 ≡ get_or O j.0 0 = eqb-true (get_or O x 0) (get_or O j.0 0) w.1 in
           fenced_block v f R x (float x) (kind x) (sym (code x lx) ∙ eqb-true (get_or K x 0) 1 w.0) (λ e q.
           let oe : get_or O j.0 0 ≡ e = sym o ∙ owner x lx ∙ q in
-          true-and (subst (λ (y : ℕ). So (not (eqb y f))) oe d.1)
-          (mem-any _ (upto (size g)) (mem-upto (size g) lj) (true-and
-          (sym (in_is j.0 e lj) ∙ true-and d.0 (eq-eqb (get_or O j.0 0) e oe))
+          and_from _ _ (subst (λ (y : ℕ). So (not (eqb y f))) oe d.1)
+          (mem-any _ (upto (size g)) (mem-upto (size g) lj) (and_from _ _
+          (sym (in_is j.0 e lj) ∙ and_from _ _ d.0 (eq-eqb (get_or O j.0 0) e oe))
           (mem-any _ (neighbours g j.0) (adj_sym g i j.0 (l, j.1)).1
-          (true-and (eq-eqb (get_or cells i 0) 2 (value i l ∙ eqb-true (get_or values i 0) 2 b.0)) (sym (touched_is i l) ∙ b.1))))))
+          (and_from _ _ (eq-eqb (get_or cells i 0) 2 (value i l ∙ eqb-true (get_or values i 0) 2 b.0)) (sym (touched_is i l) ∙ b.1))))))
 
   -- a fenced cell is inserted
   back : (x : ℕ) → x < size g → So (fenced v f R x (kind x)) → (i : ℕ) × (i < size g) × So (adds values K O marks g f i x)
@@ -187,7 +187,7 @@ module _ (p : Puzzle) (small : size p.grid ≤ 1024) (values K O marks : List �
   back x lx s = by (fenced_says v f R x (float x) (kind x) s)
     where
       by : ((kind_code (kind x) ≡ 0) × So (touches g R x)) ⊎ ((e : ℕ) × (kind_code (kind x) ≡ 1) × (owner_by (float x) (kind x) ≡ e) × So (not (eqb e f) && disturbing v R e)) → (i : ℕ) × (i < size g) × So (adds values K O marks g f i x)
-      by (inl (z, t)) = (x, lx, rw (code x lx ∙ z) (true-and (touched_is x lx ∙ t) (eq-eqb x x refl)))
+      by (inl (z, t)) = (x, lx, rw (code x lx ∙ z) (and_from _ _ (touched_is x lx ∙ t) (eq-eqb x x refl)))
       by (inr (e, z, q, t)) =
           let a = and-true (not (eqb e f)) _ t in
           let j = any-mem _ (upto (size g)) a.1 in
@@ -201,11 +201,11 @@ module _ (p : Puzzle) (small : size p.grid ≤ 1024) (values K O marks : List �
           let oe : get_or O j.0 0 ≡ e = eqb-true (get_or O j.0 0) e d.1 in (
             u.0,
             lu,
-            rw (ne_eqb (get_or K u.0 0) 0 (open_code u.0 lu two)) (true-and
-                (true-and (eq-eqb (get_or values u.0 0) 2 (sym (value u.0 lu) ∙ two)) (touched_is u.0 lu ∙ c.1))
+            rw (ne_eqb (get_or K u.0 0) 0 (open_code u.0 lu two)) (and_from _ _
+                (and_from _ _ (eq-eqb (get_or values u.0 0) 2 (sym (value u.0 lu) ∙ two)) (touched_is u.0 lu ∙ c.1))
                 (mem-any _ (neighbours g u.0) (adj_sym g j.0 u.0 (lj, u.1)).1
-                (true-and (true-and d.0 (subst (λ (y : ℕ). So (not (eqb y f))) (sym oe) a.0))
-                (true-and (eq-eqb (get_or K x 0) 1 (code x lx ∙ z)) (eq-eqb (get_or O x 0) (get_or O j.0 0) (owner x lx ∙ q ∙ sym oe)))))),
+                (and_from _ _ (and_from _ _ d.0 (subst (λ (y : ℕ). So (not (eqb y f))) (sym oe) a.0))
+                (and_from _ _ (eq-eqb (get_or K x 0) 1 (code x lx ∙ z)) (eq-eqb (get_or O x 0) (get_or O j.0 0) (owner x lx ∙ q ∙ sym oe)))))),
           )
 
   among_is : (x : ℕ) → x < size g → adds_among values K O marks g f (size g) x ≡ fenced v f R x (kind x)

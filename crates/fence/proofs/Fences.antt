@@ -1,6 +1,6 @@
 -- The fence is inserted cell by cell: no code is named here.
 -- Assumes nothing.
-use Prim.Native.Nat.{ℕ, ◌+◌, ◌*◌, ◌≤◌, ◌<◌}
+use Prim.Native.Nat.{ℕ, ◌+◌, ◌≤◌, ◌<◌}
 use native.Mathlib.Decide.{ℕ_discrete, dec_lt}
 use native.Mathlib.Omega.{arith}
 use mathlib.Core.Logic.{◌⊎◌, inl, inr}
@@ -10,19 +10,15 @@ use mathlib.Core.List.{List, [], ◌∷◌, ◌++◌, Memᴰ}
 use lib.Dec.{eqb, ltb}
 use lib.ListN.{length, get_or}
 use borrow.Author.Tests.{eqb-true, eq-eqb, ne_eqb, lt-ltb, le-ltb}
+use Rattle.std.proofs.lemmas.Bool.{and_from}
 use Rattle.grid.specs.Lists.{range, upto, filter, any}
 use Rattle.kinds.specs.Inside.{of_block}
+use Rattle.grid.specs.Cells.{word}
 use Rattle.grid.specs.Grid.{Grid, neighbours}
-use Rattle.grid.specs.Side.{InGrid}
-use Rattle.grid.specs.declared.Grid.{Grid as Sides}
-use Rattle.grid.proofs.ListLaws.{split, and-true, true-and, So-orl, So-orr, or-So, any-mem, mem-any}
+use Rattle.grid.proofs.ListLaws.{split, and-true, So-orl, So-orr, or-So, any-mem, mem-any}
 use Rattle.grid.proofs.AppendLaws.{any-append, any_more, none_more}
 use Rattle.fence.specs.Inside.{key, Place, Inserted, lit_at, Ordered, Whole, in_disturbing, touched, adds, adds_among}
 use Rattle.fence.proofs.Ordering.{key_lit, Ordered-same, found, absent, Ordered-insert}
-
--- a cell of a grid, as the laws of the four neighbours take it
-pub cell_of : (g : Sides) (i : ℕ) → i < g.height * g.width → InGrid g.height g.width i
-cell_of g i h = record { tall = g.tall; wide = g.wide; within = h }
 
 -- nothing is added
 pub none_added : {K base part : List ℕ} {n c : ℕ} (t T : ℕ → Bool) → ((x : ℕ) → T x ≡ false) → Ordered K n base t part c → Ordered K n base (λ x. t x || T x) part c
@@ -48,13 +44,13 @@ module _ {K base part : List ℕ} {n c : ℕ} {t : ℕ → Bool} (O : Ordered K 
 
 -- ---- one cell of an arrow block
 module _ (K O : List ℕ) (e i : ℕ) where
-  pub cell_added : {base part part' : List ℕ} {n c r : ℕ} {t : ℕ → Bool} → get_or K i 0 ≡ 1 → get_or O i 0 ≡ e → i < n → Ordered K n base t part c → Inserted part c (32768 + i) r part'
+  pub cell_added : {base part part' : List ℕ} {n c r : ℕ} {t : ℕ → Bool} → of_block K O e i ≡ true → i < n → Ordered K n base t part c → Inserted part c (word (i, 1)) r part'
       → Ordered K n base (λ x. t x || (of_block K O e i && eqb i x)) part' r
-  unfolding lit_at
-  cell_added {t = t} k o l Q I =
-      let lit : 32768 + i ≡ lit_at K i = rw k in
-      Ordered-same (λ x. t x || eqb i x) (λ x. t x || (of_block K O e i && eqb i x)) (λ x _. rw (k, eq-eqb (get_or O i 0) e o))
-      (Ordered-insert Q i (32768 + i) l (ap key lit ∙ key_lit K i (omega (arith, Q.small))) lit I)
+  unfolding lit_at word
+  cell_added {t = t} is l Q I =
+      let lit : word (i, 1) ≡ lit_at K i = rw (eqb-true (get_or K i 0) 1 (and-true (eqb (get_or K i 0) 1) _ is).0) in
+      Ordered-same (λ x. t x || eqb i x) (λ x. t x || (of_block K O e i && eqb i x)) (λ x _. rw is)
+      (Ordered-insert Q i (word (i, 1)) l (ap key lit ∙ key_lit K i (omega (arith, Q.small))) lit I)
 
 -- ---- all cells of an arrow block
 module _ (K O : List ℕ) (e : ℕ) where
@@ -119,7 +115,7 @@ module _ (K O : List ℕ) (f j : ℕ) where
   disturbing_whole a b h k o =
       let q = disturbing_says a h in
       let r = and-true (eqb (get_or K j 0) 1 && not (eqb (get_or O j 0) f)) _ h in
-      true-and r.0 (true-and (eq-eqb (get_or K b 0) 1 k) (eq-eqb (get_or O b 0) (get_or O j 0) (sym o ∙ q.1)))
+      and_from _ _ r.0 (and_from _ _ (eq-eqb (get_or K b 0) 1 k) (eq-eqb (get_or O b 0) (get_or O j 0) (sym o ∙ q.1)))
 
 -- ---- the arrow blocks of neighbours in turn
 module _ (K O : List ℕ) (f : ℕ) where
@@ -138,18 +134,15 @@ module _ (K O : List ℕ) (f : ℕ) where
       by (inr h) = So-orr (t b) (disturbing_among_whole js a b h kb o)
 
   pub disturbing_among_none : (x : ℕ) → in_disturbing_among [] x ≡ false
-  unfolding any
   disturbing_among_none x = refl
 
   pub disturbing_among_more : {base part : List ℕ} {n c : ℕ} (t : ℕ → Bool) (js : List ℕ) (j : ℕ) → Ordered K n base (λ x. (t x || in_disturbing_among js x) || in_disturbing K O f j x) part c → Ordered K n base (λ x. t x || in_disturbing_among (js ++ (j ∷ [])) x) part c
-  unfolding any
   disturbing_among_more t js j Q = Ordered-same (λ x. (t x || in_disturbing_among js x) || in_disturbing K O f j x) (λ x. t x || in_disturbing_among (js ++ (j ∷ [])) x)
       (λ x _. or_assoc (t x) (in_disturbing_among js x) (in_disturbing K O f j x) ∙ ap (λ (b : Bool). t x || b) (ap (λ (b : Bool). in_disturbing_among js x || b) (sym (or-false (in_disturbing K O f j x))) ∙ sym (any-append (λ k. in_disturbing K O f k x) js (j ∷ [])))) Q
 
 -- ---- whether a neighbour is marked
 module _ (marks : List ℕ) where
   pub touch_none : any (λ j. eqb (get_or marks j 0) 1) [] ≡ false
-  unfolding any
   touch_none = refl
 
   pub touch_more : (js : List ℕ) (j : ℕ) → any (λ k. eqb (get_or marks k 0) 1) js ≡ false → (get_or marks j 0 ≡ 1 → ⊥) → any (λ k. eqb (get_or marks k 0) 1) (js ++ (j ∷ [])) ≡ false
@@ -180,13 +173,13 @@ module _ (cells K O marks : List ℕ) (g : Grid) (f i : ℕ) where
   adds_decided k h x = rw (ne_eqb (get_or K i 0) 0 k, ne_eqb (get_or cells i 0) 2 h)
 
   -- itself
-  pub adds_itself : {base part part' : List ℕ} {n c r : ℕ} (t : ℕ → Bool) → get_or K i 0 ≡ 0 → touched marks g i ≡ true → i < n → Ordered K n base t part c → Inserted part c i r part'
+  pub adds_itself : {base part part' : List ℕ} {n c r : ℕ} (t : ℕ → Bool) → get_or K i 0 ≡ 0 → touched marks g i ≡ true → i < n → Ordered K n base t part c → Inserted part c (word (i, 0)) r part'
       → Ordered K n base (λ x. t x || adds cells K O marks g f i x) part' r
-  unfolding adds lit_at
+  unfolding adds lit_at word
   adds_itself t k h l Q I =
-      let lit : i ≡ lit_at K i = rw k in
+      let lit : word (i, 0) ≡ lit_at K i = rw k (omega arith) in
       Ordered-same (λ x. t x || eqb i x) (λ x. t x || adds cells K O marks g f i x) (λ x _. rw (k, h))
-      (Ordered-insert Q i i l (ap key lit ∙ key_lit K i (omega (arith, Q.small))) lit I)
+      (Ordered-insert Q i (word (i, 0)) l (ap key lit ∙ key_lit K i (omega (arith, Q.small))) lit I)
 
   -- the other arrow blocks beside it
   pub adds_disturbing : {base part : List ℕ} {n c : ℕ} (t : ℕ → Bool) → (get_or K i 0 ≡ 0 → ⊥) → get_or cells i 0 ≡ 2 → touched marks g i ≡ true → Ordered K n base (λ x. t x || any (λ j. in_disturbing K O f j x) (neighbours g i)) part c
@@ -206,7 +199,7 @@ module _ (cells K O marks : List ℕ) (g : Grid) (f i : ℕ) where
       by (no k) =
           let h : So (eqb (get_or cells i 0) 2 && touched marks g i && any (λ j. in_disturbing K O f j a) (neighbours g i)) = rw (ne_eqb (get_or K i 0) 0 k) at s in
           let r = and-true (eqb (get_or cells i 0) 2 && touched marks g i) _ h in
-          rw (ne_eqb (get_or K i 0) 0 k) (true-and r.0 (disturbing_among_whole K O f (neighbours g i) a b r.1 kb o))
+          rw (ne_eqb (get_or K i 0) 0 k) (and_from _ _ r.0 (disturbing_among_whole K O f (neighbours g i) a b r.1 kb o))
 
 -- ---- the cells in row order
 
@@ -216,12 +209,11 @@ module _ (cells K O marks : List ℕ) (g : Grid) (f : ℕ) where
   among_Whole k a b s ka kb o = let r = any-mem (λ i. adds cells K O marks g f i a) (upto k) s in mem-any (λ i. adds cells K O marks g f i b) (upto k) r.1 (adds_whole cells K O marks g f r.0 a b r.2 ka kb o)
 
   filter_none : (l : List ℕ) → filter (λ x. false) l ≡ []
-  unfolding filter
   filter_none [] = refl
   filter_none (x ∷ l) = filter_none l
 
   pub fence_none : (n : ℕ) (part : List ℕ) → n ≤ 1024 → n < length part → Ordered K n part (adds_among cells K O marks g f 0) part 0
-  unfolding adds_among upto range any
+  unfolding adds_among upto range
   fence_none n part s h = record { list = rw (filter_none (range 0 n)); number = rw (filter_none (range 0 n)); rest = refl; long = refl; room = h; small = s }
 
   pub fence_more : {base part : List ℕ} {n c : ℕ} (i : ℕ) → Ordered K n base (λ x. adds_among cells K O marks g f i x || adds cells K O marks g f i x) part c → Ordered K n base (adds_among cells K O marks g f (i + 1)) part c

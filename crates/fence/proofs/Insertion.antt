@@ -10,6 +10,7 @@ use lib.ListN.{length, get_or, take, drop, set, length-set, length-append, lengt
 use lib.Seq.{length-take-le, get_or-set_same, get_or-set_other, get_or-take, get_or-drop, get_or_at, get_or-append-add, drop-set-lt, ext_get_or}
 use borrow.Author.Tests.{ltb-true, ltb-false, eqb-true, eqb-false}
 use Rattle.std.specs.List.{CopiedTo, SameBelow, SameFrom}
+use Rattle.grid.specs.Cells.{word}
 use Rattle.fence.specs.Inside.{key, Place, Shifted, Inserted, new}
 
 -- ---- the shift, as the library tells it
@@ -89,3 +90,16 @@ module _ (a b : List ℕ) (p count x : ℕ) (le : p ≤ count) (within : count <
 pub Inserted-new : (a b : List ℕ) (p count x : ℕ) → count < length a → Place a count x p → (p < count → key (get_or a p 0) ≡ key x → ⊥) → Shifted a b p count → Inserted a count x (count + 1) (set b p x)
 Inserted-new a b p count x within pl ne s =
     new pl ne refl (stored_list a b p count x pl.within within s) (stored_rest a b p count x pl.within within s) (length-set b p x ∙ s.as_long)
+
+-- ---- the index of a number
+
+-- it is that of the literal
+pub key_index : (i v : ℕ) {n : ℕ} → word (i, v) ≡ n → i < 32768 → key n ≡ i
+unfolding word
+key_index i v e h = omega (arith, e)
+
+-- a place by the index is that of the number
+pub literal_Place : {a : List ℕ} {c p : ℕ} (i v : ℕ) → i < 32768 → Place a c i p → Place a c (word (i, v)) p
+literal_Place i v h P =
+    let e : key (word (i, v)) ≡ key i = omega (arith, key_index i v refl h) in
+    record { within = P.within; before = λ q. omega (arith, P.before q, e); behind = λ q. omega (arith, P.behind q, e) }

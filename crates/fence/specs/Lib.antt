@@ -1,2 +1,3 @@
 pub mod Inside
 pub mod Part
+pub mod Board

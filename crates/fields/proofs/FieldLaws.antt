@@ -4,11 +4,13 @@ use Prim.Native.Nat.{ℕ, zero, suc, ◌+◌, ◌-◌, ◌*◌, ◌/◌, ◌%◌
 use native.Mathlib.Nat.{one-mul, mod-eq_of_lt}
 use native.Mathlib.Omega.{arith}
 use mathlib.Core.Path.{◌≡◌, refl, sym, ap, ◌∙◌}
-use mathlib.Core.List.{List}
+use mathlib.Core.List.{List, [], ◌∷◌}
 use mathlib.Core.Bool.{true, false}
 use lib.Dec.{eqb, ltb}
 use native.Mathlib.Numerals.{add-one}
 use mathlib.Core.Logic.{◌⊎◌, inl, inr}
+use Rattle.std.specs.Int.{w32, from_be_bytes, div_ceil}
+use Rattle.std.proofs.lemmas.Grind.{div_ceil_times}
 use Rattle.grid.proofs.ListLaws.{split}
 use lib.Pow.{pow_mono, shr-shr, mod-pow-add}
 use lib.ListN.{length, get_or}
@@ -97,30 +99,41 @@ module _ (s : List ℕ) (bytes : (k : ℕ) → get_or s k 0 < 256) where
 pub one_shifted : (n : ℕ) → n ≤ 16 → 1 * 2 ^ n % 4294967296 ≡ 2 ^ n
 one_shifted n h = rw (one-mul (2 ^ n)) (mod-eq_of_lt (omega (arith, pow_mono {i = n} {j = 16} h)))
 
--- a field that is there, and one that is cut
-pub field_there : (s : List ℕ) (at n x : ℕ) → (at + n + 7) / 8 ≤ length s → x ≡ number s at n → ok x ≡ field s at n
-unfolding field
-field_there s at n x h e = rw (le-leb (at + n) (8 * length s) (omega arith)) (ap {B = Outcome ℕ} ok e)
+-- the code's number of bytes for so many bits
+pub ceil : (n : ℕ) {k : ℕ} → k ≡ div_ceil n 8 → k ≡ bytes_for n
+unfolding bytes_for
+ceil n e = omega (arith, e, div_ceil_times n 8 (omega arith))
 
-pub field_cut : (s : List ℕ) (at n : ℕ) → length s < (at + n + 7) / 8 → refused 1 ≡ field s at n
-unfolding field
-field_cut s at n h = rw (lt-leb (at + n) (8 * length s) (omega arith)) refl
+-- a field that is there, and one that is cut
+pub field_there : (s : List ℕ) (at n x : ℕ) {k : ℕ} → k ≡ div_ceil (at + n) 8 → k ≤ length s → x ≡ number s at n → ok x ≡ field s at n
+unfolding field bytes_for
+field_there s at n x q h e = rw (le-leb (at + n) (8 * length s) (omega (arith, ceil _ q))) (ap {B = Outcome ℕ} ok e)
+
+pub field_cut : (s : List ℕ) (at n : ℕ) {k : ℕ} → k ≡ div_ceil (at + n) 8 → length s < k → refused 1 ≡ field s at n
+unfolding field bytes_for
+field_cut s at n q h = rw (lt-leb (at + n) (8 * length s) (omega (arith, ceil _ q))) refl
 
 -- the window shifted to the right, and its last n bits
-pub shifted : (s : List ℕ) → ((k : ℕ) → get_or s k 0 < 256) → (at n a b c : ℕ) → n ≤ 16 → a ≡ get_or s (at / 8) 0 → b ≡ get_or s (at / 8 + 1) 0 → c ≡ get_or s (at / 8 + 2) 0
-    → (a * 65536 + b * 256 + c) / 2 ^ (24 - at % 8 - n) % (1 * 2 ^ n % 4294967296) ≡ number s at n
-shifted s bytes at n a b c h p q r = rw (one_shifted n h, p, q, r) (window-number s bytes at n (omega arith))
+pub shifted : (s : List ℕ) → ((k : ℕ) → get_or s k 0 < 256) → (at n a b c x : ℕ) → n ≤ 16 → a ≡ get_or s (at / 8) 0 → b ≡ get_or s (at / 8 + 1) 0 → c ≡ get_or s (at / 8 + 2) 0
+    → x ≡ from_be_bytes w32 (0 ∷ a ∷ b ∷ c ∷ []) → x / 2 ^ (24 - at % 8 - n) % (1 * 2 ^ n % 4294967296) ≡ number s at n
+shifted s bytes at n a b c x h p q r e =
+    let w : x ≡ window s (at / 8) = omega (arith, p, q, r, e) in
+    rw (one_shifted n h, w) (window-number s bytes at n (omega arith))
 
--- a code that is none of 0, 1 and 2
+-- a code that is one of 0, 1 and 2, and one that is none
+pub low_code : (c k : ℕ) → c ≡ k → k < 3 → ok k ≡ cell_code c
+unfolding cell_code unless ◌>>=◌
+low_code c k e h = rw (e, lt-ltb k 3 h) refl
+
 pub no_code : (c : ℕ) → (c ≡ 0 → ⊥) → (c ≡ 1 → ⊥) → (c ≡ 2 → ⊥) → refused 2 ≡ cell_code c
 unfolding cell_code unless ◌>>=◌
 no_code c p q r = rw (le-ltb c 3 (omega arith)) refl
 
 -- the filler: too long, none, a few bits
 module _ (s : List ℕ) (at : ℕ) where
-  pub filler_long : (at + 7) / 8 < length s → false ≡ filler s at
-  unfolding filler
-  filler_long h = rw (le-ltb (8 * length s - at) 8 (omega arith)) refl
+  pub filler_long : {k : ℕ} → k ≡ div_ceil at 8 → k < length s → false ≡ filler s at
+  unfolding filler bytes_for
+  filler_long q h = rw (le-ltb (8 * length s - at) 8 (omega (arith, ceil _ q))) refl
 
   pub filler_none : 8 * length s ≤ at → true ≡ filler s at
   unfolding filler number
@@ -128,11 +141,11 @@ module _ (s : List ℕ) (at : ℕ) where
       let e : 8 * length s - at ≡ 0 = omega arith in
       rw e refl
 
-  pub filler_bits : (x : ℕ) → length s ≤ (at + 7) / 8 → x ≡ number s at (8 * length s - at) → eqb x 0 ≡ filler s at
-  unfolding filler
-  filler_bits x h e = rw (lt-ltb (8 * length s - at) 8 (omega arith), e) refl
+  pub filler_bits : (x : ℕ) {k : ℕ} → k ≡ div_ceil at 8 → length s ≤ k → x ≡ number s at (8 * length s - at) → eqb x 0 ≡ filler s at
+  unfolding filler bytes_for
+  filler_bits x q h e = rw (lt-ltb (8 * length s - at) 8 (omega (arith, ceil _ q)), e) refl
 
   -- the bits to the end of the byte
-  pub rest_bits : (x : ℕ) → x ≡ number s at ((at + 7) / 8 * 8 - at) → eqb x 0 ≡ rest_zero s at
-  unfolding rest_zero bytes_for
-  rest_bits x e = rw e refl
+  pub rest_bits : (x : ℕ) {k : ℕ} → k ≡ div_ceil at 8 → x ≡ number s at (k * 8 - at) → eqb x 0 ≡ rest_zero s at
+  unfolding rest_zero
+  rest_bits x q e = rw (e, ceil _ q) refl

@@ -1,6 +1,6 @@
 -- One step on the grid, by row and column.
 -- Assumes nothing.
-use Prim.Native.Nat.{ℕ, ◌+◌, ◌-◌, ◌*◌, ◌≤◌, ◌<◌}
+use Prim.Native.Nat.{ℕ, zero, suc, ◌+◌, ◌-◌, ◌*◌, ◌≤◌, ◌<◌}
 use native.Mathlib.Nat.{suc-mul, zero-mul, mul-le-mul_right}
 use native.Mathlib.Omega.{arith}
 use native.Mathlib.Numerals.{add-one}
@@ -74,3 +74,14 @@ module _ (h w y x : ℕ) (hy : y < h) (hx : x < w) where
   pub no_right : w ≤ x + 1 → refused 3 ≡ step_from G (y * w + x) 3
   unfolding step_from there right only col
   no_right p = rw (digits_mod y hx, le-ltb (x + 1) w p) refl
+
+-- no step: none of the four leads to a cell
+module _ (h w y x : ℕ) (hy : y < h) (hx : x < w) where
+  pub no_step : (d : ℕ) → d < 4 → (d ≡ 0 → y ≤ 0) → (d ≡ 1 → h ≤ y + 1) → (d ≡ 2 → x ≤ 0) → (d ≡ 3 → w ≤ x + 1) → refused 3 ≡ step_from (sized h w) (y * w + x) d
+  no_step zero l a b c e = no_up h w y x hy hx (a refl)
+  no_step (suc zero) l a b c e = no_down h w y x hy hx (b refl)
+  no_step (suc (suc zero)) l a b c e = no_left h w y x hy hx (c refl)
+  no_step (suc (suc (suc zero))) l a b c e = no_right h w y x hy hx (e refl)
+  no_step (suc (suc (suc (suc d)))) l a b c e = absurd (omega (arith, l))
+
+pub ruleset steps = (step_up, step_down, step_left, step_right, no_step)

@@ -8,6 +8,12 @@ use Rattle.refusal.specs.Refusals.{number_of}
 use Rattle.fields.specs.Fields.{Outcome, ok, refused, ◌>>=◌, unless, field, step_from}
 use Rattle.fields.specs.declared.Start.{Start}
 use Rattle.fields.specs.declared.Place.{Place}
+use Rattle.fields.specs.declared.BitReader.{BitReader}
+
+-- n bits further in the same bytes
+pub record Past (n : ℕ) (old new : BitReader) : Type 0 where
+  pub same : new.bytes.now ≡ old.bytes.now
+  pub on : new.at ≡ old.at + n
 
 -- the code's answer agrees with the outcome: P holds of its value and the outcome's, or it is the same refusal
 abbrev pub Agrees : {A B : Type 0} → Outcome A → (A → B → Type 0) → Result B Refusal → Type 0
@@ -38,4 +44,4 @@ opening_at s g at =
     field s (at + 5) 5 >>= λ x.
     field s (at + 10) 10 >>= λ k.
     unless (ltb y g.height && ltb x g.width) 3 >>= λ _.
-    ok (record { row = y; col = x; steps = k })
+    ok (record { place = record { row = y; col = x }; steps = k })

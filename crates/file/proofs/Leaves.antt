@@ -3,7 +3,7 @@
 use Prim.Native.Nat.{ℕ}
 use mathlib.Core.Path.{◌≡◌, refl}
 use mathlib.Core.List.{List, [], ◌∷◌, ◌++◌}
-use Rattle.grid.specs.Lists.{range, upto, any, all, filter, flat_map, member}
+use Rattle.grid.specs.Lists.{range, upto, member}
 use Rattle.grid.specs.Grid.{size, cells_of, row, col, only, up, down, left, right, neighbours}
 use Rattle.grid.specs.Cells.{square}
 use Rattle.fields.specs.Fields.{Outcome, ok, refused, ◌>>=◌, unless, bit, number, field, there, step_from, filler, bytes_for, rest_zero}
@@ -66,7 +66,7 @@ pub played :
     ∷ refused 5
     ∷ refused 1
     ∷ [])
-unfolding range upto any flat_map member size col only up down left right ◌>>=◌ unless bit number field there step_from filler bytes_for rest_zero cell_codes step_cells arrow_at arrow_cells arrows_in read_fields head_bits head_of read_head tail_test grade_in graded_in player_behind player_within to_player player_given
+unfolding range upto member size col only up down left right ◌>>=◌ unless bit number field there step_from filler bytes_for rest_zero cell_codes step_cells arrow_at arrow_cells arrows_in read_fields head_bits head_of read_head tail_test grade_in graded_in player_behind player_within to_player player_given
 played = refl
 
 -- the setter's call, with an output of so many bytes and in an edition
@@ -92,7 +92,7 @@ pub set :
     ∷ refused 11
     ∷ refused 5
     ∷ [])
-unfolding range upto any all filter flat_map member size cells_of row col only up down left right neighbours square ◌>>=◌ unless bit number field there step_from filler bytes_for rest_zero cell_codes step_cells arrow_at is_edition arrow_cells arrows_in read_fields head_bits head_of read_head rename join join_all edges labels group names on_arrow pairs_from pairs fits more_test one_test grown_test rules_test keeps keeps_all two_squares all_but_rules finished_test tail_test grade_in solution_in graded_in solved_in setter_behind setter_within to_setter setter_given
+unfolding range upto member size cells_of row col only up down left right neighbours square ◌>>=◌ unless bit number field there step_from filler bytes_for rest_zero cell_codes step_cells arrow_at is_edition arrow_cells arrows_in read_fields head_bits head_of read_head rename join join_all edges labels group names on_arrow pairs_from pairs fits more_test one_test grown_test rules_test keeps keeps_all two_squares all_but_rules finished_test tail_test grade_in solution_in graded_in solved_in setter_behind setter_within to_setter setter_given
 set = refl
 
 -- the two readers and the writer
@@ -100,5 +100,5 @@ pub told :
     (read_player (leaf ++ solved) ≡ ok (record { head = record { puzzle = puzzle; bytes = 8 }; grade = 5 }))
     × (read_setter 1 (leaf ++ solved) ≡ ok (record { graded = record { head = record { puzzle = puzzle; bytes = 8 }; grade = 5 }; solution = 1 ∷ 0 ∷ 1 ∷ 0 ∷ 0 ∷ 1 ∷ [] }))
     × (write_file puzzle 5 (1 ∷ 0 ∷ 1 ∷ 0 ∷ 0 ∷ 1 ∷ []) ≡ leaf ++ solved)
-unfolding range upto any all filter flat_map member size cells_of row col only up down left right neighbours square ◌>>=◌ unless bit number field there step_from filler bytes_for rest_zero cell_codes step_cells arrow_at is_edition arrow_cells arrows_in read_fields head_bits head_of read_head bits_of value_of pack direction step_bits arrow_bits record_bits write_record rename join join_all edges labels group names on_arrow pairs_from pairs fits more_test one_test grown_test rules_test keeps keeps_all two_squares all_but_rules finished_test tail_test grade_in solution_in graded_in solved_in player_behind setter_behind read_player read_setter write_tail write_file
+unfolding range upto member size cells_of row col only up down left right neighbours square ◌>>=◌ unless bit number field there step_from filler bytes_for rest_zero cell_codes step_cells arrow_at is_edition arrow_cells arrows_in read_fields head_bits head_of read_head bits_of value_of pack direction step_bits arrow_bits record_bits write_record rename join join_all edges labels group names on_arrow pairs_from pairs fits more_test one_test grown_test rules_test keeps keeps_all two_squares all_but_rules finished_test tail_test grade_in solution_in graded_in solved_in player_behind setter_behind read_player read_setter write_tail write_file
 told = (refl, refl, refl)

@@ -14,8 +14,9 @@ use lib.Seq.{get_or-drop, ext_get_or, get_or-append-add}
 use borrow.Author.Tests.{leb-true, le-leb, lt-leb, lt-ltb, eqb-true, eq-eqb}
 use Rattle.std.specs.Int.{div_ceil}
 use Rattle.std.proofs.lemmas.Grind.{div_ceil_times}
+use Rattle.std.proofs.lemmas.Bool.{and_from}
 use Rattle.grid.specs.Lists.{upto, range}
-use Rattle.grid.proofs.ListLaws.{and-true, true-and, length-map-upto, map-upto_at}
+use Rattle.grid.proofs.ListLaws.{and-true, length-map-upto, map-upto_at}
 use Rattle.grid.proofs.AppendLaws.{upto_more}
 use Rattle.fields.specs.Fields.{ok, bit, number, field, filler, bytes_for}
 use Rattle.record.specs.Record.{Bytes}
@@ -94,8 +95,8 @@ module _ (t : List ℕ) (n : ℕ) where
       let b = bytes_for_lem (3 + n) in
       let m = w.long in
       let z = number_zero t (3 + n) (8 * length t - (3 + n)) (λ i l. w.zeros (3 + n + i) (omega arith) (omega arith)) in
-      true-and (le-leb (3 + n) (8 * length t) (omega arith))
-      (true-and (lt-ltb (8 * length t - (3 + n)) 8 (omega arith)) (eq-eqb (number t (3 + n) (8 * length t - (3 + n))) 0 z))
+      and_from _ _ (le-leb (3 + n) (8 * length t) (omega arith))
+      (and_from _ _ (lt-ltb (8 * length t - (3 + n)) 8 (omega arith)) (eq-eqb (number t (3 + n) (8 * length t - (3 + n))) 0 z))
 
   -- the test passes exactly where the tail is neither too short nor too long, with zero filler
   pub Tail-means : (tail_test t n ≡ true) ↔ Tail t n

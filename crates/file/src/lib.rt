@@ -11,6 +11,7 @@ ghost use Rattle.file.specs.Answers.{player_of, setter_of, Gives};
 ghost use Rattle.file.specs.Call.{player_within, setter_within, player_given, setter_given, given_length, given_bytes};
 
 use exported::write_behind;
+use fields::BitReader;
 use record::Problem;
 use refusal::Refusal;
 use sizes::Edition;
@@ -22,7 +23,8 @@ pub struct Player {
     pub grade: u8,
 }
 
-// What the setter's reader gives: what the player's does, and the `count` cells of the solution, 1 square and 0 empty, with 0 behind them.
+// What the setter's reader gives: what the player's does, and the `count` cells of the solution, 1 square and 0 empty, with 0 behind them. An array and a
+// count, since nothing that C calls allocates, and a `Setter` is copied and compared.
 #[derive(Clone, Copy, Debug, PartialEq, Eq)]
 pub struct Setter {
     pub player: Player,
@@ -30,34 +32,47 @@ pub struct Setter {
     pub cells: [u8; 1024],
 }
 
-// Whether the bytes from `from` on are the tail of a file with n cells: neither too short nor too long, with zeros behind the last cell.
-#[tactic(auto, using(crate::proofs::TailLaws::tail_short, crate::proofs::TailLaws::tail_long))]
-fn is_tail(file: &[u8], from: usize, n: usize) -> bool
-    requires { (from ≤ 4096) × (n ≤ 1024) }
-    ensures { result ≡ tail_test (drop from file.now) n }
-{
-    let end = 8 * from + 3 + n;
-    end.div_ceil(8) <= file.len() && fields::is_filler(file, end)
+// What stands behind the record in a file: a grade and a solution, from the byte `from` on, for a puzzle of n cells.
+#[derive(Clone, Copy)]
+struct Tail<'a> {
+    file: &'a [u8],
+    from: usize,
+    n: usize,
+    ghost near: { from ≤ 4096 },
+    ghost few: { n ≤ 1024 },
 }
 
-// The grade of a tail.
-fn read_grade(file: &[u8], from: usize) -> u8
-    requires { from ≤ 4096 }
-    ensures { result ≡ grade_in (drop from file.now) }
-{
-    fields::number_at(file, 8 * from, 3) as u8
-}
-
-// The solution of a tail with n cells, and zeros behind it.
-fn read_solution(file: &[u8], from: usize, n: usize) -> [u8; 1024]
-    requires { (from ≤ 4096) × (n ≤ 1024) }
-    ensures { result ≡ array_of 0 (solution_in (drop from file.now) n) }
-{
-    let mut cells = [0; 1024];
-    for i in 0..n {
-        cells[i] = fields::number_at(file, 8 * from + 3 + i, 1) as u8;
+impl Tail<'_> {
+    // Whether it is neither too short nor too long, with zeros behind the last cell.
+    #[tactic(auto, using(crate::proofs::TailLaws::tail_short, crate::proofs::TailLaws::tail_long))]
+    fn is_whole(&self) -> bool
+        ensures { result ≡ tail_test (drop self.now.from self.now.file.now) self.now.n }
+    {
+        let end = 8 * self.from + 3 + self.n;
+        let bits = BitReader {
+            bytes: self.file,
+            at: end,
+        };
+        end.div_ceil(8) <= self.file.len() && bits.is_at_filler()
     }
-    cells
+
+    // Its grade.
+    fn grade(&self) -> u8
+        ensures { result ≡ grade_in (drop self.now.from self.now.file.now) }
+    {
+        fields::number_at(self.file, 8 * self.from, 3) as u8
+    }
+
+    // Its solution, and zeros behind it. By index: of places that are written through `iter_mut().enumerate()` a proof does not know what they hold.
+    fn solution(&self) -> [u8; 1024]
+        ensures { result ≡ array_of 0 (solution_in (drop self.now.from self.now.file.now) self.now.n) }
+    {
+        let mut cells = [0; 1024];
+        for i in 0..self.n {
+            cells[i] = fields::number_at(self.file, 8 * self.from + 3 + i, 1) as u8;
+        }
+        cells
+    }
 }
 
 // The player's reader for an output of `room` bytes: 1 to 5, 11, 20.
@@ -69,12 +84,17 @@ fn player_within(file: &[u8], room: usize) -> Result<Player, Refusal>
         return Err(Refusal::OutputShort);
     }
     let length = problem.record_length();
-    if !is_tail(file, length, problem.height * problem.width) {
+    let tail = Tail {
+        file,
+        from: length,
+        n: problem.size(),
+    };
+    if !tail.is_whole() {
         return Err(Refusal::Tail);
     }
     Ok(Player {
         length,
-        grade: read_grade(file, length),
+        grade: tail.grade(),
     })
 }
 
@@ -84,23 +104,28 @@ fn setter_within(file: &[u8], edition: u32, room: usize) -> Result<Setter, Refus
     ensures { outcome_of result ≡ setter_of (setter_within room edition file.now) }
 {
     let problem = Problem::read_head(file)?;
-    let n = problem.height * problem.width;
+    let n = problem.size();
     if room < 1 + n {
         return Err(Refusal::OutputShort);
     }
     let length = problem.record_length();
-    if !is_tail(file, length, n) {
+    let tail = Tail {
+        file,
+        from: length,
+        n,
+    };
+    if !tail.is_whole() {
         return Err(Refusal::Tail);
     }
     let edition = Edition::try_from(edition)?;
-    let cells = read_solution(file, length, n);
+    let cells = tail.solution();
     if !finished::is_finished(&calls::bare(&problem, edition), &cells) {
         return Err(Refusal::Unfinished);
     }
     Ok(Setter {
         player: Player {
             length,
-            grade: read_grade(file, length),
+            grade: tail.grade(),
         },
         count: n,
         cells,

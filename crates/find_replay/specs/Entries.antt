@@ -17,7 +17,7 @@ VerdictSo (Refused k) n = ⊥
 
 -- find of player 0 on a board gives so many literals, those of a list from a place on, and finished what the byte behind them says
 abbrev pub BoardSo : Board → List ℕ → ℕ → ℕ → Type 0
-BoardSo b list at count = FindsSo b 0 4096 0 count (number_in list at count 65535) × VerdictSo (finished_of b) (get_or list (at + 2 * count) 0)
+BoardSo b list at count = FindsSo b 0 4096 count (number_in list at count 65535) × VerdictSo (finished_of b) (get_or list (at + 2 * count) 0)
 
 -- a record opens a board in an edition, without sizes, the decisions are taken on it, and then the board is as the list says
 pub record EntrySo (s : List ℕ) (e : ℕ) (decisions list : List ℕ) (at count : ℕ) : Type 0 where

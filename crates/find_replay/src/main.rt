@@ -15,12 +15,13 @@ ghost use Rattle.replay.specs.Comparisons.{DiffersUnless};
 ghost use Rattle.find_replay.specs.Entries.{VerdictSo, BoardSo, EntrySo};
 
 use board::Board;
-use finds::{Find, Literals, Way};
+use finds::{Find, Said, Way};
 use refusal::Refusal;
 use replay::{Cursor, Entries, Run};
 use std::io;
 
-// Whether an answer of `finished` is not the one for this number: 1 for a finished board, 0 for another.
+// Whether an answer of `finished` is not the one for this number: 1 for a finished board, 0 for another. By hand: `replay::answer_differs` would need the answer
+// mapped to a number, and says nothing of a map.
 #[tactic(auto, using(crate::proofs::EntryLaws::answer_told, crate::proofs::EntryLaws::refused_told))]
 fn verdict_differs(answer: Result<bool, Refusal>, number: usize) -> bool
     ensures { (v : Verdict) → outcome_of answer ≡ judged_as v → DiffersUnless result (VerdictSo v number) }
@@ -32,7 +33,7 @@ fn verdict_differs(answer: Result<bool, Refusal>, number: usize) -> bool
 }
 
 // Whether find on the board differs from these literals, or finished from the byte behind them. Player 0 finds, and the whole buffer is lent.
-fn board_differs(board: Board, rounds: usize, literals: Literals<'_>) -> bool
+fn board_differs(board: Board, rounds: usize, literals: Said<'_>) -> bool
     requires { literals.from.at + 2 * literals.count < length literals.from.list.now }
     ensures { DiffersUnless result (BoardSo board literals.entry.from.list.now literals.entry.from.at literals.entry.count) }
 {
@@ -41,7 +42,7 @@ fn board_differs(board: Board, rounds: usize, literals: Literals<'_>) -> bool
         size: 4096,
     };
     let verdict = literals.from.byte_at(2 * literals.count);
-    finds::find_differs(board, find, Way::Value(rounds), 0, literals).differs
+    finds::find_differs(board, find, Way::Value(rounds), Ok(literals)).differs
         || verdict_differs(finished::finished(board), verdict)
 }
 
@@ -52,7 +53,7 @@ fn entry_differs(
     edition: u8,
     decisions: &[u8],
     rounds: usize,
-    literals: Literals<'_>,
+    literals: Said<'_>,
 ) -> bool
     requires { literals.from.at + 2 * literals.count < length literals.from.list.now }
     ensures { DiffersUnless result (EntrySo «record».now edition decisions.now literals.entry.from.list.now literals.entry.from.at literals.entry.count) }
@@ -89,7 +90,7 @@ impl Entries for Boards {
         let decisions = cursor.number()?;
         let decisions = cursor.take(2 * decisions)?;
         let count = cursor.number()?;
-        let literals = Literals {
+        let literals = Said {
             from: cursor,
             count,
         };
@@ -99,6 +100,7 @@ impl Entries for Boards {
     }
 }
 
+// One line in each program that replays a list: `replay::replay` does the rest, and the entries and their words are the program's own.
 fn main(rt: HostRuntime) -> io::Result<()> {
-    replay::replay::<Boards, _, _>(rt.reader(), &mut io::writer(&rt), " boards, ", "")
+    replay::replay::<Boards, _, _>(rt.reader(), &mut io::writer(&rt), " boards, ", None)
 }

@@ -2,32 +2,18 @@
 // may be written, nor anything by a refused one.
 #![tactic(auto)]
 
-ghost use Rattle.std.specs.Prelude.{◌≡◌, ◌≤◌, length};
+ghost use Rattle.std.specs.Prelude.{◌≡◌, ◌≤◌, false, length, MatchResult};
 ghost use Rattle.board.specs.Hints.{after_find};
-ghost use Rattle.refusal.specs.Refusals.{outcome_of};
-ghost use Rattle.literals.specs.Buffer.{Finding};
+ghost use Rattle.refusal.specs.Refusals.{outcome_of, ok, refused};
 ghost use Rattle.reasons.specs.Find.{find_of, found_as, buffer_after};
 ghost use Rattle.replay.specs.Comparisons.{DiffersUnless};
-ghost use Rattle.replay.specs.Lists.{number_in};
-ghost use Rattle.finds.specs.Finds.{finding_of, FindsSo};
+ghost use Rattle.replay.specs.Lists.{number_in, differs};
+ghost use Rattle.finds.specs.Finds.{fresh, reason_of, FindsSo, RefusesSo};
 
 use board::Board;
 use reasons::Asked;
 use refusal::Refusal;
 use replay::Cursor;
-
-// Whether an answer is not this refusal, or, where that is 0, not the one for this many literals, 0 for no reason.
-fn finding_differs(found: Result<Option<usize>, Refusal>, refusal: usize, count: usize) -> bool
-    ensures { (f : Finding) → outcome_of found ≡ found_as f → DiffersUnless result (f ≡ finding_of refusal count) }
-{
-    match found {
-        Ok(literals) => match literals {
-            None => refusal != 0 || count != 0,
-            Some(n) => refusal != 0 || n == 0 || n != count,
-        },
-        Err(refused) => refusal == 0 || usize::from(refused.number()) != refusal,
-    }
-}
 
 // Finds this many times and at least once, each time on the same board and in the same buffer; the last answer, which is that of the first,
 // with the board that the first left.
@@ -60,8 +46,9 @@ fn find_lent(board: Board, player: u8, buffer: &mut [u16]) -> Asked
     }
 }
 
-// How a find is made: on the board by value, this many times and at least once, or once on a lent board.
-#[derive(Clone, Copy)]
+// How a find is made: on the board by value, this many times and at least once, or once on a lent board. An enum, and no closure in its place: `find_differs`
+// promises what `find` answers, and would have to ask that of each closure that it is handed.
+#[derive(Clone, Copy, Debug, PartialEq, Eq)]
 pub enum Way {
     Value(usize),
     Lent,
@@ -88,37 +75,50 @@ pub struct Find {
 
 // The literals that a list says of a find: so many, from a place on, none for no reason.
 #[derive(Clone, Copy)]
-pub struct Literals<'a> {
+pub struct Said<'a> {
     pub from: Cursor<'a>,
     pub count: usize,
 }
 
-// A find that was made: whether it differs from what a list says of it, and the board that it left.
+// Whether a find with this answer, in a buffer that was fresh, is another than a list says: its literals, or the number of its refusal.
+fn finding_differs(
+    finding: Result<Option<usize>, Refusal>,
+    buffer: &[u16; 4096],
+    said: Result<Said<'_>, u8>,
+) -> bool
+    ensures { MatchResult said.entry
+        (λ literals. DiffersUnless result ((outcome_of finding ≡ ok (reason_of literals.count)) × (differs buffer.now (number_in literals.from.list.now literals.from.at literals.count 65535) 0 ≡ false)))
+        (λ refusal. DiffersUnless result ((outcome_of finding ≡ refused refusal) × (buffer.now ≡ fresh))) }
+{
+    match said {
+        Ok(Said { from, count }) => {
+            let reason = if count == 0 { None } else { Some(count) };
+            replay::answer_differs(finding, Ok(reason)) || from.literals_differ(count, buffer)
+        }
+        Err(refusal) => {
+            replay::answer_differs(finding, Err(refusal)) || *buffer != [replay::NO_LITERAL; 4096]
+        }
+    }
+}
+
+// A find that was made: whether it differs from what a list says of it, and the board that it left, of which more is asked whatever the first says.
 #[derive(Clone, Copy)]
 pub struct Made {
     pub differs: bool,
     pub board: Board,
 }
 
-// Makes the find on the board in this way: whether it differs from this refusal, or, where that is 0, from these literals, and the board that it leaves.
-pub fn find_differs(
-    board: Board,
-    find: Find,
-    way: Way,
-    refusal: usize,
-    literals: Literals<'_>,
-) -> Made
+// Makes the find on the board in this way: whether it differs from these literals, or from the refusal of this number, and the board that it leaves.
+pub fn find_differs(board: Board, find: Find, way: Way, said: Result<Said<'_>, u8>) -> Made
     ensures left { result.board ≡ after_find board find.player find.size }
-    ensures told { DiffersUnless result.differs (FindsSo board find.player find.size refusal literals.entry.count
-        (number_in literals.entry.from.list.now literals.entry.from.at literals.entry.count 65535)) }
+    ensures told { MatchResult said.entry
+        (λ literals. DiffersUnless result.differs (FindsSo board find.player find.size literals.count (number_in literals.from.list.now literals.from.at literals.count 65535)))
+        (λ refusal. DiffersUnless result.differs (RefusesSo board find.player find.size refusal)) }
 {
     let mut buffer = [replay::NO_LITERAL; 4096];
     let asked = make(way, board, find.player, &mut buffer[..find.size]);
-    let Literals { from, count } = literals;
-    let differs = finding_differs(asked.finding, refusal, count)
-        || from.literals_differ(count, &buffer);
     Made {
-        differs,
+        differs: finding_differs(asked.finding, &buffer, said),
         board: asked.board,
     }
 }

@@ -11,10 +11,11 @@ use mathlib.Core.List.{List, [], ◌∷◌, Memᴰ}
 use lib.Dec.{eqb, ltb}
 use lib.ListN.{length, get_or}
 use borrow.Author.Tests.{eqb-true, eq-eqb, ne_eqb, leb-true, le-leb, ltb-true, lt-ltb}
+use Rattle.std.proofs.lemmas.Bool.{and_from}
 use Rattle.grid.specs.Lists.{upto, all, filter, Distinct}
 use Rattle.grid.specs.Grid.{size}
 use Rattle.grid.specs.Cells.{square}
-use Rattle.grid.proofs.ListLaws.{and-true, true-and, all-mem, mem-all, upto-mem, mem-upto, filter-mem, mem-filter, Distinct-filter}
+use Rattle.grid.proofs.ListLaws.{and-true, all-mem, mem-all, upto-mem, mem-upto, filter-mem, mem-filter, Distinct-filter}
 use Rattle.record.specs.Leaf.{Leaf}
 use Rattle.record.specs.Valid.{Valid}
 use Rattle.record.proofs.FreshLaws.{arrow_Distinct}
@@ -110,8 +111,8 @@ module _ (l : Leaf) (v : Valid l.puzzle) (cells : List ℕ) (long : length cells
   finished_test_lem : Finished l cells → finished_test l cells ≡ true
   unfolding finished_test all_but_rules keeps_all at
   finished_test_lem f =
-      true-and
-      (true-and (mem-all at (upto (size l.puzzle.grid)) each) (mem-all (two_squares cells) l.puzzle.arrows (λ a m. two_test cells a (f.two a m))))
+      and_from _ _
+      (and_from _ _ (mem-all at (upto (size l.puzzle.grid)) each) (mem-all (two_squares cells) l.puzzle.arrows (λ a m. two_test cells a (f.two a m))))
       (rules_test_lem l.puzzle cells long l.edition l.sizes f.rules)
     where
       each : (i : ℕ) → Memᴰ i (upto (size l.puzzle.grid)) → So (keeps (get_or l.puzzle.given i 0) (get_or cells i 0))

@@ -77,7 +77,7 @@ module _ (q : Problem) (f : Formed q) where
 
     -- and the squares of its arrows
     two_same : (l : List (List ℕ)) → ((a : List ℕ) → Memᴰ a l → (i : ℕ) → Memᴰ i a → i < q.height * q.width) → all (two_squares states) l ≡ all (two_squares cells) l
-    unfolding all two_squares
+    unfolding two_squares
     two_same [] h = refl
     two_same (a ∷ l) h =
         let e : filter (square states) a ≡ filter (square cells) a =

@@ -1,3 +1,4 @@
 pub mod Counting
 pub mod Finished
 pub mod Verdicts
+pub mod Lent

@@ -1,12 +1,12 @@
 // Whether a board is finished.
 #![tactic(auto)]
 
-ghost use Rattle.std.specs.Prelude.{◌≡◌, true, Bool, ◌&&◌, ℕ, ◌*◌, ◌≤◌, ◌<◌, length, get_or};
+ghost use Rattle.std.specs.Prelude.{◌≡◌, true, Bool, ℕ, ◌≤◌, ◌<◌, length, get_or};
 ghost use Rattle.grid.specs.Lists.{all, filter};
 ghost use Rattle.form.specs.Form.{problem_formed};
-ghost use Rattle.groups.specs.Arrays.{lines_of, Drawn};
-ghost use Rattle.finished.specs.Finished.{keeps, keeps_all, two_squares, finished_test};
+ghost use Rattle.finished.specs.Finished.{keeps, finished_test};
 ghost use Rattle.finished.specs.Counting.{Tells, two_of};
+ghost use Rattle.finished.specs.Lent.{cells_in, arrows_in, IsDrawn, all_kept, passes};
 ghost use Rattle.finished.specs.Verdicts.{finished_of, judged_as};
 ghost use Rattle.sizes.specs.LeafOf.{leaf_of};
 ghost use Rattle.reasons.specs.Lent.{leaf_cells};
@@ -30,18 +30,18 @@ fn keeps_given(code: u8, state: u8) -> bool
     }
 }
 
-// Whether each cell of a problem is decided so. A pass with no way out is quicker than one that leaves at the first cell that does not.
+// Whether each cell of a problem is decided so. By `fold` and `&`, without a way out, as `form::filled`: nearly every board that is asked
+// for is full, and then each cell is looked at.
 fn all_keep_given(problem: &Problem, cells: &[u8; 1024]) -> bool
-    requires small { problem.now.height * problem.now.width ≤ 1024 }
-    ensures { result ≡ keeps_all (problem.now.height * problem.now.width) problem.now.cells cells.now }
+    requires small { cells_in problem.now ≤ 1024 }
+    ensures { result ≡ all_kept problem.now cells.now }
 {
-    let mut good = true;
-    for i in 0..problem.height * problem.width {
-        if !keeps_given(problem.cells[i], cells[i]) {
-            good = false;
-        }
-    }
-    good
+    // The product by hand: `Problem::size` asks that both sides are at most 32, and here only their product is known to be small.
+    let codes = &problem.cells[..problem.height * problem.width];
+    codes.iter().zip(cells).fold(
+        true,
+        |good, (&code, &state)| good & keeps_given(code, state),
+    )
 }
 
 // How many cells of an arrow count. No `filter`: a closure is known to tell a test of the cells below 1,024 alone, and what is known of a filter is by a test
@@ -62,35 +62,27 @@ fn count_on<F: Fn(usize) -> bool>(arrow: &[u16], counts: &F) -> usize
 
 // Whether two cells or more of each arrow count.
 pub fn two_on_each<F: Fn(usize) -> bool>(problem: &Problem, counts: F) -> bool
-    requires drawn { (n : ℕ) × Drawn n problem.now.arrows problem.now.ends problem.now.count }
+    requires drawn { (n : ℕ) × IsDrawn problem.now n }
     requires callable { (i : ℕ) → i < 1024 → F.pre counts i }
-    ensures { (test : ℕ → Bool) → Tells (F.post counts) test
-        → result ≡ all (two_of test) (lines_of problem.now.arrows problem.now.ends problem.now.count) }
+    ensures { (test : ℕ → Bool) → Tells (F.post counts) test → result ≡ all (two_of test) (arrows_in problem.now) }
 {
-    let mut good = true;
-    let mut from = 0;
-    let ends = &problem.ends[..problem.count];
-    for &end in ends {
-        let to = usize::from(end);
-        if count_on(&problem.arrows[from..to], &counts) < 2 {
-            good = false;
+    // No `all`: its closure would be one more that calls `counts`, of which it would have to say again what is known.
+    for k in 0..problem.count {
+        if count_on(problem.arrow(k), &counts) < 2 {
+            return false;
         }
-        from = to;
     }
-    good
+    true
 }
 
 // All that is asked of a finished board but the block rules, on a problem and the states of its cells: every cell is decided, black cells are empty, given
 // squares are square, and two squares or more stand on each arrow.
 pub fn all_but_rules(problem: &Problem, cells: &[u8; 1024]) -> bool
-    requires small { problem.now.height * problem.now.width ≤ 1024 }
-    requires drawn { Drawn (problem.now.height * problem.now.width) problem.now.arrows problem.now.ends problem.now.count }
-    ensures { result ≡ (keeps_all (problem.now.height * problem.now.width) problem.now.cells cells.now
-        && all (two_squares cells.now) (lines_of problem.now.arrows problem.now.ends problem.now.count)) }
+    requires small { cells_in problem.now ≤ 1024 }
+    requires drawn { IsDrawn problem.now (cells_in problem.now) }
+    ensures { result ≡ passes problem.now cells.now }
 {
-    let kept = all_keep_given(problem, cells);
-    let two = two_on_each(problem, |i| cells[i] == SQUARE);
-    kept & two
+    all_keep_given(problem, cells) && two_on_each(problem, |i| cells[i] == SQUARE)
 }
 
 // Whether a board is finished, on the leaf that is lent, whose problem is known to be accepted, and the states of its cells. On a board whose cells are all
@@ -102,9 +94,8 @@ pub fn is_finished(leaf: &LentLeaf<'_>, cells: &[u8; 1024]) -> bool
     if !all_but_rules(leaf.problem, cells) {
         return false;
     }
-    let mut buffer = [0; Board::LITERALS];
-    let found = reasons::inconsistency::find_inconsistency(leaf, cells, &mut buffer);
-    found.is_none()
+    let mut buffer = reasons::no_literals();
+    reasons::inconsistency::find_inconsistency(leaf, cells, &mut buffer).is_none()
 }
 
 // Whether the board is finished. Refused: 6 a board that no list of calls could leave. The board is unchanged.

@@ -10,15 +10,15 @@ use lib.Dec.{eqb, ltb}
 use lib.ListN.{length, take, drop, replicate, length-drop, take-append-drop}
 use lib.Seq.{length-take-le}
 use borrow.Author.Tests.{eqb-true, eq-eqb, ltb-true, lt-ltb}
+use Rattle.std.proofs.lemmas.Bool.{and_from}
 use Rattle.grid.specs.Lists.{all, member, array_of}
-use Rattle.grid.proofs.ListLaws.{and-true, true-and, member-mem, mem-member, So-not, not-So}
+use Rattle.grid.proofs.ListLaws.{and-true, member-mem, mem-member, So-not, not-So}
 use Rattle.grid.proofs.ArrayLaws.{array_behind}
 use Rattle.record.specs.Valid.{Fresh, nil, cons}
 use Rattle.form.specs.Form.{behind, fresh}
 
 -- d at every place
 all_same : (d : ℕ) (l : List ℕ) → all (eqb d) l ≡ true → l ≡ replicate (length l) d
-unfolding all
 all_same d [] h = refl
 all_same d (x ∷ l) h =
     let a = and-true (eqb d x) (all (eqb d) l) h in
@@ -26,9 +26,8 @@ all_same d (x ∷ l) h =
     rw e (ap (λ (r : List ℕ). d ∷ r) (all_same d l a.1))
 
 same_all : (d k : ℕ) → all (eqb d) (replicate k d) ≡ true
-unfolding all
 same_all d zero = refl
-same_all d (suc k) = true-and (eq-eqb d d refl) (same_all d k)
+same_all d (suc k) = and_from _ _ (eq-eqb d d refl) (same_all d k)
 
 -- an array with d behind its first n places keeps these
 pub behind_kept : (d n : ℕ) (l : List ℕ) → length l ≡ 1024 → n ≤ 1024 → behind d n l ≡ true → array_of d (take n l) ≡ l
@@ -60,6 +59,6 @@ pub is_Fresh : (n : ℕ) {used l : List ℕ} → Fresh used l → ((x : ℕ) →
 unfolding fresh
 is_Fresh n nil f = refl
 is_Fresh n {used} (cons {j} {js} h r) f =
-    true-and
-    (true-and (lt-ltb j n (f j (Memᴰ.head refl))) (So-not (member j used) (λ s. h (member-mem j used s))))
+    and_from _ _
+    (and_from _ _ (lt-ltb j n (f j (Memᴰ.head refl))) (So-not (member j used) (λ s. h (member-mem j used s))))
     (is_Fresh n r (λ x m. f x (Memᴰ.tail m)))

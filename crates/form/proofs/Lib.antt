@@ -4,3 +4,4 @@ pub mod Passes
 pub mod Marking
 pub mod Steps
 pub mod Verdicts
+pub mod AcceptedLaws

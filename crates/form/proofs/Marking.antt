@@ -27,7 +27,7 @@ pub record Marking (n : ℕ) (l : List ℕ) (k : ℕ) (marks : List ℕ) : Type 
   pub same : (i : ℕ) → member i used ≡ member i (take k l)
 
 pub none_marked : (n : ℕ) (l : List ℕ) {marks : List ℕ} → Blank marks → Marking n l 0 marks
-unfolding member any
+unfolding member
 none_marked n l b = record { used = []; marked = record { long = b.long; at = λ i h. b.each i }; left = refl; same = λ i. refl }
 
 module _ {n k : ℕ} {l marks : List ℕ} (m : Marking n l k marks) (h : k < length l) where
@@ -54,7 +54,7 @@ module _ {n k : ℕ} {l marks : List ℕ} (m : Marking n l k marks) (h : k < len
     }
       where
         both : (i : ℕ) → member i (get_or l k 0 ∷ m.used) ≡ (member i (take k l) || eqb i (get_or l k 0))
-        both i = unfold member any in ap (λ (b : Bool). eqb i (get_or l k 0) || b) (m.same i) ∙ or_comm (eqb i (get_or l k 0)) (member i (take k l))
+        both i = unfold member in ap (λ (b : Bool). eqb i (get_or l k 0) || b) (m.same i) ∙ or_comm (eqb i (get_or l k 0)) (member i (take k l))
 
 -- all are marked
 module _ {n k : ℕ} {l marks : List ℕ} (m : Marking n l k marks) (h : length l ≤ k) where

@@ -11,9 +11,10 @@ use lib.Dec.{leb, ltb}
 use lib.ListN.{length, take, drop, replicate, length-append, length-drop}
 use lib.Seq.{length-take-le, drop-drop, take-add}
 use borrow.Author.Tests.{eqb-true, eq-eqb, ltb-true, lt-ltb, leb-true, le-leb}
+use Rattle.std.proofs.lemmas.Bool.{and_from}
 use Rattle.grid.specs.Lists.{all, member, last, flat_map, array_of}
 use Rattle.grid.specs.Grid.{Grid, size, neighbours}
-use Rattle.grid.proofs.ListLaws.{and-true, true-and, member-mem, mem-member, all-mem, mem-all, flat_map-mem}
+use Rattle.grid.proofs.ListLaws.{and-true, member-mem, mem-member, all-mem, mem-all, flat_map-mem}
 use Rattle.grid.proofs.ArrayLaws.{array_length, array_take}
 use Rattle.grid.proofs.GridLaws.{size_most}
 use Rattle.record.specs.Record.{Puzzle}
@@ -38,7 +39,7 @@ walks_is g i (j ∷ js) h =
 is_walks : (g : Grid) {i : ℕ} {js : List ℕ} → Walk g i js → walks g i js ≡ true
 unfolding walks
 is_walks g end = refl
-is_walks g {i} (on {j} m w) = true-and (mem-member j (neighbours g i) m) (is_walks g w)
+is_walks g {i} (on {j} m w) = and_from _ _ (mem-member j (neighbours g i) m) (is_walks g w)
 
 -- ---- arrows in a row
 
@@ -65,7 +66,7 @@ Fresh-right {u} (j ∷ a) b (Fresh.cons h r) = fewer turn (Fresh-right a b r)
 -- arrows that pass the tests
 Arrows-is : (g : Grid) (u : List ℕ) (l : List (List ℕ)) → all nonempty l ≡ true → all (is_path g) l ≡ true
     → Fresh u (arrow_cells l) → ((x : ℕ) → Memᴰ x (arrow_cells l) → x < size g) → Arrows g u l
-unfolding all arrow_cells flat_map is_path nonempty
+unfolding arrow_cells is_path nonempty
 Arrows-is g u [] n h f b = Arrows.nil
 Arrows-is g u ([] ∷ l) n h f b = absurd (omega (arith, ltb-true 0 0 (and-true (ltb 0 0) (all nonempty l) n).0))
 Arrows-is g u ((i ∷ js) ∷ l) n h f b =
@@ -77,12 +78,12 @@ Arrows-is g u ((i ∷ js) ∷ l) n h f b =
     (Arrows-is g ((i ∷ js) ++ u) l m.1 k.1 (Fresh-right (i ∷ js) (arrow_cells l) f) (λ x q. b x (Memᴰ.append_right (i ∷ js) q)))
 
 is_path_lem : {g : Grid} {u : List ℕ} {l : List (List ℕ)} → Arrows g u l → all (is_path g) l ≡ true
-unfolding all is_path
+unfolding is_path
 is_path_lem Arrows.nil = refl
-is_path_lem {g} (Arrows.cons (arrow h w) f r) = true-and (is_walks g w) (is_path_lem r)
+is_path_lem {g} (Arrows.cons (arrow h w) f r) = and_from _ _ (is_walks g w) (is_path_lem r)
 
 is_Fresh_line : {g : Grid} {u : List ℕ} {l : List (List ℕ)} → Arrows g u l → Fresh u (arrow_cells l)
-unfolding arrow_cells flat_map
+unfolding arrow_cells
 is_Fresh_line Arrows.nil = Fresh.nil
 is_Fresh_line (Arrows.cons a f r) = Fresh-append f (is_Fresh_line r)
 
@@ -113,7 +114,7 @@ module _ (line : List ℕ) where
 
   -- the arrows, one after another, are the first places
   line_again : (at : ℕ) (es : List ℕ) → rises at es ≡ true → last at es ≤ length line → arrow_cells (arrows_from line at es) ≡ take (last at es - at) (drop at line)
-  unfolding arrows_from rises last arrow_cells flat_map
+  unfolding arrows_from rises last arrow_cells
   line_again at [] h k = let z : at - at ≡ 0 = omega arith in rw z refl
   line_again at (e ∷ es) h k =
       let a = and-true (ltb at e) (rises e es) h in
@@ -125,13 +126,13 @@ module _ (line : List ℕ) where
 
   -- no arrow is empty
   cut_nonempty : (at : ℕ) (es : List ℕ) → rises at es ≡ true → last at es ≤ length line → all nonempty (arrows_from line at es) ≡ true
-  unfolding arrows_from rises last all nonempty
+  unfolding arrows_from rises last nonempty
   cut_nonempty at [] h k = refl
   cut_nonempty at (e ∷ es) h k =
       let a = and-true (ltb at e) (rises e es) h in
       let lt : at < e = ltb-true at e a.0 in
       let c = cut at e lt (omega (arith, rises-last e es a.1)) in
-      true-and (lt-ltb 0 (length (take (e - at) (drop at line))) (omega arith)) (cut_nonempty e es a.1 k)
+      and_from _ _ (lt-ltb 0 (length (take (e - at) (drop at line))) (omega arith)) (cut_nonempty e es a.1 k)
 
   -- as many as ends
   cut_length : (at : ℕ) (es : List ℕ) → length (arrows_from line at es) ≡ length es
@@ -143,16 +144,16 @@ module _ (line : List ℕ) where
 ends_rise : {g : Grid} {u : List ℕ} (at : ℕ) {l : List (List ℕ)} → Arrows g u l → rises at (ends_from at l) ≡ true
 unfolding rises ends_from
 ends_rise at Arrows.nil = refl
-ends_rise at (Arrows.cons {a} (arrow h w) f r) = true-and (lt-ltb at (at + length a) (omega arith)) (ends_rise (at + length a) r)
+ends_rise at (Arrows.cons {a} (arrow h w) f r) = and_from _ _ (lt-ltb at (at + length a) (omega arith)) (ends_rise (at + length a) r)
 
 ends_last : (at : ℕ) (l : List (List ℕ)) → last at (ends_from at l) ≡ at + length (arrow_cells l)
-unfolding last ends_from arrow_cells flat_map
+unfolding last ends_from arrow_cells
 ends_last at [] = omega arith
 ends_last at (a ∷ l) = rw length-append (omega (arith, ends_last (at + length a) l))
 
 -- no more arrows than arrow cells
 few_Arrows : {g : Grid} {u : List ℕ} {l : List (List ℕ)} → Arrows g u l → length l ≤ length (arrow_cells l)
-unfolding arrow_cells flat_map
+unfolding arrow_cells
 few_Arrows Arrows.nil = omega arith
 few_Arrows (Arrows.cons (arrow h w) f r) = rw length-append (omega (arith, few_Arrows r))
 
@@ -174,9 +175,9 @@ Sized-is g h =
 pub is_Sized : (g : Grid) → Sized g → good_size g ≡ true
 unfolding good_size
 is_Sized g s =
-    true-and
-    (true-and (le-leb 1 g.height s.low.0) (le-leb g.height 32 s.high.0))
-    (true-and (le-leb 1 g.width s.low.1) (le-leb g.width 32 s.high.1))
+    and_from _ _
+    (and_from _ _ (le-leb 1 g.height s.low.0) (le-leb g.height 32 s.high.0))
+    (and_from _ _ (le-leb 1 g.width s.low.1) (le-leb g.width 32 s.high.1))
 
 -- ---- the test of a problem
 
@@ -212,9 +213,9 @@ Formed-is q h =
 pub is_Formed : (q : Problem) → Formed q → problem_formed q ≡ true
 unfolding problem_formed long
 is_Formed q f =
-    true-and
-    (true-and (is_Sized (grid_of q) f.sizes) (true-and (eq-eqb (length q.cells) 1024 f.cells_long) (true-and (eq-eqb (length q.arrows) 1024 f.arrows_long) (eq-eqb (length q.ends) 1024 f.ends_long))))
-    (true-and f.codes (true-and f.ends f.arrows))
+    and_from _ _
+    (and_from _ _ (is_Sized (grid_of q) f.sizes) (and_from _ _ (eq-eqb (length q.cells) 1024 f.cells_long) (and_from _ _ (eq-eqb (length q.arrows) 1024 f.arrows_long) (eq-eqb (length q.ends) 1024 f.ends_long))))
+    (and_from _ _ f.codes (and_from _ _ f.ends f.arrows))
 
 -- what the arrays of a problem keep
 module _ (q : Problem) (f : Formed q) where
@@ -314,13 +315,13 @@ module _ (p : Puzzle) (v : Valid p) where
   unfolding coded
   codes_pass =
       rw cells_taken
-      (true-and (mem-all (λ c. ltb c 3) p.given (λ c m. lt-ltb c 3 (v.codes c m))) (kept_behind 0 (size p.grid) p.given v.total))
+      (and_from _ _ (mem-all (λ c. ltb c 3) p.given (λ c m. lt-ltb c 3 (v.codes c m))) (kept_behind 0 (size p.grid) p.given v.total))
 
   ends_pass : ended (length p.arrows) (array_of 0 (ends_from 0 p.arrows)) ≡ true
   unfolding ended
   ends_pass =
-      true-and
-      (true-and (le-leb (length p.arrows) 1024 (omega (arith, few_ends, length_ends 0 p.arrows))) (rw ends_taken (ends_rise 0 v.arrows)))
+      and_from _ _
+      (and_from _ _ (le-leb (length p.arrows) 1024 (omega (arith, few_ends, length_ends 0 p.arrows))) (rw ends_taken (ends_rise 0 v.arrows)))
       (kept_behind 0 (length p.arrows) (ends_from 0 p.arrows) (length_ends 0 p.arrows))
 
   pub line_below : (x : ℕ) → Memᴰ x (arrow_cells p.arrows) → x < size p.grid
@@ -335,9 +336,9 @@ module _ (p : Puzzle) (v : Valid p) where
   unfolding drawn
   arrows_pass =
       rw (ends_taken, last_end, arrows_kept, array_take 0 (arrow_cells p.arrows))
-      (true-and
-      (true-and
-      (true-and (le-leb (length (arrow_cells p.arrows)) 1024 few_cells) (is_Fresh (size p.grid) (is_Fresh_line v.arrows) line_below))
+      (and_from _ _
+      (and_from _ _
+      (and_from _ _ (le-leb (length (arrow_cells p.arrows)) 1024 few_cells) (is_Fresh (size p.grid) (is_Fresh_line v.arrows) line_below))
       (kept_behind 0 (length (arrow_cells p.arrows)) (arrow_cells p.arrows) refl))
       (is_path_lem v.arrows))
 

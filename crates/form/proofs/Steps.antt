@@ -81,19 +81,18 @@ unfolding is_path walks
 walk_start g [] = refl
 walk_start g (i ∷ js) = refl
 
-module _ (g : Grid) (arrow : List ℕ) {total : Bool} (good : Bool) (i k : ℕ) where
-  pub walk_on : k < length arrow → total ≡ (good && walks g i (drop k arrow)) → true ≡ member (get_or arrow k 0) (neighbours g i)
-      → total ≡ (good && walks g (get_or arrow k 0) (drop (k + 1) arrow))
+module _ (g : Grid) (arrow : List ℕ) {total : Bool} (i k : ℕ) where
+  pub walk_on : k < length arrow → total ≡ walks g i (drop k arrow) → true ≡ member (get_or arrow k 0) (neighbours g i) → total ≡ walks g (get_or arrow k 0) (drop (k + 1) arrow)
   unfolding walks
   walk_on h e q = e ∙ rw (add-one k, drop-cons arrow k 0 h, ← q) refl
 
-  pub walk_fail : k < length arrow → total ≡ (good && walks g i (drop k arrow)) → false ≡ member (get_or arrow k 0) (neighbours g i) → total ≡ false
+  pub walk_fail : k < length arrow → total ≡ walks g i (drop k arrow) → false ≡ member (get_or arrow k 0) (neighbours g i) → false ≡ total
   unfolding walks
-  walk_fail h e q = e ∙ rw (drop-cons arrow k 0 h, ← q, and-false good) refl
+  walk_fail h e q = sym (e ∙ rw (drop-cons arrow k 0 h, ← q) refl)
 
-  pub walk_end : length arrow ≤ k → total ≡ (good && walks g i (drop k arrow)) → good ≡ total
+  pub walk_end : length arrow ≤ k → total ≡ walks g i (drop k arrow) → true ≡ total
   unfolding walks
-  walk_end h e = rw (e, drop_of_length-le arrow {i = k} h, and-true good) refl
+  walk_end h e = sym (e ∙ rw (drop_of_length-le arrow {i = k} h) refl)
 
 -- ---- all arrows
 
@@ -101,15 +100,15 @@ module _ (g : Grid) (arrow : List ℕ) {total : Bool} (good : Bool) (i k : ℕ) 
 module _ (test : List ℕ → Bool) (line l : List ℕ) {total : Bool} (good : Bool) (at k : ℕ) where
   pub arrows_on : k < length l → total ≡ (good && all test (arrows_from line at (drop k l))) → true ≡ test (take (get_or l k 0 - at) (drop at line))
       → total ≡ (good && all test (arrows_from line (get_or l k 0) (drop (k + 1) l)))
-  unfolding all arrows_from
+  unfolding arrows_from
   arrows_on h e q = e ∙ rw (add-one k, drop-cons l k 0 h, ← q) refl
 
   pub arrows_fail : k < length l → total ≡ (good && all test (arrows_from line at (drop k l))) → false ≡ test (take (get_or l k 0 - at) (drop at line)) → total ≡ false
-  unfolding all arrows_from
+  unfolding arrows_from
   arrows_fail h e q = e ∙ rw (drop-cons l k 0 h, ← q, and-false good) refl
 
   pub arrows_end : length l ≤ k → total ≡ (good && all test (arrows_from line at (drop k l))) → good ≡ total
-  unfolding all arrows_from
+  unfolding arrows_from
   arrows_end h e = rw (e, drop_of_length-le l {i = k} h, and-true good) refl
 
 -- the cells of a part of the line are on the grid

@@ -100,3 +100,8 @@ module _ (q : Problem) where
         let c' : true ≡ all (λ (x : ℕ). ltb x 3) (take (size (grid_of q)) q.cells) = rw area at c in
         let b' : true ≡ behind 0 (size (grid_of q)) q.cells = rw area at b in
         simp (s, eq-eqb (length q.cells) 1024 l, eq-eqb (length q.arrows) 1024 m, eq-eqb (length q.ends) 1024 n, le-leb q.count 1024 few, ← r, ← d', ← c', ← b', and-true)
+
+-- the ways out of the test of the arrows, and of that of a problem
+pub ruleset arrow_tests = (zeros_blank, drawn_far, drawn_twice, drawn_broken, drawn_is, cut_of)
+
+pub ruleset problem_tests = (problem_size, problem_count, problem_rise, problem_drawn, problem_codes, problem_behind, problem_is)

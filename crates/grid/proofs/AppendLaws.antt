@@ -1,17 +1,20 @@
 -- Laws of lists that grow at their end, and of tests and functions that agree on a list's members.
 -- Assumes nothing.
-use Prim.Native.Nat.{ℕ, zero, suc, ◌+◌, ◌<◌}
+use Prim.Native.Nat.{ℕ, zero, suc, ◌+◌, ◌-◌, ◌<◌}
 use native.Mathlib.Nat.{add-zero, zero-add}
 use native.Mathlib.Numerals.{add-one}
 use native.Mathlib.Decide.{ℕ_discrete}
 use native.Mathlib.Omega.{arith}
 use mathlib.Core.Path.{◌≡◌, refl, sym, ap, ◌∙◌}
 use mathlib.Core.Bool.{Bool, true, false, So, cond, ◌&&◌, ◌||◌, or-false, false≢true}
-use mathlib.Core.List.{List, [], ◌∷◌, ◌++◌, map, append_assoc, append-nil, Memᴰ}
+use mathlib.Core.List.{List, [], ◌∷◌, ◌++◌, map, append-nil, Memᴰ}
 use lib.Dec.{eqb}
 use lib.ListN.{length, get_or, take, length-append}
 use lib.Seq.{take-suc}
 use borrow.Author.Tests.{eqb-true, eq-eqb}
+pub use Rattle.std.proofs.lemmas.Grind.{flat_map-append}
+pub use Rattle.std.proofs.lemmas.List.Elements.{filter-append}
+pub use Rattle.std.proofs.lemmas.List.Folds.{list_any-append as any-append}
 use Rattle.grid.specs.Lists.{range, upto, filter, any, all, init, last, flat_map, member}
 use Rattle.grid.proofs.ListLaws.{So-false, length-range, get_or-range, upto-mem, filter-mem, mem-filter, mem-upto, member-mem, mem-member}
 
@@ -55,28 +58,9 @@ upto_at n i h = get_or-range 0 n i h ∙ omega arith
 -- ---- lists that are joined
 
 module _ {A : Type 0} where
-  pub any-append : (p : A → Bool) (l m : List A) → any p (l ++ m) ≡ (any p l || any p m)
-  unfolding any
-  any-append p [] m = refl
-  any-append p (x ∷ l) m = go (p x) (any-append p l m)
-    where
-      go : (b : Bool) → any p (l ++ m) ≡ (any p l || any p m) → (b || any p (l ++ m)) ≡ ((b || any p l) || any p m)
-      go true h = refl
-      go false h = h
-
   -- one more that does not pass either
   pub none_more : (p : A → Bool) (l : List A) (x : A) → any p l ≡ false → p x ≡ false → any p (l ++ (x ∷ [])) ≡ false
-  unfolding any
   none_more p l x h e = any-append p l (x ∷ []) ∙ rw (h, e) refl
-
-  pub filter-append : (p : A → Bool) (l m : List A) → filter p (l ++ m) ≡ filter p l ++ filter p m
-  unfolding filter
-  filter-append p [] m = refl
-  filter-append p (x ∷ l) m = go (p x) (filter-append p l m)
-    where
-      go : (b : Bool) → filter p (l ++ m) ≡ filter p l ++ filter p m → cond b (x ∷ filter p (l ++ m)) (filter p (l ++ m)) ≡ cond b (x ∷ filter p l) (filter p l) ++ filter p m
-      go true h = ap (λ t. x ∷ t) h
-      go false h = h
 
   pub init_more : (l : List A) (x : A) → init (l ++ (x ∷ [])) ≡ l
   unfolding init
@@ -84,30 +68,30 @@ module _ {A : Type 0} where
   init_more (y ∷ []) x = refl
   init_more (y ∷ z ∷ l) x = ap {B = List A} (λ m. y ∷ m) (init_more (z ∷ l) x)
 
-module _ {A B : Type 0} where
-  pub flat_map-append : (f : A → List B) (l m : List A) → flat_map f (l ++ m) ≡ flat_map f l ++ flat_map f m
-  unfolding flat_map
-  flat_map-append f [] m = refl
-  flat_map-append f (x ∷ l) m = rw (flat_map-append f l m) (sym (append_assoc (f x) (flat_map f l) (flat_map f m)))
-
 -- the test of membership
 pub member-append : (i : ℕ) (l m : List ℕ) → member i (l ++ m) ≡ (member i l || member i m)
 unfolding member
 member-append i l m = any-append (eqb i) l m
 
 pub member_more : (i : ℕ) (l : List ℕ) (x : ℕ) → member i (l ++ (x ∷ [])) ≡ (member i l || eqb i x)
-unfolding member any
+unfolding member
 member_more i l x = member-append i l (x ∷ []) ∙ ap (λ (b : Bool). member i l || b) (or-false (eqb i x))
 
 -- a filtered list, one member later
 pub filter_more : (p : ℕ → Bool) (l : List ℕ) (x : ℕ) → filter p (l ++ (x ∷ [])) ≡ filter p l ++ cond (p x) (x ∷ []) []
-unfolding filter
 filter_more p l x = filter-append p l (x ∷ [])
 
 pub last_more : (d : ℕ) (l : List ℕ) (x : ℕ) → last d (l ++ (x ∷ [])) ≡ x
 unfolding last
 last_more d [] x = refl
 last_more d (y ∷ ys) x = last_more y ys x
+
+-- the last member stands at the last place
+pub last_at : (l : List ℕ) → get_or l (length l - 1) 0 ≡ last 0 l
+unfolding last
+last_at [] = refl
+last_at (x ∷ []) = refl
+last_at (x ∷ y ∷ ys) = let e : length (x ∷ y ∷ ys) - 1 ≡ suc (length (y ∷ ys) - 1) = omega arith in rw e (last_at (y ∷ ys))
 
 -- the last of the first so many
 pub last_taken : (l : List ℕ) (k : ℕ) → k < length l → last 0 (take (suc k) l) ≡ get_or l k 0
@@ -119,21 +103,17 @@ last_none l = refl
 
 -- what is made of one more number
 pub flat_map_more : {B : Type 0} (F : ℕ → List B) (k : ℕ) → flat_map F (upto (k + 1)) ≡ flat_map F (upto k) ++ F k
-unfolding flat_map
 flat_map_more {B} F k = ap (flat_map F) (upto_more k) ∙ flat_map-append F (upto k) (k ∷ []) ∙ ap (λ (l : List B). flat_map F (upto k) ++ l) (append-nil (F k))
 
 -- one more cell is tested
 pub any_more : (p : ℕ → Bool) (k : ℕ) → any p (upto (k + 1)) ≡ (any p (upto k) || p k)
-unfolding any
 any_more p k = ap (any p) (upto_more k) ∙ any-append p (upto k) (k ∷ []) ∙ ap (λ (b : Bool). any p (upto k) || b) (or-false (p k))
 
 -- one more cell is counted
 pub count_hit : (p : ℕ → Bool) (k : ℕ) → p k ≡ true → length (filter p (upto (k + 1))) ≡ length (filter p (upto k)) + 1
-unfolding filter
 count_hit p k h = ap (λ (l : List ℕ). length (filter p l)) (upto_more k) ∙ ap length (filter-append p (upto k) (k ∷ [])) ∙ length-append (filter p (upto k)) (filter p (k ∷ [])) ∙ rw h refl
 
 pub count_miss : (p : ℕ → Bool) (k : ℕ) → p k ≡ false → length (filter p (upto (k + 1))) ≡ length (filter p (upto k))
-unfolding filter
 count_miss p k h = ap (λ (l : List ℕ). length (filter p l)) (upto_more k) ∙ ap length (filter-append p (upto k) (k ∷ [])) ∙ length-append (filter p (upto k)) (filter p (k ∷ [])) ∙ rw h (add-zero (length (filter p (upto k))))
 
 -- a number below n is in a filtered list exactly if it passes
@@ -146,7 +126,6 @@ member-filter p n i h =
 -- ---- two tests, one after the other
 
 pub filter-filter : (p q : ℕ → Bool) (l : List ℕ) → filter p (filter q l) ≡ filter (λ i. q i && p i) l
-unfolding filter
 filter-filter p q [] = refl
 filter-filter p q (x ∷ xs) = go (q x) (filter-filter p q xs)
   where
@@ -158,17 +137,14 @@ filter-filter p q (x ∷ xs) = go (q x) (filter-filter p q xs)
 
 module _ (p q : ℕ → Bool) where
   pub any_agree : (l : List ℕ) → ((x : ℕ) → Memᴰ x l → p x ≡ q x) → any p l ≡ any q l
-  unfolding any
   any_agree [] h = refl
   any_agree (x ∷ l) h = rw (h x (Memᴰ.head refl), any_agree l (λ y m. h y (Memᴰ.tail m))) refl
 
   pub all_agree : (l : List ℕ) → ((x : ℕ) → Memᴰ x l → p x ≡ q x) → all p l ≡ all q l
-  unfolding all
   all_agree [] h = refl
   all_agree (x ∷ l) h = rw (h x (Memᴰ.head refl), all_agree l (λ y m. h y (Memᴰ.tail m))) refl
 
   pub filter_agree : (l : List ℕ) → ((x : ℕ) → Memᴰ x l → p x ≡ q x) → filter p l ≡ filter q l
-  unfolding filter
   filter_agree [] h = refl
   filter_agree (x ∷ l) h = rw (h x (Memᴰ.head refl), filter_agree l (λ y m. h y (Memᴰ.tail m))) refl
 
@@ -186,7 +162,6 @@ module _ {A B : Type 0} where
       cc
 
   pub flat_map_agree : (f g : A → List B) (l : List A) → ((x : A) → Memᴰ x l → f x ≡ g x) → flat_map f l ≡ flat_map g l
-  unfolding flat_map
   flat_map_agree f g [] h = refl
   flat_map_agree f g (x ∷ l) h =
       let a = h x (Memᴰ.head refl) in

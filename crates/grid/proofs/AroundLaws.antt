@@ -1,8 +1,7 @@
 -- The neighbours of a cell, gathered direction by direction.
 -- Assumes nothing.
-use Prim.Native.Nat.{ℕ, zero, suc, ◌+◌, ◌*◌, ◌/◌, ◌%◌, ◌≤◌}
+use Prim.Native.Nat.{ℕ, zero, suc, ◌+◌, ◌≤◌}
 use native.Mathlib.Omega.{arith}
-use native.Mathlib.Nat.{div-add-mod'}
 use native.Mathlib.Numerals.{add-one}
 use mathlib.Core.Path.{◌≡◌, refl, sym, ◌∙◌, subst}
 use mathlib.Core.List.{List, [], ◌∷◌, ◌++◌, append_assoc, append-nil}
@@ -32,28 +31,24 @@ module _ (g : Grid) (i : ℕ) where
   unfolding gathered towards neighbours
   gathered_all = simp append_assoc
 
--- ---- for callers that look in the four directions in turn. r is what `toward` answers in direction k, with the row and the column of cell i
+-- ---- for callers that look in the four directions in turn. r is what `toward` answers for cell i in direction k
 
-module _ {h w i : ℕ} (G : InGrid h w i) (k : ℕ) (r : Option ℕ) (is : r ≡ beside_of (sized h w) (i / w * w + i % w) k) where
-  -- the answer is that for the cell
-  side_of : r ≡ beside_of (sized h w) i k
-  side_of = rw (div-add-mod' i w) at is
-
+module _ {h w i : ℕ} (G : InGrid h w i) (k : ℕ) (r : Option ℕ) (is : r ≡ beside_of (sized h w) i k) where
   -- a neighbour is beside the cell, and a cell of the grid
   pub side_Adjacent : (j : ℕ) → r ≡ Some j → Adjacent (sized h w) i j
   unfolding size
-  side_Adjacent j e = beside_Adjacent (sized h w) i k j G.within (sym e ∙ side_of)
+  side_Adjacent j e = beside_Adjacent (sized h w) i k j G.within (sym e ∙ is)
 
   pub side_cell : (j : ℕ) → r ≡ Some j → InGrid h w j
   unfolding size
-  side_cell j e = record { tall = G.tall; wide = G.wide; within = beside_in (sized h w) i k j G.within (sym e ∙ side_of) }
+  side_cell j e = record { tall = G.tall; wide = G.wide; within = beside_in (sized h w) i k j G.within (sym e ∙ is) }
 
   -- what holds of the neighbours up to it, or of those before a direction without one, holds of those in one direction more
   pub side_at : (P : List ℕ → Type 0) (j : ℕ) → r ≡ Some j → P (gathered (sized h w) i k ++ (j ∷ [])) → P (gathered (sized h w) i (k + 1))
-  side_at P j e p = subst P (sym (gathered_next (sized h w) i k j (sym e ∙ side_of))) p
+  side_at P j e p = subst P (sym (gathered_next (sized h w) i k j (sym e ∙ is))) p
 
   pub side_off : (P : List ℕ → Type 0) → r ≡ None → P (gathered (sized h w) i k) → P (gathered (sized h w) i (k + 1))
-  side_off P e p = subst P (sym (gathered_same (sized h w) i k (sym e ∙ side_of))) p
+  side_off P e p = subst P (sym (gathered_same (sized h w) i k (sym e ∙ is))) p
 
 -- before the first direction there are none, and after the fourth they are all
 pub sides_none : (P : List ℕ → Type 0) (g : Grid) (i : ℕ) → P [] → P (gathered g i 0)

@@ -20,16 +20,13 @@ ahead test arrows to k = length (filter test (slice k to arrows))
 module _ (test : ℕ → Bool) (arrows : List ℕ) (to k : ℕ) where
   -- no place is left
   pub none_ahead : to ≤ k → ahead test arrows to k ≡ 0
-  unfolding filter
   none_ahead h = rw (slice_none arrows k to h) refl
 
   -- the cell at the place k passes the test, or it does not
   pub one_counted : k < to → to ≤ length arrows → test (get_or arrows k 0) ≡ true → ahead test arrows to k ≡ suc (ahead test arrows to (k + 1))
-  unfolding filter
   one_counted h l e = rw (slice-cons k to arrows 0 h l, add-one k, e) refl
 
   pub other_passed : k < to → to ≤ length arrows → test (get_or arrows k 0) ≡ false → ahead test arrows to k ≡ ahead test arrows to (k + 1)
-  unfolding filter
   other_passed h l e = rw (slice-cons k to arrows 0 h l, add-one k, e) refl
 
 -- the a-th arrow, which starts at the place `from`, by the number of its cells that pass

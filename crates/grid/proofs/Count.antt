@@ -135,7 +135,7 @@ count_front {P} d (suc n) = ap (bump (d (suc n))) (count_front d n) ∙ swap (d 
     swap (no _) (no _) k = refl
 
 length-filter-range : (p : ℕ → Bool) (a k : ℕ) → length (filter p (range a k)) ≡ count (λ i. Dec-So (p (a + i))) k
-unfolding filter range
+unfolding range
 length-filter-range p a zero = refl
 length-filter-range p a (suc k) =
     go (Dec-So (p a)) (length-filter-range p (suc a) k)

@@ -12,6 +12,7 @@ use mathlib.Core.Path.{◌≡◌, refl, sym, ap, ◌∙◌, subst}
 use mathlib.Core.Bool.{Bool, true, false, So, not, Bool-discrete, cond, ◌&&◌, ◌||◌, true≢false, false≢true}
 use lib.Dec.{eqb}
 use borrow.Author.Tests.{eqb-true, eqb-false, eq-eqb, ne_eqb}
+use Rattle.std.proofs.lemmas.Bool.{and_from}
 use Rattle.grid.specs.Lists.{Distinct, init, tail, range, upto, filter, any, all, member, flat_map, once, last}
 
 -- a test passes or fails
@@ -23,9 +24,6 @@ split false = inr refl
 pub and-true : (a b : Bool) → (a && b) ≡ true → (a ≡ true) × (b ≡ true)
 and-true true b h = (refl, h)
 and-true false b h = absurd (false≢true h)
-
-pub true-and : {a b : Bool} → a ≡ true → b ≡ true → (a && b) ≡ true
-true-and h k = rw (h, k)
 
 -- a test is decided
 pub Dec-So : (b : Bool) → Dec (So b)
@@ -60,7 +58,6 @@ So-not false h = refl
 module _ {A : Type 0} where
   -- the members of a filtered list are those that pass
   pub filter-mem : (p : A → Bool) (l : List A) {x : A} → Memᴰ x (filter p l) → Memᴰ x l × (p x ≡ true)
-  unfolding filter
   filter-mem p [] m = absurd (Memᴰ.not-nil m)
   filter-mem p (y ∷ ys) {x} m = go (λ (k : Memᴰ x (filter p ys)). filter-mem p ys k) (p y) refl m
     where
@@ -76,7 +73,6 @@ module _ {A : Type 0} where
       go below false e k = later (below k)
 
   pub mem-filter : (p : A → Bool) (l : List A) {x : A} → Memᴰ x l → p x ≡ true → Memᴰ x (filter p l)
-  unfolding filter
   mem-filter p (y ∷ ys) (Memᴰ.head e) h = rw (ap p (sym e) ∙ h) (Memᴰ.head e)
   mem-filter p (y ∷ ys) {x} (Memᴰ.tail m) h = go (p y) (mem-filter p ys m h)
     where
@@ -87,7 +83,6 @@ module _ {A : Type 0} where
 
   -- some member passes
   pub any-mem : (p : A → Bool) (l : List A) → any p l ≡ true → (x : A) × Memᴰ x l × (p x ≡ true)
-  unfolding any
   any-mem p [] h = absurd (false≢true h)
   any-mem p (y ∷ ys) h = go (λ (k : any p ys ≡ true). any-mem p ys k) (p y) refl h
     where
@@ -96,22 +91,19 @@ module _ {A : Type 0} where
       go below false e k = let r = below k in (r.0, Memᴰ.tail r.1, r.2)
 
   pub mem-any : (p : A → Bool) (l : List A) {x : A} → Memᴰ x l → p x ≡ true → any p l ≡ true
-  unfolding any
   mem-any p (y ∷ ys) (Memᴰ.head e) h = rw (ap p (sym e) ∙ h) refl
   mem-any p (y ∷ ys) (Memᴰ.tail m) h = So-orr (p y) (mem-any p ys m h)
   mem-any p [] x4 h = elim x4 [ ]
 
   -- every member passes
   pub all-mem : (p : A → Bool) (l : List A) → all p l ≡ true → (x : A) → Memᴰ x l → p x ≡ true
-  unfolding all
   all-mem p (y ∷ ys) h x (Memᴰ.head e) = ap p e ∙ (and-true (p y) (all p ys) h).0
   all-mem p (y ∷ ys) h x (Memᴰ.tail m) = all-mem p ys (and-true (p y) (all p ys) h).1 x m
   all-mem p [] h x x4 = elim x4 [ ]
 
   pub mem-all : (p : A → Bool) (l : List A) → ((x : A) → Memᴰ x l → p x ≡ true) → all p l ≡ true
-  unfolding all
   mem-all p [] f = refl
-  mem-all p (y ∷ ys) f = true-and (f y (Memᴰ.head refl)) (mem-all p ys (λ x m. f x (Memᴰ.tail m)))
+  mem-all p (y ∷ ys) f = and_from _ _ (f y (Memᴰ.head refl)) (mem-all p ys (λ x m. f x (Memᴰ.tail m)))
 
   -- the last member is a member
   pub last-mem : (d : A) (l : List A) {x : A} → Memᴰ x l → Memᴰ (last d l) l
@@ -123,7 +115,6 @@ module _ {A : Type 0} where
 module _ {A B : Type 0} where
   -- the members of a flat_map
   pub flat_map-mem : (f : A → List B) (l : List A) {y : B} → Memᴰ y (flat_map f l) → (x : A) × Memᴰ x l × Memᴰ y (f x)
-  unfolding flat_map
   flat_map-mem f [] m = absurd (Memᴰ.not-nil m)
   flat_map-mem f (x ∷ xs) {y} m = go (λ (k : Memᴰ y (flat_map f xs)). flat_map-mem f xs k) (Memᴰ.append_cases (f x) m)
     where
@@ -133,7 +124,6 @@ module _ {A B : Type 0} where
       go below (inr k) = let r = below k in (r.0, Memᴰ.tail r.1, r.2)
 
   pub mem-flat_map : (f : A → List B) (l : List A) {x : A} {y : B} → Memᴰ x l → Memᴰ y (f x) → Memᴰ y (flat_map f l)
-  unfolding flat_map
   mem-flat_map f (z ∷ zs) {x} {y} (Memᴰ.head e) k = Memᴰ.append_left (flat_map f zs) (rw e at k)
   mem-flat_map f (z ∷ zs) (Memᴰ.tail m) k = Memᴰ.append_right (f z) (mem-flat_map f zs m k)
   mem-flat_map f [] {x = x} {y = y} x4 k = elim x4 [ ]
@@ -340,7 +330,6 @@ Distinct-once (x ∷ xs) d (suc i) (suc j) h k e = ap suc (Distinct-once xs d.1 
 
 -- what keeps members distinct
 pub Distinct-filter : (p : ℕ → Bool) (l : List ℕ) → Distinct l → Distinct (filter p l)
-unfolding filter
 Distinct-filter p [] d = tt
 Distinct-filter p (x ∷ xs) d = go (p x) (Distinct-filter p xs d.1)
   where
@@ -385,7 +374,6 @@ of_single q m = Memᴰ.eq_of_singleton (rw q at m)
 
 -- a test splits a list in two
 pub filter_split : (p : ℕ → Bool) (l : List ℕ) → length l ≡ length (filter p l) + length (filter (λ x. not (p x)) l)
-unfolding filter
 filter_split p [] = omega arith
 filter_split p (x ∷ xs) = go (p x) (filter_split p xs)
   where
@@ -399,7 +387,6 @@ pub filter-length : (p : ℕ → Bool) (l : List ℕ) → length (filter p l) �
 filter-length p l = omega (arith, filter_split p l)
 
 pub flat_map-length : {B : Type 0} (f : ℕ → List B) → ((x : ℕ) → length (f x) ≤ 1) → (l : List ℕ) → length (flat_map f l) ≤ length l
-unfolding flat_map
 flat_map-length f h [] = omega arith
 flat_map-length f h (x ∷ xs) = rw length-append (omega (arith, h x, flat_map-length f h xs))
 

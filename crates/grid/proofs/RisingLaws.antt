@@ -17,7 +17,6 @@ range-Rising a zero = nil
 range-Rising a (suc k) = cons (λ y m. (range-mem (suc a) k m).0) (range-Rising (suc a) k)
 
 pub filter-Rising : (p : ℕ → Bool) {l : List ℕ} → Rising l → Rising (filter p l)
-unfolding filter
 filter-Rising p nil = nil
 filter-Rising p (cons {x} {xs} h r) = go (p x) (filter-Rising p r)
   where

@@ -12,10 +12,11 @@ use lib.Dec.{eqb, ltb}
 use lib.IntN.{pos, negsuc, ◌-ℤ◌}
 use borrow.Author.Tests.{eqb-true, eq-eqb, ltb-true, ltb-false}
 use Rattle.std.specs.Prelude.{Option, Some, None}
+use Rattle.std.proofs.lemmas.Bool.{and_from}
 use Rattle.grid.specs.Lists.{any, member}
 use Rattle.grid.specs.Grid.{Grid, size, row, col}
 use Rattle.grid.specs.Side.{moved_of, side_at, shifted_of, landing, Landed, lands}
-use Rattle.grid.proofs.ListLaws.{and-true, true-and, any-mem, mem-any, member-mem, mem-member, So-false}
+use Rattle.grid.proofs.ListLaws.{and-true, any-mem, mem-any, member-mem, mem-member, So-false}
 use Rattle.grid.proofs.GridLaws.{width_pos, index}
 use Rattle.grid.proofs.SideLaws.{Reaches, moved_to, to_moved}
 use Rattle.grid.proofs.AppendLaws.{same_test}
@@ -97,7 +98,7 @@ module _ (g : Grid) (f t c d : ℕ) where
       (eqb-true (row g d + row g f) (row g c + row g t) k.0, eqb-true (col g d + col g f) (col g c + col g t) k.1)
 
   pub sums_lands : row g d + row g f ≡ row g c + row g t → col g d + col g f ≡ col g c + col g t → So (lands g f t c d)
-  sums_lands r k = true-and (eq-eqb (row g d + row g f) (row g c + row g t) r) (eq-eqb (col g d + col g f) (col g c + col g t) k)
+  sums_lands r k = and_from _ _ (eq-eqb (row g d + row g f) (row g c + row g t) r) (eq-eqb (col g d + col g f) (col g c + col g t) k)
 
 -- a place of the grid is in the list
 unfoldable pub side_in : Option ℕ → List ℕ → Bool

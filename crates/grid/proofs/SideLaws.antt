@@ -2,7 +2,7 @@
 -- Assumes nothing.
 use Prim.Native.Nat.{ℕ, zero, suc, ◌+◌, ◌-◌, ◌*◌, ◌/◌, ◌%◌, ◌≤◌, ◌<◌}
 use native.Mathlib.Omega.{arith}
-use native.Mathlib.Nat.{suc-mul, mul-le-mul_right, mod-lt, div-lt_iff_lt-mul}
+use native.Mathlib.Nat.{suc-mul, mul-le-mul_right, mod-lt, div-lt_iff_lt-mul, div-add-mod'}
 use native.Mathlib.Numerals.{add-one}
 use mathlib.Core.Path.{◌≡◌, refl, sym, ap, ◌∙◌}
 use mathlib.Core.Logic.{◌⊎◌, inl, inr}
@@ -16,8 +16,9 @@ use lib.ListN.{get_or}
 use mir.Syntax.{w32}
 use mir.Val.{to_z, of_z}
 use borrow.Author.Tests.{lt-ltb, le-ltb, ltb-true, ltb-false, le-leb, lt-leb}
-use Rattle.std.specs.Prelude.{Some, None}
+use Rattle.std.specs.Prelude.{Option, Some, None, IfSome}
 use Rattle.grid.specs.Grid.{Grid, size, col, only, up, down, left, right, neighbours, Adjacent}
+use Rattle.grid.specs.declared.Grid.{Grid as Sides}
 use Rattle.grid.specs.Side.{sized, moved_of, side_at, shifted_of, towards, side_of, beside_of, InGrid, InPlace}
 use Rattle.grid.proofs.GridLaws.{width_pos, size_most, on_grid, beside}
 
@@ -31,12 +32,20 @@ pub sized-size : (h w : ℕ) → h * w ≡ size (sized h w)
 unfolding size
 sized-size h w = refl
 
+-- the row and the column of a cell
+pub row_of : (h w i : ℕ) → i < h * w → i / w < h
+unfolding size
+row_of h w i l = (div-lt_iff_lt-mul (width_pos (sized h w) l)).1 l
+
+pub column_of : (h w i : ℕ) → i < h * w → i % w < w
+unfolding size
+column_of h w i l = mod-lt i (width_pos (sized h w) l)
+
 -- a cell has a row and a column
 pub in_place : {h w i : ℕ} → InGrid h w i → InPlace h w (i / w) (i % w)
 unfolding size
 in_place {h} {w} {i} p =
-    let some : 0 < w = width_pos (sized h w) p.within in
-    record { tall = p.tall; wide = p.wide; row = (div-lt_iff_lt-mul some).1 p.within; column = mod-lt i some }
+    record { tall = p.tall; wide = p.wide; row = row_of h w i p.within; column = column_of h w i p.within }
 
 -- a grid with a cell has a column
 pub some_wide : {h w i : ℕ} → InGrid h w i → 0 < w
@@ -46,9 +55,9 @@ some_wide p = omega (arith, (in_place p).column)
 pub cell_small : {h w i : ℕ} → InGrid h w i → i < 1024
 cell_small {h} {w} p = omega (arith, area h w p.tall p.wide)
 
--- the cell of a row and a column is one of the grid
-pub in_grid : {h w y x : ℕ} → InPlace h w y x → InGrid h w (y * w + x)
-in_grid p = record { tall = p.tall; wide = p.wide; within = digits_lt p.row p.column }
+-- a cell of the grid that the code has
+pub cell_of : (g : Sides) (i : ℕ) → i < g.height * g.width → InGrid g.height g.width i
+cell_of g i h = record { tall = g.tall; wide = g.wide; within = h }
 
 -- ---- moves
 
@@ -168,6 +177,19 @@ module _ (h w : ℕ) where
   pub leads : (y x : ℕ) → y < h → x < w → (k : ℕ) → k < 4 → Leads y x k
   leads y x p q = by_four (Leads y x) (Leads-up y x p q) (Leads-down y x p q) (Leads-left y x p q) (Leads-right y x p q)
 
+-- a cell's column is what is left of it behind its row
+pub row_before : (w i y : ℕ) → y ≡ i / w → y * w ≤ i
+row_before w i y e = rw e (omega (arith, div-add-mod' i w))
+
+pub column_left : (w i y : ℕ) → y ≡ i / w → i - y * w ≡ i % w
+column_left w i y e = rw e (omega (arith, div-add-mod' i w))
+
+-- a shift from a cell's row and column by an offset leads to its neighbour in that direction
+pub leads_from : (h w i y x : ℕ) → i < h * w → y ≡ i / w → x ≡ i % w → (k : ℕ) → k < 4 → shifted_of h w y x (read k 0) (read k 1) ≡ beside_of (sized h w) i k
+leads_from h w i y x l e f k four =
+    let back : i / w * w + i % w ≡ i = div-add-mod' i w in
+    rw (e, f) (rw back at (leads h w (i / w) (i % w) (row_of h w i l) (column_of h w i l) k four))
+
 -- ---- a neighbour as an answer
 
 only_one : (b : Bool) (i : ℕ) → (only b i ≡ []) ⊎ ((j : ℕ) × (only b i ≡ j ∷ []))
@@ -215,3 +237,20 @@ beside_Adjacent g i k j l e = (l, towards-mem g i k (rw (beside_at g i k j e) (M
 
 pub beside_in : (g : Grid) (i k j : ℕ) → i < size g → Some j ≡ beside_of g i k → j < size g
 beside_in g i k j l e = on_grid g l (beside g i (beside_Adjacent g i k j l e).1)
+
+-- so is the cell that a shift by an offset leads to, and it has its place in an array of 1,024
+beside_inside : (h w i k : ℕ) → i < h * w → (r : Option ℕ) → r ≡ beside_of (sized h w) i k → IfSome r (λ j. j < h * w)
+unfolding size
+beside_inside h w i k l (Some j) e = beside_in (sized h w) i k j l e
+beside_inside h w i k l None e = tt
+
+module _ (h w i y x : ℕ) (l : i < h * w) (e : y ≡ i / w) (f : x ≡ i % w) (k : ℕ) (four : k < 4) (r : Option ℕ) (to : r ≡ shifted_of h w y x (read k 0) (read k 1)) where
+  pub leads_in : IfSome r (λ j. j < h * w)
+  leads_in = beside_inside h w i k l r (to ∙ leads_from h w i y x l e f k four)
+
+  pub leads_small : h ≤ 32 → w ≤ 32 → IfSome r (λ j. j < 1024)
+  leads_small p q = few r leads_in
+    where
+      few : (s : Option ℕ) → IfSome s (λ j. j < h * w) → IfSome s (λ j. j < 1024)
+      few (Some j) d = omega (arith, d, area h w p q)
+      few None d = tt

@@ -1,9 +1,12 @@
 -- Lists of numbers, and tests on them.
 -- Assumes nothing.
-use Rattle.std.specs.Prelude.{ℕ, zero, suc, ◌+◌, ◌-◌, ◌<◌, Bool, true, false, cond, ◌&&◌, ◌||◌, eqb, length, replicate}
+use Rattle.std.specs.Prelude.{ℕ, zero, suc, ◌+◌, ◌-◌, ◌<◌, Bool, cond, eqb, length, replicate}
 use mathlib.Core.List.{List, [], ◌∷◌, ◌++◌, Memᴰ}
+-- the members that pass a test, the lists that a function makes of the members one after the other, and whether some member or each passes a test
+pub use Rattle.std.specs.List.{filter, flat_map, list_any as any, list_all as all}
 
--- from, from + 1, .., from + k - 1
+-- from, from + 1, .., from + k - 1. Std's `range_with_len` goes on from `from + 1`, which does not compute to `suc from`: the laws by recursion over a range (ListLaws, AppendLaws, Count)
+-- would each rewrite it.
 unfoldable pub range : ℕ → ℕ → List ℕ
 range from zero = []
 range from (suc k) = from ∷ range (suc from) k
@@ -13,21 +16,6 @@ unfoldable pub upto : ℕ → List ℕ
 upto n = range 0 n
 
 module _ {A : Type 0} where
-  -- the members that pass the test
-  unfoldable pub filter : (A → Bool) → List A → List A
-  filter p [] = []
-  filter p (x ∷ xs) = cond (p x) (x ∷ filter p xs) (filter p xs)
-
-  -- some member passes the test
-  unfoldable pub any : (A → Bool) → List A → Bool
-  any p [] = false
-  any p (x ∷ xs) = p x || any p xs
-
-  -- every member passes the test
-  unfoldable pub all : (A → Bool) → List A → Bool
-  all p [] = true
-  all p (x ∷ xs) = p x && all p xs
-
   -- the last member, d if there is none
   unfoldable pub last : A → List A → A
   last d [] = d
@@ -43,12 +31,6 @@ module _ {A : Type 0} where
   unfoldable pub tail : List A → List A
   tail [] = []
   tail (x ∷ xs) = xs
-
-module _ {A B : Type 0} where
-  -- the lists f x, one after the other
-  unfoldable pub flat_map : (A → List B) → List A → List B
-  flat_map f [] = []
-  flat_map f (x ∷ xs) = f x ++ flat_map f xs
 
 -- i is in the list
 unfoldable pub member : ℕ → List ℕ → Bool

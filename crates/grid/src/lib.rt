@@ -1,7 +1,7 @@
 // A grid's cells, their four neighbours, and signed moves that stop at the edges.
 #![tactic(auto)]
 
-ghost use Rattle.std.specs.Prelude.{◌≡◌, cond, ◌+◌, ◌*◌, ◌≤◌, ◌<◌, pos, ◌-ℤ◌};
+ghost use Rattle.std.specs.Prelude.{◌≡◌, cond, ◌+◌, ◌*◌, ◌/◌, ◌%◌, ◌≤◌, ◌<◌, pos, ◌-ℤ◌, IfSome};
 ghost use Rattle.std.specs.Int.Signed.{mag};
 ghost use Rattle.grid.specs.Side.{sized, moved_of, shifted_of, beside_of};
 
@@ -24,7 +24,17 @@ pub struct Grid {
     pub ghost wide: { width ≤ 32 },
 }
 
-// Up, down, left, right, each as a row and a column offset.
+// The four directions, by their codes in a record. Numbers, and no enum: a record gives a code, and loops over the directions count k,
+// so that each value of an enum would first be made of a number.
+pub const UP: usize = 0;
+
+pub const DOWN: usize = 1;
+
+pub const LEFT: usize = 2;
+
+pub const RIGHT: usize = 3;
+
+// The row and the column offset of each direction.
 const OFFSETS: [[i32; 2]; 4] = [[-1, 0], [1, 0], [0, -1], [0, 1]];
 
 // One of two numbers. A function of its own, so that it can be compiled without a branch: the choice is hard to predict where it is used.
@@ -77,15 +87,40 @@ impl Grid {
         Some(to_y * self.width + to_x)
     }
 
-    // The neighbour in direction k of the cell at row y, column x. A pass over many cells is quickest by this: it divides
-    // nothing and keeps nothing in memory.
-    #[tactic(auto, using(crate::proofs::SideLaws::leads))]
-    pub fn toward(self, y: usize, x: usize, k: usize) -> Option<usize>
-        requires place { (y < self.height) × (x < self.width) }
+    // The row of cell i.
+    #[tactic(auto, using(crate::proofs::SideLaws::row_of))]
+    pub fn row(self, i: usize) -> usize
+        requires { i < self.height * self.width }
+        ensures value { result ≡ i / self.width }
+        ensures place { result < self.height }
+    {
+        i / self.width
+    }
+
+    // The column of cell i.
+    #[tactic(auto, using(crate::proofs::SideLaws::column_of))]
+    pub fn column(self, i: usize) -> usize
+        requires { i < self.height * self.width }
+        ensures value { result ≡ i % self.width }
+        ensures place { result < self.width }
+    {
+        i % self.width
+    }
+
+    // The neighbour of cell i in direction k, if there is one. Who needs all four asks for each by `for k in 0..4`: an iterator over them takes a third more
+    // in a flood (15.7 against 11.9 us on 32 by 32 cells), and a function that takes a closure leaves out the walk that calls itself (`kinds::traverse_grid`).
+    // The column is found from the row: by `column` the compiler divides again in three of the four directions.
+    #[tactic(auto, using(crate::proofs::SideLaws::leads_from, crate::proofs::SideLaws::column_left, crate::proofs::SideLaws::row_before))]
+    pub fn toward(self, i: usize, k: usize) -> Option<usize>
+        requires cell { i < self.height * self.width }
         requires direction { k < 4 }
-        ensures { result ≡ beside_of (sized self.height self.width) (y * self.width + x) k }
+        ensures neighbour { result ≡ beside_of (sized self.height self.width) i k }
+        ensures inside { IfSome result (λ j. j < self.height * self.width) }
+        ensures small { IfSome result (λ j. j < 1024) }
     {
         let d = OFFSETS[k];
+        let y = self.row(i);
+        let x = i - y * self.width;
         self.shifted(y, x, d[0], d[1])
     }
 }

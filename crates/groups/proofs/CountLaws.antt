@@ -54,7 +54,7 @@ one_more u v q off same (suc n) h = rw (← add-one n) (by_eq n q here (λ ne. t
 
 -- a cell that fails a test is none of those that pass
 none_passes : (p : ℕ → Bool) (n : ℕ) → ((j : ℕ) → j < n → p j ≡ false) → length (filter p (upto n)) ≡ 0
-unfolding upto range filter
+unfolding upto range
 none_passes p zero h = refl
 none_passes p (suc n) h = ap (λ (k : ℕ). length (filter p (upto k))) (sym (add-one n)) ∙ count_miss p n (h n (omega arith)) ∙ none_passes p n (λ j l. h j (omega arith))
 
@@ -118,17 +118,11 @@ module _ (s : ℕ) (t : ℕ → Bool) where
   labelled_none L unused = sym (none_passes (λ j. eqb (get_or L j 0) s && t j) 1024 (λ j l. rw (ne_eqb (get_or L j 0) s (unused j l)) refl))
 
   pub Counting-none : {L st : List ℕ} → length L ≡ 1024 → length st ≡ 1025 → Unused s L → Counting s t L st 0 0
-  unfolding filter
   Counting-none {L} long stack unused = record {
     long = long;
     stack_long = stack;
     sum = labelled_none L unused;
   }
-
-  -- and when the stack is empty all are
-  pub Counting-all : {L st : List ℕ} {c x : ℕ} → c ≡ 0 → Counting s t L st c x → x ≡ length (labelled L t s)
-  unfolding filter
-  Counting-all {L} {st} {c} {x} e C = omega (arith, C.sum, ap (λ (k : ℕ). length (filter t (take k st))) e)
 
   -- never more than there are cells
   pub Counting-few : {L st : List ℕ} {c x : ℕ} → Counting s t L st c x → x ≤ 1024

@@ -1,8 +1,7 @@
 -- The mathematics of a flood: no code is named here.
 -- Assumes nothing.
-use Prim.Native.Nat.{ℕ, ◌+◌, ◌-◌, ◌*◌, ◌/◌, ◌%◌, ◌≤◌, ◌<◌}
+use Prim.Native.Nat.{ℕ, ◌+◌, ◌-◌, ◌*◌, ◌≤◌, ◌<◌}
 use native.Mathlib.Decide.{dec_lt}
-use native.Mathlib.Nat.{div-add-mod'}
 use native.Mathlib.Omega.{arith}
 use mathlib.Core.Path.{◌≡◌, refl, sym, ap, ◌∙◌}
 use mathlib.Core.Bool.{Bool, true, false, So, cond}
@@ -13,9 +12,8 @@ use lib.ListN.{length, get_or, set, length-set, replicate, length-replicate, get
 use lib.Seq.{get_or-set_same, get_or-set_other}
 use Rattle.grid.specs.Link.{here, step}
 use Rattle.grid.specs.Grid.{Grid, size, cells_of, neighbours}
-use Rattle.grid.specs.Side.{sized, beside_of, InPlace}
-use Rattle.std.specs.Prelude.{Some}
-use Rattle.grid.proofs.SideLaws.{area, in_place, in_grid, beside_at, beside_in, towards-mem}
+use Rattle.grid.specs.Side.{sized, beside_of, InGrid}
+use Rattle.grid.proofs.SideLaws.{area, beside_at, towards-mem}
 use Rattle.grid.proofs.AroundLaws.{gathered, gathered_next, gathered_same, gathered_all}
 use Rattle.grid.proofs.ListLaws.{split, So-false, place_in}
 use Rattle.grid.proofs.AppendLaws.{by_eq}
@@ -92,11 +90,6 @@ module _ {q s : ℕ} {L st : List ℕ} {c : ℕ} {L' st' : List ℕ} {r : ℕ} (
         waiting = λ t h. waiting' t h (Entry-at st c q t c_in);
         done = λ j was x gone ne. done' j was x gone ne (Entry-at L q s j q_in);
       }
-
--- a neighbour is an entry
-pub beside_small : {h w y x q : ℕ} (k : ℕ) → InPlace h w y x → Some q ≡ beside_of (sized h w) (y * w + x) k → q < 1024
-unfolding size
-beside_small {h} {w} {y} {x} {q} k p e = omega (arith, beside_in (sized h w) (y * w + x) k q (in_grid p).within e, area h w p.tall p.wide)
 
 -- what the neighbours of i in the first k directions, offered in turn, do
 pub record Offers (g : Grid) (p : ℕ → Bool) (s i k : ℕ) (L st : List ℕ) (c : ℕ) (L' st' : List ℕ) (r : ℕ) : Type 0 where
@@ -181,17 +174,17 @@ module _ {g : Grid} {p : ℕ → Bool} {s : ℕ} {L₀ : List ℕ} (fits : size 
       near : (j : ℕ) → Memᴰ j (neighbours g i) → So (p j) → Joined g p s j
       near j m o = step (F.waiting (c - 1) (omega arith)) (on, m) o
 
--- the cell on top of the stack has its row and column
-pub top : {h w s : ℕ} {L st : List ℕ} {c i : ℕ} → h ≤ 32 → w ≤ 32 → Ready (h * w) s L st c → i ≡ get_or st (c - 1) 0 → InPlace h w (i / w) (i % w)
-top tall wide r e = in_place (record { tall = tall; wide = wide; within = rw e r.top })
+-- the cell on top of the stack is one of the grid
+pub top : {h w s : ℕ} {L st : List ℕ} {c i : ℕ} → h ≤ 32 → w ≤ 32 → Ready (h * w) s L st c → i ≡ get_or st (c - 1) 0 → InGrid h w i
+top tall wide r e = record { tall = tall; wide = wide; within = rw e r.top }
 
 -- what is done when the neighbours in all four directions have been offered
 pub Spread-does :
     {h w s : ℕ} {p : ℕ → Bool} {L st L' st' : List ℕ} {c i r : ℕ} → h ≤ 32 → w ≤ 32 → Ready (h * w) s L st c → i ≡ get_or st (c - 1) 0
-    → Offers (sized h w) p s (i / w * w + i % w) 4 L st (c - 1) L' st' r → Spread (sized h w) p s L st c L' st' r
+    → Offers (sized h w) p s i 4 L st (c - 1) L' st' r → Spread (sized h w) p s L st c L' st' r
 unfolding size
 Spread-does {h} {w} {i = i} tall wide ready at_top O = record {
-  keeps = λ L₀ F. spread_keeps (area h w tall wide) ready.count ready.top (rw (div-add-mod' i w, at_top) at O) F;
+  keeps = λ L₀ F. spread_keeps (area h w tall wide) ready.count ready.top (rw at_top at O) F;
   stays = O.stays;
   falls = omega (arith, ready.count, O.falls);
   counts = O.counts;
@@ -225,8 +218,8 @@ flood_ends fits e F seed = record {
 }
 
 -- the cells are told one after the other
-pub Marked-none : (p : ℕ → Bool) → Marked p 0 (replicate 1024 no_group)
-Marked-none p = record { long = length-replicate {A = ℕ} 1024 no_group; below = λ j h. absurd (omega (arith, h)); behind = λ j l h. get_or-replicate {A = ℕ} 1024 j no_group 0 h }
+pub marked_none : (p : ℕ → Bool) → Marked p 0 (replicate 1024 no_group)
+marked_none p = record { long = length-replicate {A = ℕ} 1024 no_group; below = λ j h. absurd (omega (arith, h)); behind = λ j l h. get_or-replicate {A = ℕ} 1024 j no_group 0 h }
 
 -- before the first flood, and after the last. L₀ are the labels before the first, and only cells of the grid pass
 module _ (g : Grid) {p : ℕ → Bool} {L₀ : List ℕ} (fits : size g ≤ 1024) (on : (j : ℕ) → So (p j) → j < size g) (T : Marked p (size g) L₀) where

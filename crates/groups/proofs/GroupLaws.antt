@@ -11,7 +11,8 @@ use mathlib.Core.List.{List, [], ◌∷◌, map, Memᴰ}
 use lib.Dec.{eqb, leb}
 use lib.ListN.{length, get_or, length-map}
 use borrow.Author.Tests.{eqb-true, eq-eqb, leb-true, leb-false}
-use Rattle.grid.proofs.ListLaws.{Distinct-filter, Distinct-upto, split, and-true, true-and, filter-mem, mem-filter, flat_map-mem, mem-flat_map, upto-mem, mem-upto, length-range, get_or-range, map_at}
+use Rattle.std.proofs.lemmas.Bool.{and_from}
+use Rattle.grid.proofs.ListLaws.{Distinct-filter, Distinct-upto, split, and-true, filter-mem, mem-filter, flat_map-mem, mem-flat_map, upto-mem, mem-upto, length-range, get_or-range, map_at}
 use Rattle.grid.proofs.RisingLaws.{Rising, filter-Rising, cells_Rising}
 use Rattle.grid.specs.Link.{here, step}
 use Rattle.grid.proofs.LinkLaws.{Linked-end, Linked-start, Linked-trans, Linked-sym}
@@ -35,7 +36,7 @@ group-mem g p l f x m =
 
 pub mem-group : (g : Grid) (p : ℕ → Bool) (l : List ℕ) (f x : ℕ) → x < size g → So (p x) → get_or l x 0 ≡ f → Memᴰ x (group g p l f)
 unfolding group cells_of
-mem-group g p l f x h q e = mem-filter (λ k. p k && eqb (get_or l k 0) f) (upto (size g)) (mem-upto (size g) h) (true-and q (eq-eqb (get_or l x 0) f e))
+mem-group g p l f x h q e = mem-filter (λ k. p k && eqb (get_or l k 0) f) (upto (size g)) (mem-upto (size g) h) (and_from _ _ q (eq-eqb (get_or l x 0) f e))
 
 -- the same cell, or linked
 data Near (g : Grid) (p : ℕ → Bool) (i j : ℕ) : Type 0 where
@@ -202,7 +203,7 @@ module _ (g : Grid) (p : ℕ → Bool) where
 
   edge_of : (i j : ℕ) → i < size g → p i ≡ true → p j ≡ true → Memᴰ j (neighbours g i) → Memᴰ (i, j) (edges g p)
   unfolding edges cells_of
-  edge_of i j h pi pj m = mem-flat_map _ (upto (size g)) (mem-upto (size g) h) (Memᴰ.map _ (mem-filter _ (neighbours g i) m (true-and pi pj)))
+  edge_of i j h pi pj m = mem-flat_map _ (upto (size g)) (mem-upto (size g) h) (Memᴰ.map _ (mem-filter _ (neighbours g i) m (and_from _ _ pi pj)))
 
   self : (i : ℕ) → i < size g → get_or (cells_of g) i 0 ≡ i
   unfolding cells_of upto
@@ -268,7 +269,7 @@ module _ (g : Grid) (p : ℕ → Bool) where
   unfolding names cells_of
   own_names i h q =
       mem-filter (λ k. p k && eqb (label k) k) (upto (size g)) (mem-upto (size g) (linked_size g p h (label_own i h q)))
-      (true-and (Linked-end (label_own i h q)) (eq-eqb (label (label i)) (label i) (named.own i h)))
+      (and_from _ _ (Linked-end (label_own i h q)) (eq-eqb (label (label i)) (label i) (named.own i h)))
 
 -- a group lists no cell twice
 pub group-Distinct : (g : Grid) (p : ℕ → Bool) (l : List ℕ) (f : ℕ) → Distinct (group g p l f)

@@ -7,7 +7,9 @@ use mathlib.Core.Path.{◌≡◌, refl, sym, ap, ◌∙◌}
 use mathlib.Core.Bool.{Bool, false, cond, ◌||◌}
 use mathlib.Core.List.{List, [], ◌∷◌, Memᴰ}
 use lib.Dec.{eqb}
-use lib.ListN.{get_or}
+use lib.ListN.{get_or, take, length-take}
+use Rattle.std.specs.List.{All}
+use Rattle.std.proofs.lemmas.List.{get_or_default, get_or-take}
 use Rattle.grid.specs.Lists.{any, member, flat_map}
 use Rattle.grid.specs.Marks.{Marks}
 use Rattle.grid.specs.Grid.{Grid, size, cells_of}
@@ -53,11 +55,17 @@ module _ (g : Grid) (p : ℕ → Bool) where
 
 -- a cell of some arrow is one of the arrows' cells
 pub on_arrow_lem : (arrows : List (List ℕ)) (i : ℕ) → member i (arrow_cells arrows) ≡ on_arrow arrows i
-unfolding arrow_cells on_arrow member any flat_map
+unfolding arrow_cells on_arrow member
 on_arrow_lem [] i = refl
 on_arrow_lem (a ∷ rest) i = any-append (eqb i) a (arrow_cells rest) ∙ ap (λ (t : Bool). any (eqb i) a || t) (on_arrow_lem rest i)
 
--- what `mark_arrow_cells` leaves, where the line holds the arrows' cells
+-- the first places of a line of cells
+pub line_cells : (l : List ℕ) (total : ℕ) → ((k : ℕ) → k < total → get_or l k 0 < 1024) → All (λ i. i < 1024) (take total l)
+line_cells l total cells k d h =
+    let low : k < total = omega (arith, h, length-take total l) in
+    rw (get_or_default (take total l) k d 0 h, get_or-take total l k 0 low) (cells k low)
+
+-- what `mark_arrow_cells` gives, where the line holds the arrows' cells
 pub arrow_Marks : (g : Grid) (arrows : List (List ℕ)) {M : List ℕ} (l : List ℕ) → size g ≤ 1024 → l ≡ arrow_cells arrows → ((i : ℕ) → Memᴰ i l → i < size g)
     → Marks M (λ i. member i l) → M ≡ mask_of g (on_arrow arrows)
 arrow_Marks g arrows l small e on k = Marks-mask g (on_arrow arrows) small out (Marks-same (λ i. member i l) (on_arrow arrows) (λ i _. same i) k)

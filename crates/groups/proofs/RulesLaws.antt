@@ -8,12 +8,13 @@ use mathlib.Core.List.{List, ◌∷◌, ◌++◌, Memᴰ}
 use lib.Dec.{eqb, leb, ltb}
 use lib.ListN.{length, get_or}
 use borrow.Author.Tests.{eqb-true, eq-eqb, eqb-false, ltb-true, lt-ltb, leb-true, le-leb}
+use Rattle.std.proofs.lemmas.Bool.{and_from}
 use Rattle.grid.specs.Count.{count}
 use Rattle.grid.proofs.Count.{length-filter, count_iff}
 use Rattle.grid.proofs.Finite.{Dec-Linked}
 use Rattle.grid.specs.Grid.{Adjacent, Grid, size, cells_of}
 use Rattle.grid.proofs.GridLaws.{Dec-Adjacent}
-use Rattle.grid.proofs.ListLaws.{Dec-So, only_one, single, in_single, of_single, Distinct-filter, mem-upto, and-true, true-and, filter-mem, mem-filter, flat_map-mem, mem-flat_map, any-mem, all-mem, mem-all}
+use Rattle.grid.proofs.ListLaws.{Dec-So, only_one, single, in_single, of_single, Distinct-filter, mem-upto, and-true, filter-mem, mem-filter, flat_map-mem, mem-flat_map, any-mem, all-mem, mem-all}
 use Rattle.grid.proofs.LinkLaws.{Linked-end}
 use Rattle.grid.specs.Lists.{upto, filter, any, all, flat_map}
 use Rattle.record.specs.Record.{Puzzle}
@@ -131,7 +132,7 @@ module _ (p : Puzzle) (cells : List ℕ) (n : length cells ≡ size p.grid) wher
       go true h =
           let w = f h in
           let z = count_iff (Dec-block r.cell) w.block_size.0 (size g) (λ i _ k. k) (λ i _ k. k) in
-          true-and (le-leb r.lowest (length (block_of r.cell)) (omega (arith, w.least, w.block_size.1, z, block_size r.cell h)))
+          and_from _ _ (le-leb r.lowest (length (block_of r.cell)) (omega (arith, w.least, w.block_size.1, z, block_size r.cell h)))
           (le-leb (length (block_of r.cell)) r.highest (omega (arith, w.most, w.block_size.1, z, block_size r.cell h)))
       go false h = refl
 
@@ -156,7 +157,7 @@ module _ (p : Puzzle) (cells : List ℕ) (n : length cells ≡ size p.grid) wher
     pub rules_test_lem : BlockRules (leaf_with e sizes p) cells → rules_test (leaf_with e sizes p) cells ≡ true
     unfolding rules_test lab grown_test block_of
     rules_test_lem c =
-        true-and (true-and (mem-all (one_test p cells lab) (names g (square cells) lab) one) (mem-all (grown_test p cells e lab) (flat_map (pairs cells) arrows) grow))
+        and_from _ _ (and_from _ _ (mem-all (one_test p cells lab) (names g (square cells) lab) one) (mem-all (grown_test p cells e lab) (flat_map (pairs cells) arrows) grow))
         (mem-all (sized_test p cells lab) sizes (λ r m. sized_test_lem r (c.sized r m)))
       where
         one : (f : ℕ) → Memᴰ f (names g (square cells) lab) → one_test p cells lab f ≡ true
@@ -168,7 +169,7 @@ module _ (p : Puzzle) (cells : List ℕ) (n : length cells ≡ size p.grid) wher
         grow k m =
             let q = Next-pair k m in
             let r = c.grown k.last k.cur q in
-            true-and (larger k.last k.cur q.first q.second r)
+            and_from _ _ (larger k.last k.cur q.first q.second r)
             (Contains-fits g (block_of k.last) (block_of k.cur) (get_or lab k.last 0)
             (block_in k.last (get_or lab k.last 0) q.first (label_own g (square cells) k.last (on_board k.last q.first) q.first)) r.shift
             (Contains-map g r.shift (SameBlock g cells k.last) (SameBlock g cells k.cur) (λ x. Memᴰ x (block_of k.last)) (λ x. Memᴰ x (block_of k.cur))

@@ -28,7 +28,7 @@ use Rattle.groups.proofs.MarkLaws.{mask_test}
 
 -- before the first
 pub Tabled-none : (cells onarrow L : List ℕ) {firsts squares arrowed : List ℕ} → length firsts ≡ 1024 → length squares ≡ 1024 → length arrowed ≡ 1024 → Tabled cells onarrow L 0 firsts squares arrowed 0
-unfolding upto range filter
+unfolding upto range
 Tabled-none cells onarrow L f s a = record {
   squares_are = record { long = s; at = λ _ h. absurd (omega (arith, h)) };
   arrowed_are = record { long = a; at = λ _ h. absurd (omega (arith, h)) };
@@ -176,7 +176,6 @@ module _ (g : Grid) (p : ℕ → Bool) where
 
 -- some member passes exactly when their number is not 0
 pub count_any : (t : ℕ → Bool) (l : List ℕ) → not (eqb (length (filter t l)) 0) ≡ any t l
-unfolding filter any
 count_any t [] = refl
 count_any t (x ∷ xs) = go (t x) (count_any t xs)
   where
@@ -186,7 +185,6 @@ count_any t (x ∷ xs) = go (t x) (count_any t xs)
 
 -- a member of those that pass one test passes another
 pub any-filter : (t q : ℕ → Bool) (l : List ℕ) → any t (filter q l) ≡ any (λ i. q i && t i) l
-unfolding filter any
 any-filter t q [] = refl
 any-filter t q (x ∷ xs) = go (q x) (any-filter t q xs)
   where

@@ -66,12 +66,6 @@ pub record Names (names : List ℕ) (c : ℕ) : Type 0 where
 abbrev pub TableOf : Puzzle → List ℕ → (ℕ → Bool) → List ℕ → List ℕ → List ℕ → List ℕ → ℕ → Type 0
 TableOf p cells test = GroupTable p.grid test (square cells) (on_arrow p.arrows)
 
--- the cells of all arrows stand in the first places of an array
-pub record Line (line : List ℕ) (total : ℕ) : Type 0 where
-  pub long : length line ≡ 1024
-  pub within : total ≤ 1024
-  pub cells : (k : ℕ) → k < total → get_or line k 0 < 1024
-
 -- an array of cells
 pub record CellArray (a : List ℕ) : Type 0 where
   pub long : length a ≡ 1024

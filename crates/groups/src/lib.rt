@@ -3,21 +3,23 @@
 #![tactic(auto)]
 
 ghost use Rattle.std.specs.Prelude.{◌≡◌, ℕ, ◌+◌, ◌*◌, ◌≤◌, ◌<◌, Bool, cond, eqb, length, get_or, set, take, replicate};
+ghost use Rattle.std.specs.List.{All};
 ghost use Rattle.grid.specs.Lists.{member};
 ghost use Rattle.grid.specs.Marks.{Marks};
 ghost use Rattle.grid.specs.Side.{InGrid, sized};
 ghost use Rattle.grid.specs.Cells.{square};
-ghost use Rattle.groups.specs.Arrays.{Line, no_group, counts, marked, GroupTable};
+ghost use Rattle.groups.specs.Arrays.{no_group, counts, marked, GroupTable};
 ghost use Rattle.groups.specs.Table.{Unused, labelled};
 ghost use Rattle.groups.specs.Flood.{unlabelled, free, Only, Walked, Offerable, Marked, Offered, Spread, Ready};
 
 use grid::{EMPTY, Grid, SQUARE};
 
-// The label of a cell that is in no group.
-const NO_GROUP: u16 = 1024;
+// Stands for the name of a group where there is none: the label of a cell that is in no group. A number, and no `Option`: it has the place of one number,
+// definitions have it, and `grid::pick` chooses it without a branch.
+pub const NO_GROUP: u16 = 1024;
 
 // Stands for the label of a cell that is in a group and has no label yet.
-const UNLABELLED: u16 = 1025;
+pub const UNLABELLED: u16 = 1025;
 
 // Which cells are to be in groups.
 #[derive(Clone, Copy, Debug, PartialEq, Eq)]
@@ -52,19 +54,22 @@ fn first_label(cells: &[u8; 1024], members: Members, i: usize) -> u16
     }
 }
 
-// Marks the cells below n that are to be in a group as not yet labelled, so that a flood reads one array only. Before, every cell is marked as in no group.
-fn mark_check_cells(cells: &[u8; 1024], members: Members, n: usize, labels: &mut [u16; 1024])
-    requires { (n ≤ 1024) × (labels.old ≡ replicate 1024 no_group) }
-    ensures { Marked (counts members cells.now) n labels.new }
+// The labels before the first flood, so that a flood reads one array only: the cells below n that are to be in a group are not yet labelled. By index: of places
+// that are written through an adapter of `iter_mut` a proof does not know what they hold then.
+fn first_labels(cells: &[u8; 1024], members: Members, n: usize) -> [u16; 1024]
+    requires { n ≤ 1024 }
+    ensures { Marked (counts members cells.now) n result }
 {
+    let mut labels = [NO_GROUP; 1024];
     for i in 0..n {
         labels[i] = first_label(cells, members, i);
     }
+    labels
 }
 
 // Labels cell q and puts it on the stack if it is to be in a group and has no label yet. It is labelled
 // when it is put there, so that no cell stands on the stack twice. It is written behind the stack in any case,
-// and only counted if it is new.
+// and only counted if it is new: to push it where it is new takes 17.9 against 15.8 us on 32 by 32 cells. So the stack is an array with a count beside it.
 fn offer(labels: &mut [u16; 1024], stack: &mut [u16; 1025], count: usize, q: usize, s: u16) -> usize
     requires { Offerable q s labels.old count }
     ensures { Offered q s labels.old stack.old count labels.new stack.new result }
@@ -76,8 +81,7 @@ fn offer(labels: &mut [u16; 1024], stack: &mut [u16; 1025], count: usize, q: usi
     count + usize::from(new)
 }
 
-// Takes a cell from the stack and offers its four neighbours in turn. Its row and column are found once
-// for all of them.
+// Takes a cell from the stack and offers its four neighbours in turn.
 fn spread(
     labels: &mut [u16; 1024],
     stack: &mut [u16; 1025],
@@ -90,10 +94,8 @@ fn spread(
 {
     let mut waiting = count - 1;
     let i = usize::from(stack[waiting]);
-    let y = i / grid.width;
-    let x = i % grid.width;
     for k in 0..4 {
-        if let Some(q) = grid.toward(y, x, k) {
+        if let Some(q) = grid.toward(i, k) {
             waiting = offer(labels, stack, waiting, q, s);
         }
     }
@@ -102,6 +104,8 @@ fn spread(
 
 // The groups of a board's cells: the label of each cell's group, which is its first cell in row order, and 1024 where there is none; the first cells by
 // themselves, rising, in the first `count` places; and by first cell how many squares and how many arrow cells each group has.
+// No fact stands here as a ghost field, `Names` of the first cells neither: the arrays are lent as work memory once nothing reads them any more, since there is
+// no heap in what C calls. They stand apart, since each is asked for and lent alone.
 #[derive(Clone, Copy)]
 pub struct Groups {
     pub labels: [u16; 1024],
@@ -176,7 +180,9 @@ impl Groups {
         number + usize::from(self.labels[s] == UNLABELLED)
     }
 
-    // Computes the groups of the cells of a grid that are members.
+    // Computes the groups of the cells of a grid that are members. The grid, its cells and the marks of its arrow cells come apart, since each is lent by another.
+    // It fills groups that are there: a find computes two after one another, and on 5 by 5 cells
+    // it takes 1.15 against 0.88 us to make both anew.
     pub fn compute_connected_components(
         &mut self,
         grid: Grid,
@@ -190,8 +196,7 @@ impl Groups {
     {
         let n = grid.size();
         let mut stack = [0u16; 1025];
-        self.labels = [NO_GROUP; 1024];
-        mark_check_cells(cells, members, n, &mut self.labels);
+        self.labels = first_labels(cells, members, n);
         let mut number = 0;
         for s in 0..n {
             number = self.keep_first(s, number);
@@ -201,13 +206,14 @@ impl Groups {
     }
 }
 
-// Marks the cells of all arrows, which stand one after another in the first `total` places.
-pub fn mark_arrow_cells(arrows: &[u16; 1024], total: usize, marks: &mut [u8; 1024])
-    requires line { Line arrows.now total }
-    ensures { Marks marks.new (λ i. member i (take total arrows.now)) }
+// The cells of all arrows, which stand one after another, as marks.
+pub fn mark_arrow_cells(arrows: &[u16]) -> [u8; 1024]
+    requires cells { All (λ i. i < 1024) arrows.now }
+    ensures { Marks result (λ i. member i arrows.now) }
 {
-    *marks = [0u8; 1024];
-    for k in 0..total {
-        marks[usize::from(arrows[k])] = 1;
+    let mut marks = [0; 1024];
+    for &i in arrows {
+        marks[usize::from(i)] = 1;
     }
+    marks
 }

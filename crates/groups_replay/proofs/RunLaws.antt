@@ -19,7 +19,6 @@ use Rattle.groups_replay.specs.Blocks.{arrowed_of}
 
 module _ (arrowed fs : List ℕ) (k : ℕ) where
   left : k < length fs → arrowed_of arrowed (drop k fs) ≡ cond (not (eqb (get_or arrowed (get_or fs k 0) 0) 0)) (get_or fs k 0 ∷ arrowed_of arrowed (drop (k + 1) fs)) (arrowed_of arrowed (drop (k + 1) fs))
-  unfolding filter
   left h = rw (add-one, drop-cons fs k 0) refl
 
   -- of the names from one on that has arrow cells, it is the first
@@ -32,7 +31,6 @@ module _ (arrowed fs : List ℕ) (k : ℕ) where
 
   -- behind the last none is left
   pub left_none : length fs ≤ k → arrowed_of arrowed (drop k fs) ≡ []
-  unfolding filter
   left_none h = rw (drop_of_length-le fs h) refl
 
 -- of the first cells in a table of groups, those with arrow cells are those of the groups that have one

@@ -42,12 +42,10 @@ fn block_differs(block: Cursor<'_>, info: &BoardInfo<'_>, f: u16) -> bool
         list,
         at: at + (4 + n),
     };
-    let mut near = [0; 1024];
-    let mut marks = [0; 1024];
-    let size = reach::compute_reach(info, f, &mut near, &mut marks);
+    let reach = reach::compute_reach(info, f);
     let mut part = [replay::NO_LITERAL; 4096];
-    let written = fence::reason_for_adjacent_floating_boundary(info, &marks, f, &mut part);
-    reach_differs(block, n, size, &marks)
+    let written = fence::reason_for_adjacent_floating_boundary(info, &reach.marks, f, &mut part);
+    reach_differs(block, n, reach.size, &reach.marks)
         || fence_differs(fence, block.number_at(4 + n), written, &part)
 }
 

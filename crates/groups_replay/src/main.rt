@@ -88,14 +88,12 @@ fn run_kinds(cursor: Cursor<'_>, rounds: Rounds, board: &Marked<'_>, blocks: &Gr
         Given p (take n board.now.cells.now) blocks.now.labels blocks.now.arrowed
         → KindsRun p (take n board.now.cells.now) n (arrowed_names blocks.now) cursor.entry.list.now cursor.entry.at result }
 {
-    let mut kinds = [0; 1024];
-    let mut owners = [0; 1024];
-    rounds.compute_kinds(board, blocks, &mut kinds, &mut owners);
+    let known = rounds.compute_kinds(board, blocks);
     let info = BoardInfo {
         grid: board.grid,
         cells: board.cells,
-        kinds: &kinds,
-        owners: &owners,
+        kinds: &known.kinds,
+        owners: &known.owners,
     };
     let differs = kinds_differ(cursor, &info);
     let Cursor { list, at } = cursor;
@@ -137,12 +135,7 @@ fn run_board(cursor: Cursor<'_>, rounds: Rounds, board: &Board) -> Option<Run>
     if list.len() < at + 15 * n + 2 {
         return None;
     }
-    let mut onarrow = [0; 1024];
-    groups::mark_arrow_cells(
-        &leaf.problem.arrows,
-        leaf.problem.arrow_total(),
-        &mut onarrow,
-    );
+    let onarrow = groups::mark_arrow_cells(&leaf.problem.arrows[..leaf.problem.arrow_total()]);
     let marked = Marked {
         grid,
         cells: &board.cells,
@@ -191,11 +184,12 @@ impl Entries for Rounds {
     }
 }
 
+// One line in each program that replays a list: `replay::replay` does the rest, and the entries and their words are the program's own.
 fn main(rt: HostRuntime) -> io::Result<()> {
     replay::replay::<Rounds, _, _>(
         rt.reader(),
         &mut io::writer(&rt),
         " boards, ",
-        " arrow blocks, ",
+        Some(" arrow blocks, "),
     )
 }

@@ -7,7 +7,8 @@ ghost use Rattle.kinds.specs.Kinds.{view};
 ghost use Rattle.kinds.specs.Inside.{puzzle_with, Given, Held};
 
 use grid::Grid;
-use groups::{Groups, Members};
+use groups::{Groups, Members, NO_GROUP};
+use kinds::VACANT;
 
 // What the groups and the kinds of a board are computed of: its grid, the state of each cell, and a mark of each that is on an arrow.
 #[derive(Clone, Copy)]
@@ -17,6 +18,13 @@ pub struct Marked<'a> {
     pub onarrow: &'a [u8; 1024],
 }
 
+// The kind of each cell by its number, and the group that it belongs to.
+#[derive(Clone, Copy)]
+pub struct CellKinds {
+    pub kinds: [u8; 1024],
+    pub owners: [u16; 1024],
+}
+
 // How often groups and kinds are computed.
 #[derive(Clone, Copy)]
 pub struct Rounds {
@@ -24,7 +32,8 @@ pub struct Rounds {
     pub kinds: usize,
 }
 
-// This loop, the next one and that of `finds` stay three: of the arrays that a closure captures and changes a proof knows nothing after its calls.
+// This loop, the next one and that of `finds` stay three: one over a closure would promise that it was called so many times, and each of the three would still have
+// to prove of such a chain of calls what the last of them leaves. What is left of each is its one call.
 
 impl Rounds {
     // Computes the blocks or the potential groups so many times, each time in the same arrays.
@@ -41,22 +50,29 @@ impl Rounds {
         groups
     }
 
-    // Computes kinds and owners so many times, each time in the same arrays.
-    pub fn compute_kinds(
-        self,
-        board: &Marked<'_>,
-        blocks: &Groups,
-        kinds: &mut [u8; 1024],
-        owners: &mut [u16; 1024],
-    )
+    // Computes kinds and owners so many times.
+    pub fn compute_kinds(self, board: &Marked<'_>, blocks: &Groups) -> CellKinds
         ensures { let n = board.now.grid.height * board.now.grid.width in 0 < self.kinds → (arrows : List (List ℕ))
             → let p = puzzle_with (sized board.now.grid.height board.now.grid.width) arrows in
-            Given p (take n board.now.cells.now) blocks.now.labels blocks.now.arrowed → Held (view p (take n board.now.cells.now)) kinds.new owners.new }
+            Given p (take n board.now.cells.now) blocks.now.labels blocks.now.arrowed → Held (view p (take n board.now.cells.now)) result.kinds result.owners }
     {
+        let mut known = CellKinds {
+            kinds: [0; 1024],
+            owners: [0; 1024],
+        };
         for _i in 0..self.kinds {
-            *kinds = [0; 1024];
-            *owners = [1024; 1024];
-            kinds::compute_board_info_detailed(board.grid, board.cells, blocks, kinds, owners);
+            known = CellKinds {
+                kinds: [VACANT; 1024],
+                owners: [NO_GROUP; 1024],
+            };
+            kinds::compute_board_info_detailed(
+                board.grid,
+                board.cells,
+                blocks,
+                &mut known.kinds,
+                &mut known.owners,
+            );
         }
+        known
     }
 }

@@ -6,14 +6,14 @@ use mathlib.Core.Path.{◌≡◌, refl, sym, ap, ◌∙◌}
 use mathlib.Core.Bool.{Bool, true, false}
 use mathlib.Core.List.{List, [], ◌∷◌, ◌++◌, Memᴰ}
 use mathlib.Core.Option.{none, some}
-use lib.ListN.{length, get_or, set, take, take-append-drop}
+use lib.ListN.{length, get_or, set, take, drop, take-append-drop}
 use lib.Seq.{slice}
 use borrow.Author.Tests.{lt-ltb, le-ltb}
 use Rattle.grid.proofs.CellLaws.{empty_taken, undecided_taken}
 use Rattle.grid.specs.Lists.{filter, init, tail}
 use Rattle.grid.specs.Grid.{size}
 use Rattle.grid.proofs.AppendLaws.{filter_agree}
-use Rattle.grid.proofs.SliceLaws.{slice-tail, slice-init}
+use Rattle.grid.proofs.SliceLaws.{slice_taken, slice-tail, slice-init}
 use Rattle.grid.specs.Cells.{Literal, empty, word}
 use Rattle.groups.specs.Arrows.{Pair}
 use Rattle.kinds.specs.Kinds.{View, view, view_with, block, reach, fence}
@@ -68,6 +68,16 @@ gap_places arrows last cur h long =
     ap tail (ap (λ (k : ℕ). init (slice (last + 1) k arrows)) (sym back) ∙ slice-init arrows (last + 1) (cur - 1) (omega arith))
     ∙ slice-tail arrows (last + 1) (cur - 1) (omega arith)
     ∙ ap (λ (k : ℕ). slice k (cur - 1) arrows) next
+
+-- the gap of the first and the last of a list
+pub gap_part : (cells : List ℕ) → 1 < length cells → gap (pair_at cells 0 (length cells - 1)) ≡ slice 2 (length cells - 2) cells
+gap_part cells two =
+    let e : length cells - 1 - 1 ≡ length cells - 2 = omega arith in
+    gap_places cells 0 (length cells - 1) (omega arith) (omega arith) ∙ ap (λ (k : ℕ). slice 2 k cells) e
+
+-- it is what is left without two cells at either end
+pub gap_inner : (cells : List ℕ) → 1 < length cells → gap (pair_at cells 0 (length cells - 1)) ≡ take (length cells - 2 - 2) (drop 2 cells)
+gap_inner cells two = gap_part cells two ∙ sym (slice_taken cells 2 (length cells - 2))
 
 module _ (cells : List ℕ) (n : ℕ) where
   pub most_taken : (t : Bool) (l : List ℕ) → ((x : ℕ) → Memᴰ x l → x < n) → most_apart (take n cells) t l ≡ most_apart cells t l

@@ -1,17 +1,17 @@
 -- The pairs of an arrow, one after another by the places of their squares.
 -- Assumes nothing.
-use Prim.Native.Nat.{ℕ, ◌+◌, ◌≤◌, ◌<◌}
+use Prim.Native.Nat.{ℕ, suc, ◌+◌, ◌-◌, ◌≤◌, ◌<◌}
 use native.Mathlib.Omega.{arith}
 use native.Mathlib.Numerals.{add-one}
 use mathlib.Core.Path.{◌≡◌, refl, ap, ◌∙◌}
 use mathlib.Core.Bool.{true, false}
 use mathlib.Core.List.{List, [], ◌∷◌, ◌++◌, append-nil, append_assoc, Memᴰ}
-use lib.ListN.{length, get_or}
-use lib.Seq.{slice, slice-cons, slice_empty}
-use Rattle.grid.proofs.SliceLaws.{slice_split, slice-mem}
+use lib.ListN.{length, get_or, length-append}
+use lib.Seq.{slice, slice-cons, slice_empty, take_at, get_or-append_seam}
+use Rattle.grid.proofs.SliceLaws.{slice_more, slice_split, slice-mem}
 use Rattle.grid.specs.Cells.{square}
 use Rattle.groups.specs.Arrows.{pairs, pairs_from}
-use Rattle.growth.specs.Pairs.{pair_at, NextSquare}
+use Rattle.growth.specs.Pairs.{pair_at, pair_in, NextSquare}
 
 module _ (cells : List ℕ) where
   -- none of these cells is a square
@@ -55,3 +55,19 @@ module _ (cells arrows : List ℕ) (to : ℕ) (long : to ≤ length arrows) wher
     pub pairs_end : cur ≡ to → pairs cells (slice last to arrows) ≡ []
     unfolding pairs_from
     pairs_end e = first_pairs ∙ rw (e, slice_empty to arrows) refl
+
+-- the pair of the first and the last of a list
+pair_whole : (x y : ℕ) (m : List ℕ) → pair_in (x ∷ m ++ (y ∷ [])) ≡ record { last = x; between = m; cur = y }
+unfolding pair_at
+pair_whole x y m = rw (end, get_or-append_seam m y [] 0, take_at m (y ∷ []) (length m) refl) refl
+  where
+    end : length (x ∷ m ++ (y ∷ [])) - 1 ≡ suc (length m)
+    end = simp length-append (omega arith)
+
+-- the pair of two places is that of the part from the one to the other
+pub pair_part : (arrow : List ℕ) (last cur : ℕ) → last + 1 ≤ cur → cur < length arrow → pair_in (slice last (cur + 1) arrow) ≡ pair_at arrow last cur
+unfolding pair_at
+pair_part arrow last cur h u = ap pair_in parts ∙ pair_whole (get_or arrow last 0) (get_or arrow cur 0) (slice (last + 1) cur arrow)
+  where
+    parts : slice last (cur + 1) arrow ≡ get_or arrow last 0 ∷ slice (last + 1) cur arrow ++ (get_or arrow cur 0 ∷ [])
+    parts = slice-cons last (cur + 1) arrow 0 (omega arith) (omega arith) ∙ ap (λ (l : List ℕ). get_or arrow last 0 ∷ l) (rw (← add-one last) (slice_more arrow (last + 1) cur h u))

@@ -82,7 +82,7 @@ pub starred :
     ∷ refused 3
     ∷ refused 2
     ∷ [])
-unfolding range upto filter any all last init tail flat_map member once size cells_of row col only up down left right neighbours touches rename join join_all edges labels group names ◌>>=◌ unless bit number field cell_codes there step_from step_cells arrow_at filler arrows_at read_record value_at cells_after empty square undecided potential decided after after_all is_floating is_in is_neighbour kind_touching on_arrow arrow_block blocks_touched kind_at kinds_of has view_with view block float_near in_reach reach disturbing fence_at fence or_else reason_if first_found_of each reason1_at reason1 appended breadth_first parent path reason2_at reason2 pairs_from pairs fits most_apart block_name reason_grow reason3_at gap reason_shrink reason4_at reason4a_at reason4b_at reason34 reason5 find_reason
+unfolding range upto last init tail member once size cells_of row col only up down left right neighbours touches rename join join_all edges labels group names ◌>>=◌ unless bit number field cell_codes there step_from step_cells arrow_at filler arrows_at read_record value_at cells_after empty square undecided potential decided after after_all is_floating is_in is_neighbour kind_touching on_arrow arrow_block blocks_touched kind_at kinds_of has view_with view block float_near in_reach reach disturbing fence_at fence or_else reason_if first_found_of each reason1_at reason1 appended breadth_first parent path reason2_at reason2 pairs_from pairs fits most_apart block_name reason_grow reason3_at gap reason_shrink reason4_at reason4a_at reason4b_at reason34 reason5 find_reason
 starred = refl
 
 -- S: index 3 gives 7, cell 0 twice 9; find with 9 literals gives 11, with 10 not, and player 4 is given 17 with either
@@ -96,7 +96,7 @@ pub refusals :
     ∷ refusal_after (S 0xE0) [] (find 4 10)
     ∷ [])
     (ok 7 ∷ ok 9 ∷ ok 11 ∷ ok 0 ∷ ok 17 ∷ ok 17 ∷ [])
-unfolding any member size col only right ◌>>=◌ unless bit number field cell_codes there step_from step_cells arrow_at filler arrows_at read_record decided after refusal after_all enough
+unfolding member size col only right ◌>>=◌ unless bit number field cell_codes there step_from step_cells arrow_at filler arrows_at read_record decided after refusal after_all enough
 refusals = refl
 
 -- the host call on S: its answer, and its refusals in their order
@@ -110,7 +110,7 @@ pub hosts :
     ∷ host_finds (S 0xE0) (0x84 ∷ 0x03 ∷ []) 20
     ∷ [])
     (ok (some ((0, 1) ∷ (2, 1) ∷ (0, 1) ∷ [])) ∷ refused 11 ∷ refused 12 ∷ refused 7 ∷ refused 9 ∷ refused 12 ∷ [])
-unfolding range upto filter any all flat_map member once size cells_of row col only up down left right neighbours touches rename join join_all edges labels group names ◌>>=◌ unless bit number field cell_codes there step_from step_cells arrow_at filler arrows_at read_record value_at cells_after empty square undecided potential decided after refusal is_floating is_in is_neighbour kind_touching on_arrow arrow_block blocks_touched kind_at kinds_of has view_with view block in_reach reach disturbing fence_at fence or_else reason_if first_found_of each reason1_at reason1 reason2_at reason2 pairs_from pairs fits block_name reason_grow reason3_at reason4_at reason4a_at reason34 reason5 find_reason find_on accept_or decide_bytes enough host_finds
+unfolding range upto member once size cells_of row col only up down left right neighbours touches rename join join_all edges labels group names ◌>>=◌ unless bit number field cell_codes there step_from step_cells arrow_at filler arrows_at read_record value_at cells_after empty square undecided potential decided after refusal is_floating is_in is_neighbour kind_touching on_arrow arrow_block blocks_touched kind_at kinds_of has view_with view block in_reach reach disturbing fence_at fence or_else reason_if first_found_of each reason1_at reason1 reason2_at reason2 pairs_from pairs fits block_name reason_grow reason3_at reason4_at reason4a_at reason34 reason5 find_reason find_on accept_or decide_bytes enough host_finds
 hosts = refl
 
 -- a row of five cells, an arrow along its first four
@@ -131,7 +131,7 @@ pub crowned :
     ∷ host_finished (S 0xE0) (0x80 ∷ 0x00 ∷ 0x00 ∷ [])
     ∷ [])
     (ok false ∷ ok false ∷ ok true ∷ ok true ∷ refused 5 ∷ refused 12 ∷ refused 7 ∷ refused 9 ∷ refused 12 ∷ [])
-unfolding range upto filter any all flat_map member size cells_of row col only up down left right neighbours rename join join_all edges labels group names ◌>>=◌ unless bit number field cell_codes there step_from step_cells arrow_at filler arrows_at read_record value_at cells_after square decided after refusal on_arrow pairs_from pairs fits more_test one_test grown_test rules_test keeps keeps_all two_squares all_but_rules finished_test accept_or decide_bytes host_finished
+unfolding range upto member size cells_of row col only up down left right neighbours rename join join_all edges labels group names ◌>>=◌ unless bit number field cell_codes there step_from step_cells arrow_at filler arrows_at read_record value_at cells_after square decided after refusal on_arrow pairs_from pairs fits more_test one_test grown_test rules_test keeps keeps_all two_squares all_but_rules finished_test accept_or decide_bytes host_finished
 crowned = refl
 
 -- a puzzle of h rows and w columns, all plain, with one arrow
@@ -147,5 +147,5 @@ pub tempting :
     (some ((2, 1) ∷ (0, 1) ∷ (2, 1) ∷ [])
     ∷ some ((0, 1) ∷ (4, 1) ∷ (5, 1) ∷ (2, 1) ∷ (1, 0) ∷ (3, 0) ∷ (6, 0) ∷ [])
     ∷ [])
-unfolding range upto filter any all flat_map member once size cells_of row col only up down left right neighbours touches rename join join_all edges labels group names empty square undecided potential is_floating is_in is_neighbour kind_touching on_arrow arrow_block blocks_touched kind_at kinds_of has view_with view block in_reach reach disturbing fence_at fence or_else reason_if first_found_of each reason1_at reason1 reason2_at reason2 pairs_from pairs fits block_name reason_grow reason3_at reason4_at reason4a_at reason34 reason5 find_reason
+unfolding range upto member once size cells_of row col only up down left right neighbours touches rename join join_all edges labels group names empty square undecided potential is_floating is_in is_neighbour kind_touching on_arrow arrow_block blocks_touched kind_at kinds_of has view_with view block in_reach reach disturbing fence_at fence or_else reason_if first_found_of each reason1_at reason1 reason2_at reason2 pairs_from pairs fits block_name reason_grow reason3_at reason4_at reason4a_at reason34 reason5 find_reason
 tempting = refl

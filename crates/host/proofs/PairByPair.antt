@@ -50,5 +50,5 @@ pub pair_by_pair :
     ∷ some ((6, 1) ∷ (8, 1) ∷ (7, 0) ∷ [])
     ∷ some ((6, 1) ∷ (8, 1) ∷ (7, 0) ∷ [])
     ∷ [])
-unfolding range upto filter any all last init tail flat_map member once size cells_of row col only up down left right neighbours touches rename join join_all edges labels group names empty square undecided potential is_floating is_in is_neighbour kind_touching on_arrow arrow_block blocks_touched kind_at kinds_of has view_with view block float_near in_reach reach disturbing fence_at fence or_else reason_if first_found_of each reason1_at reason1 appended breadth_first parent path reason2_at reason2 pairs_from pairs fits most_apart block_name reason_grow reason3_at gap reason_shrink reason4_at reason4a_at reason4b_at reason34 reason5 find_reason
+unfolding range upto last init tail member once size cells_of row col only up down left right neighbours touches rename join join_all edges labels group names empty square undecided potential is_floating is_in is_neighbour kind_touching on_arrow arrow_block blocks_touched kind_at kinds_of has view_with view block float_near in_reach reach disturbing fence_at fence or_else reason_if first_found_of each reason1_at reason1 appended breadth_first parent path reason2_at reason2 pairs_from pairs fits most_apart block_name reason_grow reason3_at gap reason_shrink reason4_at reason4a_at reason4b_at reason34 reason5 find_reason
 pair_by_pair = refl

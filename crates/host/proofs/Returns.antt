@@ -341,7 +341,6 @@ not_count (suc n) c h e = let z : ◌≡◌ {A = ℕ} 0 1 = cc in omega arith
 
 -- 6, 8 and 10 are no refusals of the call
 other : (n : ℕ) → Memᴰ n (6 ∷ 8 ∷ 10 ∷ []) → (0 < n) × (among n host_refusals ≡ false)
-unfolding all
 other n m =
     let t = and-true (ltb 0 n) (not (among n host_refusals)) (all-mem (λ j. ltb 0 j && not (among j host_refusals)) (6 ∷ 8 ∷ 10 ∷ []) refl n m) in
     (ltb-true 0 n t.0, not-true (among n host_refusals) t.1)

@@ -43,5 +43,5 @@ pub shaded :
     ∷ refused 9
     ∷ refused 12
     ∷ [])
-unfolding range upto filter any flat_map member size cells_of col only up down left right neighbours rename join join_all edges labels group ◌>>=◌ unless bit number field cell_codes there step_from step_cells arrow_at filler arrows_at read_record value_at cells_after square decided after refusal accept_or decide_bytes block_first block_count shade_of shades_on bytes_of host_shades
+unfolding range upto member size cells_of col only up down left right neighbours rename join join_all edges labels group ◌>>=◌ unless bit number field cell_codes there step_from step_cells arrow_at filler arrows_at read_record value_at cells_after square decided after refusal accept_or decide_bytes block_first block_count shade_of shades_on bytes_of host_shades
 shaded = refl

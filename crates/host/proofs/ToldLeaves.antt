@@ -54,12 +54,12 @@ pub searched :
     ∷ ok (record { boards = (1 ∷ 0 ∷ 1 ∷ 0 ∷ 0 ∷ 1 ∷ []) ∷ []; steps = 63 })
     ∷ ok (record { boards = []; steps = 17 })
     ∷ [])
-unfolding range upto filter any all last init tail flat_map member how_many once size cells_of row col only up down left right neighbours touches rename join join_all edges labels group names ◌>>=◌ unless bit number field cell_codes there step_from step_cells arrow_at filler arrows_at read_record is_edition ranges_from sizes_of leaf_of empty square undecided potential is_floating is_in is_neighbour kind_touching on_arrow arrow_block blocks_touched kind_at kinds_of has view_with view block float_near in_reach reach disturbing fence_at fence or_else reason_if first_found_of each reason1_at reason1 appended breadth_first parent path reason2_at reason2 pairs_from pairs fits more_test one_test grown_test rules_test most_apart block_name reason_grow reason3_at gap reason_shrink reason4_at reason4a_at reason4b_at reason34 reason5 find_reason keeps keeps_all two_squares all_but_rules finished_test lowest counted both stepped search_in search_of
+unfolding range upto last init tail member how_many once size cells_of row col only up down left right neighbours touches rename join join_all edges labels group names ◌>>=◌ unless bit number field cell_codes there step_from step_cells arrow_at filler arrows_at read_record is_edition ranges_from sizes_of leaf_of empty square undecided potential is_floating is_in is_neighbour kind_touching on_arrow arrow_block blocks_touched kind_at kinds_of has view_with view block float_near in_reach reach disturbing fence_at fence or_else reason_if first_found_of each reason1_at reason1 appended breadth_first parent path reason2_at reason2 pairs_from pairs fits more_test one_test grown_test rules_test most_apart block_name reason_grow reason3_at gap reason_shrink reason4_at reason4a_at reason4b_at reason34 reason5 find_reason keeps keeps_all two_squares all_but_rules finished_test lowest counted both stepped search_in search_of
 searched = refl
 
 -- in edition 2 there are two, in the search's order: square before empty
 pub free_growth : boards_from grid23 2 (2 ∷ 2 ∷ 2 ∷ 2 ∷ 2 ∷ 2 ∷ []) ≡ ok ((1 ∷ 0 ∷ 1 ∷ 0 ∷ 1 ∷ 1 ∷ []) ∷ (1 ∷ 0 ∷ 1 ∷ 0 ∷ 0 ∷ 1 ∷ []) ∷ [])
-unfolding range upto filter any all last init tail flat_map member how_many once size cells_of row col only up down left right neighbours touches rename join join_all edges labels group names ◌>>=◌ unless bit number field cell_codes there step_from step_cells arrow_at filler arrows_at read_record is_edition ranges_from sizes_of leaf_of empty square undecided potential is_floating is_in is_neighbour kind_touching on_arrow arrow_block blocks_touched kind_at kinds_of has view_with view block float_near in_reach reach disturbing fence_at fence or_else reason_if first_found_of each reason1_at reason1 appended breadth_first parent path reason2_at reason2 pairs_from pairs fits more_test one_test grown_test rules_test most_apart block_name reason_grow reason3_at gap reason_shrink reason4_at reason4a_at reason4b_at reason34 reason5 find_reason keeps keeps_all two_squares all_but_rules finished_test lowest counted both stepped search_in search_of
+unfolding range upto last init tail member how_many once size cells_of row col only up down left right neighbours touches rename join join_all edges labels group names ◌>>=◌ unless bit number field cell_codes there step_from step_cells arrow_at filler arrows_at read_record is_edition ranges_from sizes_of leaf_of empty square undecided potential is_floating is_in is_neighbour kind_touching on_arrow arrow_block blocks_touched kind_at kinds_of has view_with view block float_near in_reach reach disturbing fence_at fence or_else reason_if first_found_of each reason1_at reason1 appended breadth_first parent path reason2_at reason2 pairs_from pairs fits more_test one_test grown_test rules_test most_apart block_name reason_grow reason3_at gap reason_shrink reason4_at reason4a_at reason4b_at reason34 reason5 find_reason keeps keeps_all two_squares all_but_rules finished_test lowest counted both stepped search_in search_of
 free_growth = refl
 
 -- the bytes: the steps, and behind them the cells where they are told; no such board; spent one step short, and with a budget of 0; then the refusals in
@@ -88,5 +88,5 @@ pub certain_bytes_lem :
     ∷ refused 7
     ∷ refused 9
     ∷ [])
-unfolding range upto filter any all last init tail flat_map member how_many once size cells_of row col only up down left right neighbours touches rename join join_all edges labels group names ◌>>=◌ unless bit number field cell_codes there step_from step_cells arrow_at filler arrows_at read_record is_edition ranges_from sizes_of leaf_of empty square undecided potential is_floating is_in is_neighbour kind_touching on_arrow arrow_block blocks_touched kind_at kinds_of has view_with view block float_near in_reach reach disturbing fence_at fence or_else reason_if first_found_of each reason1_at reason1 appended breadth_first parent path reason2_at reason2 pairs_from pairs fits more_test one_test grown_test rules_test most_apart block_name reason_grow reason3_at gap reason_shrink reason4_at reason4a_at reason4b_at reason34 reason5 find_reason keeps keeps_all two_squares all_but_rules finished_test lowest counted both stepped search_in search_of value_at cells_after decided after refusal accept_or decide_bytes array_of seen fact_of facts_in certainty untold known certain_by bytes_of certainty_number step_bytes certain_bytes said_of host_certain
+unfolding range upto last init tail member how_many once size cells_of row col only up down left right neighbours touches rename join join_all edges labels group names ◌>>=◌ unless bit number field cell_codes there step_from step_cells arrow_at filler arrows_at read_record is_edition ranges_from sizes_of leaf_of empty square undecided potential is_floating is_in is_neighbour kind_touching on_arrow arrow_block blocks_touched kind_at kinds_of has view_with view block float_near in_reach reach disturbing fence_at fence or_else reason_if first_found_of each reason1_at reason1 appended breadth_first parent path reason2_at reason2 pairs_from pairs fits more_test one_test grown_test rules_test most_apart block_name reason_grow reason3_at gap reason_shrink reason4_at reason4a_at reason4b_at reason34 reason5 find_reason keeps keeps_all two_squares all_but_rules finished_test lowest counted both stepped search_in search_of value_at cells_after decided after refusal accept_or decide_bytes array_of seen fact_of facts_in certainty untold known certain_by bytes_of certainty_number step_bytes certain_bytes said_of host_certain
 certain_bytes_lem = refl

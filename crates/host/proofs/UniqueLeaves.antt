@@ -88,5 +88,5 @@ pub one_solution :
     ∷ told 1 [] (words ++ (0 ∷ []))
     ∷ [])
     (pos 1 ∷ map (λ k. neg_ℤ (pos k)) (29 ∷ []) ++ (pos 1 ∷ map (λ k. neg_ℤ (pos k)) (16 ∷ 22 ∷ 23 ∷ 24 ∷ 25 ∷ 26 ∷ 27 ∷ 28 ∷ 30 ∷ 30 ∷ [])))
-unfolding range upto filter any all last init tail flat_map member how_many once array_of size cells_of row col only up down left right neighbours touches rename join join_all edges labels group names ◌>>=◌ unless bit number field cell_codes there step_cells arrow_at filler arrows_at read_record is_edition ranges_from sizes_of empty square undecided potential is_floating is_in is_neighbour kind_touching on_arrow arrow_block blocks_touched kind_at kinds_of has view_with view block float_near in_reach reach disturbing fence_at fence or_else reason_if first_found_of each reason1_at reason1 appended breadth_first parent path reason2_at reason2 pairs_from pairs fits more_test one_test grown_test rules_test most_apart block_name reason_grow reason3_at gap reason_shrink reason4_at reason4a_at reason4b_at reason34 reason5 find_reason keeps keeps_all two_squares all_but_rules finished_test sized_test reason_low reason_high reason5_at records.step_from range_test leaf_from numbers_in sizes_in word_at words_of whole_words literal whole earlier look_step look_from hint_of assume_from follow_from hints_from step_from head_word head_at claimed headed base_cell base_of two_open lonely has_reason refuted close_of step_of steps_from solution_or host_unique unique_returned
+unfolding range upto last init tail member how_many once array_of size cells_of row col only up down left right neighbours touches rename join join_all edges labels group names ◌>>=◌ unless bit number field cell_codes there step_cells arrow_at filler arrows_at read_record is_edition ranges_from sizes_of empty square undecided potential is_floating is_in is_neighbour kind_touching on_arrow arrow_block blocks_touched kind_at kinds_of has view_with view block float_near in_reach reach disturbing fence_at fence or_else reason_if first_found_of each reason1_at reason1 appended breadth_first parent path reason2_at reason2 pairs_from pairs fits more_test one_test grown_test rules_test most_apart block_name reason_grow reason3_at gap reason_shrink reason4_at reason4a_at reason4b_at reason34 reason5 find_reason keeps keeps_all two_squares all_but_rules finished_test sized_test reason_low reason_high reason5_at records.step_from range_test leaf_from numbers_in sizes_in word_at words_of whole_words literal whole earlier look_step look_from hint_of assume_from follow_from hints_from step_from head_word head_at claimed headed base_cell base_of two_open lonely has_reason refuted close_of step_of steps_from solution_or host_unique unique_returned
 one_solution = refl

@@ -1,4 +1,5 @@
-// The calls for Rust and C, each thin over the crate that has it. `host_c` exports them.
+// The calls for Rust and C, each thin over the crate that has it. `host_c` exports them. Each exported name has its function here, also where two
+// differ in an edition and sizes alone: C has both names.
 #![tactic(auto)]
 
 ghost use Rattle.std.specs.Prelude.{◌≡◌, length};

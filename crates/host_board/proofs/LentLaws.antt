@@ -18,7 +18,7 @@ use Rattle.grid.proofs.SideLaws.{area as area_most}
 use Rattle.grid.proofs.ListLaws.{split}
 use Rattle.std.specs.Prelude.{Option, Some, None, Ok, Err, ⊤}
 use Rattle.std.specs.Option.{unwrap_or}
-use Rattle.std.specs.Result.{OkIff, IsOkAnd, MatchResult, result_and, result_unwrap_or}
+use Rattle.std.specs.Result.{OkIff, IsOkAnd, ForOk, MatchResult, result_and, result_unwrap_or}
 use Rattle.std.specs.declared.result.Result.{Result}
 use Rattle.refusal.specs.Refusals.{outcome_of, returned_of}
 use Rattle.refusal.specs.declared.Refusal.{Refusal}
@@ -104,21 +104,39 @@ pub answer_returned : (r : Result ⊤ Refusal) (s : Result ℕ Refusal) (a : Ans
 answer_returned (Ok u) s a e h = rw e (answer_done a h)
 answer_returned (Err k) s a e h = rw e (answer_refused a h)
 
-pub few_found : (o : Option ℕ) (d : ℕ) → d < 2147483648 → ((k : ℕ) → o ≡ Some k → k < 2147483648) → unwrap_or o d < 2147483648
+few_found : (o : Option ℕ) (d : ℕ) → d < 2147483648 → ((k : ℕ) → o ≡ Some k → k < 2147483648) → unwrap_or o d < 2147483648
 few_found None d l h = l
 few_found (Some k) d l h = h k refl
 
-pub finding_found : (f : Finding) (o : Option ℕ) → ok o ≡ found_as f → pos (unwrap_or o 0) ≡ finding_number f
+finding_found : (f : Finding) (o : Option ℕ) → ok o ≡ found_as f → pos (unwrap_or o 0) ≡ finding_number f
 unfolding finding_number
 finding_found findings.Nothing o e = let z : o ≡ None = cc in rw z refl
 finding_found (findings.Reason k) o e = let z : o ≡ Some k = cc in rw z refl
 finding_found (findings.Refused k) o e = let z : ◌≡◌ {A = ℕ} 0 1 = cc in absurd (omega arith)
 
-pub finding_refused : (f : Finding) {k : ℕ} → refused k ≡ found_as f → neg_ℤ (pos k) ≡ finding_number f
+finding_refused : (f : Finding) {k : ℕ} → refused k ≡ found_as f → neg_ℤ (pos k) ≡ finding_number f
 unfolding finding_number
 finding_refused findings.Nothing e = let z : ◌≡◌ {A = ℕ} 0 1 = cc in absurd (omega arith)
 finding_refused (findings.Reason n) e = let z : ◌≡◌ {A = ℕ} 0 1 = cc in absurd (omega arith)
 finding_refused (findings.Refused j) {k} e = let z : j ≡ k = cc in rw z refl
+
+-- the count of literals that is returned for a finding, which is small where that of each reason is
+module _ (r : Result (Option ℕ) Refusal) (s : Result ℕ Refusal) (m : MatchResult r (λ o. IsOkAnd s (λ n. n ≡ unwrap_or o 0)) (λ e. s ≡ Err e)) where
+  pub finding_returned : (f : Finding) → outcome_of r ≡ found_as f → returned_of s ≡ finding_number f
+  finding_returned f = go r s m
+    where
+      go : (r : Result (Option ℕ) Refusal) (s : Result ℕ Refusal) → MatchResult r (λ o. IsOkAnd s (λ n. n ≡ unwrap_or o 0)) (λ e. s ≡ Err e) → outcome_of r ≡ found_as f → returned_of s ≡ finding_number f
+      go (Ok o) (Ok n) m e = rw m (finding_found f o e)
+      go (Ok o) (Err x) m e = absurd m
+      go (Err x) s m e = rw m (finding_refused f e)
+
+  pub finding_few : ((k : ℕ) → outcome_of r ≡ ok (Some k) → k < 2147483648) → ForOk s (λ n. n < 2147483648)
+  finding_few = go r s m
+    where
+      go : (r : Result (Option ℕ) Refusal) (s : Result ℕ Refusal) → MatchResult r (λ o. IsOkAnd s (λ n. n ≡ unwrap_or o 0)) (λ e. s ≡ Err e) → ((k : ℕ) → outcome_of r ≡ ok (Some k) → k < 2147483648) → ForOk s (λ n. n < 2147483648)
+      go (Ok o) (Ok n) m few = λ x e. let z : n ≡ x = cc in omega (arith, sym z, m, few_found o 0 (omega arith) (λ k q. few k (ap ok q)))
+      go (Ok o) (Err y) m few = absurd m
+      go (Err y) s m few = λ x e. let z : ◌≡◌ {A = ℕ} 0 1 = cc in absurd (omega arith)
 
 pub count_returned : (r : Result ℕ Refusal) (o : Outcome ℕ) → outcome_of r ≡ o → returned_of r ≡ count_number o
 unfolding count_number

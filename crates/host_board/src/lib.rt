@@ -30,10 +30,7 @@ pub fn finding_number(finding: Result<Option<usize>, Refusal>) -> i32
     requires { (k : ℕ) → outcome_of finding ≡ ok (Some k) → k < 2 ^ 31 }
     ensures { (f : Finding) → outcome_of finding ≡ found_as f → result ≡ finding_number f }
 {
-    match finding {
-        Ok(found) => returned(Ok(found.unwrap_or(0))),
-        Err(refusal) => returned(Err(refusal)),
-    }
+    returned(finding.map(|found| found.unwrap_or(0)))
 }
 
 // Opens a record in an edition with sizes, in the memory of a board that a refusal leaves as it was. Refused: 1 to 5 for the record, 16 for another edition
@@ -42,7 +39,7 @@ pub fn open_in(board: &mut Board, record: &[u8], edition: u32, sizes: &[u16]) ->
     ensures { (outcome_of result ≡ done_as (open_of «record».now edition sizes.now).answer)
         × (board.new ≡ after_open board.old (open_of «record».now edition sizes.now)) }
 {
-    // 0 is no edition either
+    // 0 is no edition either.
     let edition = u8::try_from(edition).unwrap_or(0);
     let fresh = Board::open(record, edition, sizes)?;
     *board = fresh;
@@ -89,7 +86,7 @@ fn hints_taken(board: &Board, player: u8) -> Result<usize, Refusal>
     if !board.is_formed() {
         return Err(Refusal::Board);
     }
-    if 3 < player {
+    if Board::PLAYERS <= usize::from(player) {
         return Err(Refusal::Player);
     }
     Ok(usize::from(board.hints[usize::from(player)]))

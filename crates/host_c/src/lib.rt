@@ -1,4 +1,5 @@
-// The calls that are exported for Rust and C: each is the function of `host` that has its name, and promises the same.
+// The calls that are exported for Rust and C: each is the function of `host` that has its name, and promises the same. Each stands once more here, since
+// a crate is a library, which others may call, or a static library with functions for C, and not both.
 #![tactic(auto)]
 
 ghost use Rattle.std.specs.Prelude.{◌≡◌, length};

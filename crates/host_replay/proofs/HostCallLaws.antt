@@ -42,10 +42,6 @@ module _ (s decisions : List ℕ) (size : ℕ) (small : size ≤ 8000) (array : 
   returned_so = rw part_long at h
 
   module _ (expected : ℤ) (said : ℕ → ℕ) where
-    -- another number than the one that is expected
-    pub other_number : (of_z w32 r ≡ of_z w32 expected → ⊥) → DiffersUnless (not (eqb (of_z w32 r) (of_z w32 expected))) (CallSo s decisions size expected said)
-    other_number d = fails_so (not (eqb (of_z w32 r) (of_z w32 expected))) (rw (ne_eqb _ _ d)) (λ x. d (ap (of_z w32) (returned_so ∙ x.0)))
-
     -- the array, put together again
     left_so : (output : List ℕ) → output ≡ output_after (host_finds s decisions (length (mid_of 64 (64 + size - 64) array))) (mid_of 64 (64 + size - 64) array) → put_mid 64 (64 + size - 64) array output ≡ left s decisions size
     unfolding left

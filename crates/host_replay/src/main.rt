@@ -20,34 +20,12 @@ const BEFORE: u8 = 170;
 // So many places of the array are before the output.
 const GUARD: usize = 64;
 
-// The number of a refusal, negated, and a number that is never returned where there is no such refusal.
-fn refused(k: usize) -> i32 {
-    if (1..=12).contains(&k) {
-        return -(k as i32);
-    }
-    -13
-}
-
-// The number that a call with these two halves in the list returns.
-fn expected_number(high: usize, low: usize) -> i32
-    requires { low < 65536 }
-{
-    match high {
-        0 => low as i32,
-        65535 => refused(65536 - low),
-        _ => refused(0),
-    }
-}
-
-// How many bytes of literals go with these two halves.
-fn literal_bytes(high: usize, low: usize) -> usize
-    requires { low < 65536 }
+// How many bytes of literals go with the number that is returned: two for each where it counts them, none where it is negative, or above each count
+// that is ever returned.
+fn literal_bytes(expected: i32) -> usize
     ensures { result < 131072 }
 {
-    if high == 0 {
-        return 2 * low;
-    }
-    0
+    u16::try_from(expected).map_or(0, |count| 2 * usize::from(count))
 }
 
 // A host call with an output of this size, of which the list says the number that is returned and so many bytes of literals, those at the cursor.
@@ -95,10 +73,9 @@ impl Entries for Calls {
         let bytes = cursor.counted()?;
         let decisions = cursor.counted()?;
         let size = cursor.number()?;
-        let high = cursor.number()?;
-        let low = cursor.number()?;
+        let expected = i32::from_be_bytes(*cursor.take(4)?.first_chunk()?);
         let literals = cursor;
-        let count = literal_bytes(high, low);
+        let count = literal_bytes(expected);
         cursor.take(count)?;
         if 8000 < size {
             return None;
@@ -107,7 +84,7 @@ impl Entries for Calls {
             record: bytes,
             decisions,
             size,
-            expected: expected_number(high, low),
+            expected,
             literals,
             count,
         };
@@ -115,6 +92,7 @@ impl Entries for Calls {
     }
 }
 
+// One line in each program that replays a list: `replay::replay` does the rest, and the entries and their words are the program's own.
 fn main(rt: HostRuntime) -> io::Result<()> {
-    replay::replay::<Calls, _, _>(rt.reader(), &mut io::writer(&rt), " calls, ", "")
+    replay::replay::<Calls, _, _>(rt.reader(), &mut io::writer(&rt), " calls, ", None)
 }

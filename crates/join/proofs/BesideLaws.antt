@@ -21,6 +21,7 @@ use Rattle.record.specs.declared.Problem.{Problem}
 use Rattle.record.proofs.LinesLaws.{Lines-of, problem_Lines}
 use Rattle.record.proofs.ProblemLaws.{length_ends}
 use Rattle.record.proofs.RecordLaws.{Valid-size}
+use Rattle.form.proofs.AcceptedLaws.{Kept}
 use Rattle.writer.proofs.ArrayLaws.{ends_map, cells_map, total_is, few, Parts, parts}
 use Rattle.join.specs.Join.{placed, code_beside, joined_grid, left_cell, right_cell, codes_beside, joined}
 use Rattle.join.specs.Inside.{SideBySide, Placing, code_on, Behind}
@@ -33,7 +34,7 @@ unfolding arrow_cells
 cells_append = flat_map-append (λ a. a)
 
 ends_append : (at : ℕ) (as' bs : List (List ℕ)) → ends_from at (as' ++ bs) ≡ ends_from at as' ++ ends_from (at + length (arrow_cells as')) bs
-unfolding ends_from arrow_cells flat_map
+unfolding ends_from arrow_cells
 ends_append at [] bs = let e : at ≡ at + 0 = omega arith in ap (λ (k : ℕ). ends_from k bs) e
 ends_append at (a ∷ as') bs =
     let r = ends_append (at + length a) as' bs in
@@ -176,29 +177,34 @@ pub same_width : (p : Puzzle) (l : Problem) → l ≡ problem_of p → l.width �
 unfolding problem_of
 same_width p l e = ap (λ (x : Problem). x.width) e
 
-module _ (p q : Puzzle) (v : Valid p) (w : Valid q) (l r : Problem) (e : l ≡ problem_of p) (f : r ≡ problem_of q) where
+module _ {p q : Puzzle} {l r : Problem} (left : Kept p l) (right : Kept q r) where
   pub level_of : l.height ≡ r.height → p.grid.height ≡ q.grid.height
-  level_of h = sym (same_height p l e) ∙ h ∙ same_height q r f
+  level_of h = sym (same_height p l left.arrays) ∙ h ∙ same_height q r right.arrays
 
   pub wide_of : l.width + 1 + r.width ≤ 32 → (joined_grid p q).width ≤ 32
-  wide_of k = omega (arith, k, same_width p l e, same_width q r f)
+  wide_of k = omega (arith, k, same_width p l left.arrays, same_width q r right.arrays)
 
-  pub built : l.height ≡ r.height → l.width + 1 + r.width ≤ 32 → (a n : ℕ) (codes first line ends : List ℕ) → Built l r a n codes first line ends
-      → after_built l r codes line ends ≡ problem_of (joined p q)
-  built h k =
-      subst (λ x. (a n : ℕ) (codes first line ends : List ℕ) → Built x r a n codes first line ends → after_built x r codes line ends ≡ problem_of (joined p q)) (sym e)
-      (subst (λ y. (a n : ℕ) (codes first line ends : List ℕ) → Built (problem_of p) y a n codes first line ends → after_built (problem_of p) y codes line ends ≡ problem_of (joined p q)) (sym f)
-      (Built-of p q v w (level_of h) (wide_of k)))
+  module _ (level : p.grid.height ≡ q.grid.height) (wide : (joined_grid p q).width ≤ 32) where
+    pub fit : Fit l r
+    fit =
+        let n = room_of p q left.valid right.valid level wide in
+        let m = subst (λ x. (total_of x + total_of r ≤ 1024) × (x.count + r.count ≤ 1024)) (sym left.arrays)
+        (subst (λ y. (total_of (problem_of p) + total_of y ≤ 1024) × ((problem_of p).count + y.count ≤ 1024)) (sym right.arrays) n) in
+        record {
+          left = parts p left.valid l left.arrays;
+          right = parts q right.valid r right.arrays;
+          wide = omega (arith, wide, same_width p l left.arrays, same_width q r right.arrays);
+          line = m.0;
+          count = m.1;
+          ends = (problem_Lines q right.valid r right.arrays).room;
+        }
 
-  Fit-of : l.height ≡ r.height → l.width + 1 + r.width ≤ 32 → Fit l r
-  Fit-of h k =
-      let n = room_of p q v w (level_of h) (wide_of k) in
-      let m = subst (λ x. (total_of x + total_of r ≤ 1024) × (x.count + r.count ≤ 1024)) (sym e)
-      (subst (λ y. (total_of (problem_of p) + total_of y ≤ 1024) × ((problem_of p).count + y.count ≤ 1024)) (sym f) n) in
-      record { left = parts p v l e; right = parts q w r f; wide = k; line = m.0; count = m.1; ends = (problem_Lines q w r f).room }
-
-pub fit : {l r : Problem} → ((p : Puzzle) × Valid p × (l ≡ problem_of p)) × ((q : Puzzle) × Valid q × (r ≡ problem_of q)) × (l.height ≡ r.height) × (l.width + 1 + r.width ≤ 32) → Fit l r
-fit {l} {r} ((p, v, e), (q, w, f), h, k) = Fit-of p q v w l r e f h k
+    -- what is built of the two is the arrays of the joined puzzle
+    pub built : {a n : ℕ} {codes first line ends : List ℕ} → Built l r a n codes first line ends → after_built l r codes line ends ≡ problem_of (joined p q)
+    built {a} {n} {codes} {first} {line} {ends} =
+        subst (λ x. Built x r a n codes first line ends → after_built x r codes line ends ≡ problem_of (joined p q)) (sym left.arrays)
+        (subst (λ y. Built (problem_of p) y a n codes first line ends → after_built (problem_of p) y codes line ends ≡ problem_of (joined p q)) (sym right.arrays)
+        (Built-of p q left.valid right.valid level wide a n codes first line ends))
 
 -- an arrow cell has its place
 pub places : (l : Problem) → Parts l → (d m : ℕ) → d + l.width ≤ m → m ≤ 32 → (n : ℕ) → n ≡ total_of l → (t : ℕ) → t < n → Placing d l.width m (get_or l.arrows t 0)

@@ -57,7 +57,7 @@ pub joins :
     ∷ refused 19
     ∷ refused 15
     ∷ [])
-unfolding range upto any flat_map member size cells_of row col only up down left right ◌>>=◌ unless bit number field there step_from filler cell_codes step_cells arrow_at arrows_at read_record bits_of value_of pack direction step_bits arrow_bits record_bits write_record placed code_beside codes_beside join_puzzles join_record
+unfolding range upto member size cells_of row col only up down left right ◌>>=◌ unless bit number field there step_from filler cell_codes step_cells arrow_at arrows_at read_record bits_of value_of pack direction step_bits arrow_bits record_bits write_record placed code_beside codes_beside join_puzzles join_record
 joins = refl
 
 -- of a board of 2 by 4 cells, each with its own number here: the halves of 2 by 1 and 2 by 2, beside the column 1

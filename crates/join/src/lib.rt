@@ -3,13 +3,12 @@
 
 ghost use Rattle.std.specs.Prelude.{◌≡◌, map, ℕ, ◌+◌, ◌*◌, ◌≤◌, length, All};
 ghost use Rattle.grid.specs.Lists.{upto, array_of};
-ghost use Rattle.record.specs.Record.{Puzzle};
-ghost use Rattle.record.specs.Valid.{Valid};
 ghost use Rattle.record.specs.Problem.{problem_of};
 ghost use Rattle.exported.specs.Written.{written, output_with, Writes};
 ghost use Rattle.join.specs.Join.{placed, code_beside, joined, join_puzzles, join_record};
 ghost use Rattle.join.specs.Inside.{SideBySide, Spot, Placing, code_on, Gives, Behind};
 
+use form::accepted::Accepted;
 use record::{BLACK, Problem};
 use refusal::Refusal;
 
@@ -48,7 +47,7 @@ fn code_at(left: &Problem, right: &Problem, y: usize, x: usize) -> u8
     right.cells[y * right.width + (x - (left.width + 1))]
 }
 
-// The codes of the joined grid.
+// The codes of the joined grid. By index: of places that are written through `iter_mut().enumerate()` a proof does not know what they hold.
 fn join_codes(left: &Problem, right: &Problem) -> [u8; 1024]
     requires { SideBySide left.now.height left.now.width right.now.width }
     ensures { result ≡ array_of 0 (map (code_on left.now right.now) (upto (left.now.height * (left.now.width + 1 + right.now.width)))) }
@@ -61,7 +60,7 @@ fn join_codes(left: &Problem, right: &Problem) -> [u8; 1024]
     codes
 }
 
-// Puts what F makes of each number of a list behind the first `at` numbers of an array.
+// Puts what F makes of each number of a list behind the first `at` numbers of an array, by their places as in `join_codes`.
 fn append<F: Fn(u16) -> u16>(list: &[u16], at: usize, line: &mut [u16; 1024], each: F)
     requires { (at + length list.now ≤ 1024) × All (F.pre each) list.now }
     ensures { (G : ℕ → ℕ) → Gives (F.post each) G list.now → Behind at G list.now line.old line.new }
@@ -71,71 +70,82 @@ fn append<F: Fn(u16) -> u16>(list: &[u16], at: usize, line: &mut [u16; 1024], ea
     }
 }
 
-// The joined problem.
-fn put_beside(left: &Problem, right: &Problem) -> Problem
-    requires { ((p : Puzzle) × Valid p × (left.now ≡ problem_of p)) × ((q : Puzzle) × Valid q × (right.now ≡ problem_of q))
-        × (left.now.height ≡ right.now.height) × (left.now.width + 1 + right.now.width ≤ 32) }
-    ensures { (p q : Puzzle) → Valid p → Valid q → left.now ≡ problem_of p → right.now ≡ problem_of q → result ≡ problem_of (joined p q) }
+// The joined puzzle, in arrays.
+fn put_beside(left: &Accepted, right: &Accepted) -> Problem
+    requires level { left.now.grid.height ≡ right.now.grid.height }
+    requires wide { left.now.grid.width + 1 + right.now.grid.width ≤ 32 }
+    ensures { result ≡ problem_of (joined left.now right.now) }
 {
-    let width = left.width + 1 + right.width;
-    let left_total = left.arrow_total();
-    let right_total = right.arrow_total();
+    let first = &left.problem;
+    let second = &right.problem;
+    let width = first.width + 1 + second.width;
+    let left_total = first.arrow_total();
+    let right_total = second.arrow_total();
     let here = Stand {
         from: 0,
-        width: left.width,
+        width: first.width,
         total: width,
     };
     let there = Stand {
-        from: left.width + 1,
-        width: right.width,
+        from: first.width + 1,
+        width: second.width,
         total: width,
     };
-    let first = &left.arrows[..left_total];
-    let second = &right.arrows[..right_total];
     let mut arrows = [0; 1024];
-    append(first, 0, &mut arrows, |i| here.place(i));
-    append(second, left_total, &mut arrows, |i| there.place(i));
-    let later = &right.ends[..right.count];
+    append(&first.arrows[..left_total], 0, &mut arrows, |i| {
+        here.place(i)
+    });
+    append(
+        &second.arrows[..right_total],
+        left_total,
+        &mut arrows,
+        |i| { there.place(i) },
+    );
     let by = left_total as u16;
-    let mut ends = left.ends;
-    append(later, left.count, &mut ends, |end| by + end);
+    let mut ends = first.ends;
+    append(
+        &second.ends[..second.count],
+        first.count,
+        &mut ends,
+        |end| { by + end },
+    );
     Problem {
-        height: left.height,
+        height: first.height,
         width,
-        cells: join_codes(left, right),
+        cells: join_codes(first, second),
         arrows,
         ends,
-        count: left.count + right.count,
+        count: first.count + second.count,
     }
 }
 
-// Joins two problems into a lent output: 18 for unequal heights, 19 for a joined width above 32, 15 for an output that is too short.
-fn write_joined(left: &Problem, right: &Problem, output: &mut [u8]) -> Result<usize, Refusal>
-    requires { ((p : Puzzle) × Valid p × (left.now ≡ problem_of p)) × ((q : Puzzle) × Valid q × (right.now ≡ problem_of q)) }
-    ensures { (p q : Puzzle) → Valid p → Valid q → left.now ≡ problem_of p → right.now ≡ problem_of q
-        → Writes (join_puzzles (length output.old) p q) result output.old output.new }
+// Joins two puzzles into a lent output: 18 for unequal heights, 19 for a joined width above 32, 15 for an output that is too short.
+fn write_joined(left: &Accepted, right: &Accepted, output: &mut [u8]) -> Result<usize, Refusal>
+    ensures { Writes (join_puzzles (length output.old) left.now right.now) result output.old output.new }
 {
-    let width = left.width + 1 + right.width;
-    if left.height != right.height {
+    let width = left.problem.width + 1 + right.problem.width;
+    if left.problem.height != right.problem.height {
         return Err(Refusal::UnequalHeights);
     }
     if 32 < width {
         return Err(Refusal::TooWide);
     }
-    let whole = put_beside(left, right);
-    let length = whole.record_length();
+    let whole = Accepted {
+        problem: put_beside(left, right),
+    };
+    let length = whole.problem.record_length();
     if output.len() < length {
         return Err(Refusal::RecordOutputShort);
     }
-    Ok(writer::write(whole, output))
+    Ok(writer::write(&whole, output))
 }
 
 // Joins two records into a lent output: the left's own refusals, the right's, and then those of the two puzzles.
 fn join_records(left: &[u8], right: &[u8], output: &mut [u8]) -> Result<usize, Refusal>
     ensures { Writes (join_record (length output.old) left.now right.now) result output.old output.new }
 {
-    let first = Problem::read(left)?;
-    let second = Problem::read(right)?;
+    let first = Accepted::read(left)?;
+    let second = Accepted::read(right)?;
     write_joined(&first, &second, output)
 }
 

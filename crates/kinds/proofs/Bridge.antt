@@ -11,7 +11,8 @@ use native.Mathlib.Decide.{dec_lt}
 use lib.Dec.{eqb}
 use lib.ListN.{get_or}
 use borrow.Author.Tests.{eqb-true, eq-eqb}
-use Rattle.grid.proofs.ListLaws.{once_one, once-nil, filter-mem, mem-filter, mem-upto, Dec-So, So-false, and-true, true-and, any-mem, mem-any, once-mem, mem-once}
+use Rattle.std.proofs.lemmas.Bool.{and_from}
+use Rattle.grid.proofs.ListLaws.{once_one, once-nil, filter-mem, mem-filter, mem-upto, Dec-So, So-false, and-true, any-mem, mem-any, once-mem, mem-once}
 use Rattle.grid.proofs.GridLaws.{Dec-Adjacent, adj_sym}
 use Rattle.grid.specs.Lists.{filter}
 use Rattle.grid.specs.Grid.{Grid, size, cells_of, neighbours}
@@ -155,7 +156,7 @@ module _ (set : Setting) where
 
   So-arrowed : (f d : ℕ) → So (square cells d) → OnArrow arrows d → block_name d ≡ f → So (arrowed f)
   unfolding arrow_block cells_of
-  So-arrowed f d s a e = mem-any _ (cells_of grid) (mem-upto (size grid) (sq< d s)) (true-and (true-and s (eq-eqb _ _ e)) (So-arrow arrows d a))
+  So-arrowed f d s a e = mem-any _ (cells_of grid) (mem-upto (size grid) (sq< d s)) (and_from _ _ (and_from _ _ s (eq-eqb _ _ e)) (So-arrow arrows d a))
 
   -- a square's block has an arrow cell
   pub arrowed_in : (c : ℕ) → So (square cells c) → So (arrowed (block_name c)) → InArrow (partial_of set) c
@@ -182,7 +183,7 @@ module _ (set : Setting) where
 
   pub so_around : (i d : ℕ) → OnArrow arrows d → Touch (partial_of set) d i → Memᴰ (block_name d) (around i)
   so_around i d a (y, e, l) = subst (λ x. Memᴰ x (around i)) (sym (block_Labels.linked d y l))
-      (Memᴰ.map block_name (mem-filter (λ j. square cells j && arrowed (block_name j)) (neighbours grid i) e.1 (true-and (Linked-end l) (in_arrowed y (d, a, l)))))
+      (Memᴰ.map block_name (mem-filter (λ j. square cells j && arrowed (block_name j)) (neighbours grid i) e.1 (and_from _ _ (Linked-end l) (in_arrowed y (d, a, l)))))
 
   -- the three kinds
   pub in_blk : (a i : ℕ) → So (square cells a) → So (has (is_in (block_name a)) kinds i) → Block (partial_of set) a i

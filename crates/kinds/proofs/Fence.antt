@@ -9,8 +9,9 @@ use native.Mathlib.Omega.{arith}
 use lib.Dec.{eqb}
 use lib.ListN.{length, get_or}
 use borrow.Author.Tests.{eqb-true, eq-eqb}
+use Rattle.std.proofs.lemmas.Bool.{and_from}
 use Rattle.grid.proofs.GridLaws.{Adjacent-touches, adj_sym}
-use Rattle.grid.proofs.ListLaws.{filter-mem, mem-filter, mem-upto, mem-flat_map, So-false, or-So, So-orl, So-orr, and-true, true-and, So-not, any-mem, mem-any}
+use Rattle.grid.proofs.ListLaws.{filter-mem, mem-filter, mem-upto, mem-flat_map, So-false, or-So, So-orl, So-orr, and-true, So-not, any-mem, mem-any}
 use Rattle.grid.specs.Grid.{Grid, size, cells_of, neighbours, Adjacent}
 use Rattle.grid.specs.Link.{Linked}
 use Rattle.grid.proofs.LinkLaws.{Linked-end, Linked-start, Linked-map}
@@ -79,10 +80,10 @@ module _ (set : Setting) where
   So-Reach a i ar (inr (inl m)) = So-orl _ (So-orr (has (is_in (block_name set a)) ks i) (nbr_beside set a i ar m))
   So-Reach a i ar (inr (inr (m, f, nb, e, l))) =
       let k = float' f i l in
-      So-orr (has (is_in (block_name set a)) ks i || has (is_neighbour (block_name set a)) ks i) (true-and (Linked-end k)
+      So-orr (has (is_in (block_name set a)) ks i || has (is_neighbour (block_name set a)) ks i) (and_from _ _ (Linked-end k)
       (mem-any _ (cells_of grid) (mem-upto (size grid) (un< set m nb.0))
-      (true-and (nbr_beside set a m ar nb)
-      (mem-any _ (neighbours grid m) e.1 (true-and (Linked-start k) (eq-eqb _ _ ((float_Labels set).linked f i k)))))))
+      (and_from _ _ (nbr_beside set a m ar nb)
+      (mem-any _ (neighbours grid m) e.1 (and_from _ _ (Linked-start k) (eq-eqb _ _ ((float_Labels set).linked f i k)))))))
 
   pub reach< : (a i : ℕ) → Reach B a i → i < size grid
   reach< a i (inl b) = sq< set i (Linked-end b)
@@ -155,7 +156,7 @@ module _ (set : Setting) where
           let diff : So (not (eqb (block_name set x) (block_name set a))) = So-not _ (λ h. nb ((block_Labels set).same a d sa (Linked-start dx) (sym (eqb-true _ _ h) ∙ sym dn))) in
           let riv : So (disturbing v R (block_name set x)) =
           mem-any _ (cells_of grid) (mem-upto (size grid) (sq< set y (Linked-end dy)))
-          (true-and (subst (λ q. So (has (is_in q) ks y)) dn (blk_in set d y dd dy))
-          (mem-any _ (neighbours grid y) (adj_sym grid u y uy).1 (true-and uu (Adjacent-touches grid R u r (adj_sym grid r u ru) (in_Reach a r ar rr))))) in
+          (and_from _ _ (subst (λ q. So (has (is_in q) ks y)) dn (blk_in set d y dd dy))
+          (mem-any _ (neighbours grid y) (adj_sym grid u y uy).1 (and_from _ _ uu (Adjacent-touches grid R u r (adj_sym grid r u ru) (in_Reach a r ar rr))))) in
           eq-eqb _ _ (at x 1 (sq< set x (Linked-end dx)) (subst (λ q. Memᴰ (x, 1) (fence_at v (block_name set a) R x q)) (sym k)
-          (rw (true-and diff riv) (Memᴰ.head refl))))
+          (rw (and_from _ _ diff riv) (Memᴰ.head refl))))

@@ -11,10 +11,11 @@ use native.Mathlib.Omega.{arith}
 use lib.Dec.{eqb}
 use lib.ListN.{get_or}
 use borrow.Author.Tests.{eqb-true, eq-eqb}
+use Rattle.std.proofs.lemmas.Bool.{and_from}
 use Rattle.grid.specs.Lists.{flat_map}
 use Rattle.grid.specs.Grid.{Grid, size, cells_of, neighbours, touches, Adjacent}
 use Rattle.grid.proofs.LinkLaws.{Linked-start, Linked-end}
-use Rattle.grid.proofs.ListLaws.{and-true, true-and, any-mem, mem-any, flat_map-mem, mem-flat_map, upto-mem, not-So, So-not}
+use Rattle.grid.proofs.ListLaws.{and-true, any-mem, mem-any, flat_map-mem, mem-flat_map, upto-mem, not-So, So-not}
 use Rattle.grid.proofs.GridLaws.{adj_sym, Adjacent-touches, touches-Adjacent, in_cells}
 use Rattle.grid.proofs.RisingLaws.{Rising, nil, cons, cells_Rising}
 use Rattle.grid.specs.Cells.{Literal, square, undecided}
@@ -40,7 +41,6 @@ AtMost-index i l (inr (w, e)) d m = ap index_of (Memᴰ.eq_of_singleton (subst (
 
 -- at most one literal for each of rising indexes
 Rising-flat : (f : ℕ → List Literal) → ((i : ℕ) → AtMost i (f i)) → {l : List ℕ} → Rising l → Rising (map index_of (flat_map f l))
-unfolding flat_map
 Rising-flat f h nil = nil
 Rising-flat f h (cons {x} {xs} low r) = go (f x) (h x) (Rising-flat f h r)
   where
@@ -168,7 +168,7 @@ module _ (set : Setting) where
       Disturbing-in : (i : ℕ) → Disturbing B a i → Memᴰ (i, 1) fence_of
       unfolding fence_at disturbing view view_with
       Disturbing-in i (d, u, r, ad, nb, di, uu, (y, uy, dy), ur, rr) =
-          in_fence i 1 (in_block (block_name set i)) (sq< set i (Linked-end di)) (kind_in set i (d, ad, di)) (rw (true-and other beside_it) (Memᴰ.head refl))
+          in_fence i 1 (in_block (block_name set i)) (sq< set i (Linked-end di)) (kind_in set i (d, ad, di)) (rw (and_from _ _ other beside_it) (Memᴰ.head refl))
         where
           dn : block_name set d ≡ block_name set i
           dn = (block_Labels set).linked d i di
@@ -178,8 +178,8 @@ module _ (set : Setting) where
 
           beside_it : So (disturbing (v set) R (block_name set i))
           beside_it = mem-any _ (cells_of grid) (in_cells grid y (sq< set y (Linked-end dy)))
-              (true-and (subst (λ q. So (has (is_in q) (kinds set) y)) dn (blk_in set d y ad dy))
-              (mem-any _ (neighbours grid y) (adj_sym grid u y uy).1 (true-and uu (Adjacent-touches grid R u r ur (in_Reach set a r arrow rr)))))
+              (and_from _ _ (subst (λ q. So (has (is_in q) (kinds set) y)) dn (blk_in set d y ad dy))
+              (mem-any _ (neighbours grid y) (adj_sym grid u y uy).1 (and_from _ _ uu (Adjacent-touches grid R u r ur (in_Reach set a r arrow rr)))))
 
       -- as 0: every empty cell that touches the reach
       pub fence_Shut : (i : ℕ) → Memᴰ (i, 0) fence_of ↔ Shut B a i

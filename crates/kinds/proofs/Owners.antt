@@ -19,8 +19,8 @@ use Rattle.grid.proofs.ListLaws.{once-nil, once_one, mem-once}
 use Rattle.grid.proofs.AppendLaws.{filter-append}
 use Rattle.kinds.specs.Kinds.{Kind, vacant, barrier, floating, in_block, neighbour, kind_touching}
 use Rattle.kinds.specs.Inside.{meet_of, Owned, nobody, one, many, block_named, arrow_block_at, arrow_blocks_at, kind_in}
-use Rattle.kinds.specs.declared.Owner.{Owner}
-use Rattle.kinds.specs.declared.Owner.TheVariants.{Nobody, One, Many}
+use Rattle.kinds.specs.declared.Touched.{Touched}
+use Rattle.kinds.specs.declared.Touched.TheVariants.{Nobody, One, Many}
 
 -- a name that is told is a block's, and where none is told there is none
 named_some : (f x : ℕ) → Some x ≡ block_named f → (x ≡ f) × (x < 1024)
@@ -40,7 +40,7 @@ named_none f e = go (ltb f 1024) refl e
     go false t e = ltb-false f 1024 t
 
 -- one more name
-Owned-more : {l : List ℕ} {o : Owner} (x : ℕ) → Owned l o → Owned (l ++ (x ∷ [])) (meet_of o x)
+Owned-more : {l : List ℕ} {o : Touched} (x : ℕ) → Owned l o → Owned (l ++ (x ∷ [])) (meet_of o x)
 unfolding meet_of
 Owned-more {l} x (nobody h) = one (Memᴰ.append_right l (Memᴰ.head refl)) (λ y m. by y (Memᴰ.append_cases l m))
   where
@@ -60,7 +60,7 @@ Owned-more {l} x (many m k ne) = many (Memᴰ.append_left (x ∷ []) m) (Memᴰ.
 
 module _ (blocks arrowed : List ℕ) where
   pub Owned-none : Owned (arrow_blocks_at blocks arrowed []) Nobody
-  unfolding arrow_blocks_at filter
+  unfolding arrow_blocks_at
   Owned-none = nobody (λ x m. Memᴰ.not-nil m)
 
   more : (js : List ℕ) (j : ℕ) → arrow_blocks_at blocks arrowed (js ++ (j ∷ [])) ≡ arrow_blocks_at blocks arrowed js ++ arrow_blocks_at blocks arrowed (j ∷ [])
@@ -68,15 +68,15 @@ module _ (blocks arrowed : List ℕ) where
   more js j = ap (filter (λ f. ltb f 1024)) (map-append (arrow_block_at blocks arrowed) js (j ∷ [])) ∙ filter-append (λ f. ltb f 1024) (map (arrow_block_at blocks arrowed) js) (arrow_block_at blocks arrowed j ∷ [])
 
   -- one more cell, in an arrow block or in none
-  pub Owned-hit : (js : List ℕ) (j x : ℕ) {o : Owner} → Some x ≡ block_named (arrow_block_at blocks arrowed j) → Owned (arrow_blocks_at blocks arrowed js) o → Owned (arrow_blocks_at blocks arrowed (js ++ (j ∷ []))) (meet_of o x)
-  unfolding arrow_blocks_at filter
+  pub Owned-hit : (js : List ℕ) (j x : ℕ) {o : Touched} → Some x ≡ block_named (arrow_block_at blocks arrowed j) → Owned (arrow_blocks_at blocks arrowed js) o → Owned (arrow_blocks_at blocks arrowed (js ++ (j ∷ []))) (meet_of o x)
+  unfolding arrow_blocks_at
   Owned-hit js j x {o} e q = subst (λ (l : List ℕ). Owned l (meet_of o x)) (sym (more js j ∙ ap (λ (l : List ℕ). arrow_blocks_at blocks arrowed js ++ l) single)) (Owned-more x q)
     where
       single : arrow_blocks_at blocks arrowed (j ∷ []) ≡ x ∷ []
       single = let n = named_some (arrow_block_at blocks arrowed j) x e in rw (← n.0, lt-ltb x 1024 n.1)
 
-  pub Owned-miss : (js : List ℕ) (j : ℕ) {o : Owner} → None ≡ block_named (arrow_block_at blocks arrowed j) → Owned (arrow_blocks_at blocks arrowed js) o → Owned (arrow_blocks_at blocks arrowed (js ++ (j ∷ []))) o
-  unfolding arrow_blocks_at filter
+  pub Owned-miss : (js : List ℕ) (j : ℕ) {o : Touched} → None ≡ block_named (arrow_block_at blocks arrowed j) → Owned (arrow_blocks_at blocks arrowed js) o → Owned (arrow_blocks_at blocks arrowed (js ++ (j ∷ []))) o
+  unfolding arrow_blocks_at
   Owned-miss js j {o} e q = subst (λ (l : List ℕ). Owned l o) (sym (more js j ∙ ap (λ (l : List ℕ). arrow_blocks_at blocks arrowed js ++ l) nothing ∙ append-nil (arrow_blocks_at blocks arrowed js))) q
     where
       nothing : arrow_blocks_at blocks arrowed (j ∷ []) ≡ []
@@ -119,3 +119,6 @@ module _ (blocks arrowed : List ℕ) (g : Grid) (cells : List ℕ) (i : ℕ) whe
   pub kind_open : (k : Kind) → (get_or cells i 0 ≡ 0 → ⊥) → (get_or cells i 0 ≡ 1 → ⊥) → kind_touching (once (arrow_blocks_at blocks arrowed (neighbours g i))) ≡ k → k ≡ kind_in blocks arrowed g cells i
   unfolding kind_in
   kind_open k a b e = rw (ne_eqb (get_or cells i 0) 0 a, ne_eqb (get_or cells i 0) 1 b) (sym e)
+
+-- the kind of a cell, by its state and the arrow blocks that it touches
+pub ruleset kinds_told = (kind_alone, kind_arrow, kind_empty, kind_many, kind_nobody, kind_one, kind_open)

@@ -92,7 +92,7 @@ module _ (p : Puzzle) (small : size p.grid ≤ 1024) (cells blocks A : List ℕ)
       by false e = refl
 
   arrows_at : (l : List ℕ) → ((x : ℕ) → Memᴰ x l → x < size g) → arrow_blocks_at blocks A l ≡ map block_name (filter in_arrow l)
-  unfolding arrow_blocks_at filter
+  unfolding arrow_blocks_at
   arrows_at [] h = refl
   arrows_at (x ∷ l) h = rw (in_arrow_low x (h x (Memᴰ.head refl))) (by (in_arrow x) refl (arrows_at l (λ y m. h y (Memᴰ.tail m))))
     where

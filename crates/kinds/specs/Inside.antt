@@ -11,8 +11,8 @@ use Rattle.groups.specs.Arrays.{no_group, label_array, Counted}
 use Rattle.groups.specs.Flood.{unlabelled}
 use Rattle.kinds.specs.Kinds.{Kind, vacant, barrier, floating, in_block, neighbour, kind_touching, View}
 use Rattle.kinds.specs.Arrays.{kind_code, owner_by, kind_array, owner_array}
-use Rattle.kinds.specs.declared.Owner.{Owner}
-use Rattle.kinds.specs.declared.Owner.TheVariants.{Nobody, One, Many}
+use Rattle.kinds.specs.declared.Touched.{Touched}
+use Rattle.kinds.specs.declared.Touched.TheVariants.{Nobody, One, Many}
 use Rattle.kinds.specs.declared.DetailedCellKind.{DetailedCellKind}
 use Rattle.kinds.specs.declared.DetailedCellKind.TheVariants.{Empty, ArrowBlock, ArrowBlockNeighbor, Barrier, Floating}
 
@@ -51,13 +51,13 @@ kind_from Barrier = barrier
 kind_from Floating = floating
 
 -- one more arrow block is met
-unfoldable pub meet_of : Owner → ℕ → Owner
+unfoldable pub meet_of : Touched → ℕ → Touched
 meet_of Nobody f = One f
 meet_of (One e) f = elim (eqb e f) [ true ↦ One e | false ↦ Many ]
 meet_of Many f = Many
 
 -- the names l have no member, one member (however often), or two or more
-pub data Owned (l : List ℕ) : Owner → Type 0 where
+pub data Owned (l : List ℕ) : Touched → Type 0 where
   nobody : ((x : ℕ) → Memᴰ x l → ⊥) → Owned l Nobody
   one : {f : ℕ} → Memᴰ f l → ((x : ℕ) → Memᴰ x l → x ≡ f) → Owned l (One f)
   many : {e f : ℕ} → Memᴰ e l → Memᴰ f l → (e ≡ f → ⊥) → Owned l Many

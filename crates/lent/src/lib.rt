@@ -1,4 +1,5 @@
-// Decide, undo and find on one board lent by the caller. The calls of `host` pass the board that they are lent on to these.
+// Decide, undo and find on one board lent by the caller. The calls of `host` pass the board that they are lent on to these; decide and undo are the board's own,
+// and stand here beside find, which a board can't have, since it searches for a reason.
 #![tactic(auto)]
 
 ghost use Rattle.std.specs.Prelude.{◌≡◌, length};
@@ -15,16 +16,14 @@ use refusal::Refusal;
 pub fn decide_in(board: &mut Board, index: usize, value: u8) -> Result<(), Refusal>
     ensures { (outcome_of result ≡ done_as (decide_of board.old index value).answer) × (board.new ≡ (decide_of board.old index value).board) }
 {
-    *board = board.decide(index, value)?;
-    Ok(())
+    board.decide_in(index, value)
 }
 
 // `undo` on a lent board.
 pub fn undo_in(board: &mut Board) -> Result<(), Refusal>
     ensures { (outcome_of result ≡ done_as (undo_of board.old).answer) × (board.new ≡ (undo_of board.old).board) }
 {
-    *board = board.undo()?;
-    Ok(())
+    board.undo_in()
 }
 
 // `find` on a lent board.

@@ -1,3 +1,4 @@
 pub mod BufferLaws
 pub mod Pass
 pub mod Findings
+pub mod HeldLaws

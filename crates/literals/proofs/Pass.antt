@@ -3,16 +3,18 @@
 use Prim.Native.Nat.{ℕ, ◌+◌, ◌≤◌, ◌<◌}
 use native.Mathlib.Omega.{arith}
 use mathlib.Core.Path.{◌≡◌, refl}
-use mathlib.Core.Bool.{Bool, true, false, cond}
+use mathlib.Core.Bool.{Bool, true, false}
 use mathlib.Core.List.{List, [], ◌∷◌, ◌++◌, map-append, append-nil}
-use lib.ListN.{length, set, length-map}
+use lib.ListN.{length, length-map}
+use Rattle.std.specs.Borrow.{MutBor}
 use Rattle.grid.specs.Lists.{range, upto, filter}
 use Rattle.grid.proofs.ListLaws.{filter-length}
 use Rattle.grid.proofs.AppendLaws.{upto_more, filter_more, upto-length}
-use Rattle.grid.specs.Cells.{Literal, word}
 use Rattle.literals.specs.Literals.{each}
-use Rattle.literals.specs.Inside.{Wrote}
-use Rattle.literals.proofs.BufferLaws.{Wrote-none, Wrote-more}
+use Rattle.literals.specs.Held.{Holds}
+use Rattle.literals.specs.declared.Literals.{Literals}
+use Rattle.literals.proofs.BufferLaws.{Wrote-none}
+use Rattle.literals.proofs.HeldLaws.{holds_room}
 
 -- literals of one value
 each-append : (v : ℕ) (l m : List ℕ) → each v (l ++ m) ≡ each v l ++ each v m
@@ -23,41 +25,52 @@ pub each-length : (v : ℕ) (l : List ℕ) → length (each v l) ≡ length l
 unfolding each
 each-length v l = length-map l (λ i. (i, v))
 
--- a literal was written if yes says so
-pub Wrote-if : {ls : List Literal} {b a : List ℕ} {k : ℕ} → Wrote ls b a k → (l : Literal) (yes : Bool) → k < length b
-    → Wrote (ls ++ cond yes (l ∷ []) []) b (cond yes (set a k (word l)) a) (cond yes (k + 1) k)
-Wrote-if w l true h = Wrote-more w l h
-Wrote-if {ls} w l false h = rw (append-nil ls) w
-
-each_if : (v : ℕ) (x : ℕ) (yes : Bool) → each v (cond yes (x ∷ []) []) ≡ cond yes ((x, v) ∷ []) []
+-- the literals of the cells of a list that pass, and of one cell more
+literals_on : (p : ℕ → Bool) (v : ℕ) (l : List ℕ) (x : ℕ) → p x ≡ true → each v (filter p l) ++ ((x, v) ∷ []) ≡ each v (filter p (l ++ (x ∷ [])))
 unfolding each
-each_if v x true = refl
-each_if v x false = refl
+literals_on p v l x e = rw (filter_more p l x, e, each-append v (filter p l) (x ∷ [])) refl
 
--- nothing was looked at yet
-pub pass_none : (p : ℕ → Bool) (v : ℕ) (l b : List ℕ) → l ≡ [] → Wrote (each v (filter p l)) b b 0
-unfolding filter each
-pass_none p v l b e = rw e (Wrote-none b)
+literals_over : (p : ℕ → Bool) (v : ℕ) (l : List ℕ) (x : ℕ) → p x ≡ false → each v (filter p l) ≡ each v (filter p (l ++ (x ∷ [])))
+literals_over p v l x e = rw (filter_more p l x, e, append-nil (filter p l)) refl
 
--- the cells of a list that pass are written, and one cell more is looked at
-module _ (p : ℕ → Bool) (v : ℕ) (l : List ℕ) (x : ℕ) {b a : List ℕ} {k : ℕ} (w : Wrote (each v (filter p l)) b a k) where
-  -- no more are written than were looked at
-  pub pass_count : k ≤ length l
-  pass_count = omega (arith, w.many, each-length v (filter p l), filter-length p l)
+module _ (p : ℕ → Bool) (v : ℕ) {lent : MutBor (List ℕ)} where
+  -- nothing was looked at yet
+  pub pass_none : {out : MutBor (List ℕ)} → out.ghost_name ≡ lent.ghost_name → out.now ≡ lent.now → Holds lent (each v (filter p [])) record { out = out; count = 0 }
+  unfolding each
+  pass_none same now = record { same = same; wrote = rw now (Wrote-none lent.now) }
 
-  -- it is written if it passes
-  pub pass_more : k < length b → {yes : Bool} → yes ≡ p x → {r : ℕ} {c : List ℕ} → r ≡ cond yes (k + 1) k → c ≡ cond yes (set a k (word (x, v))) a
-      → Wrote (each v (filter p (l ++ (x ∷ [])))) b c r
-  pass_more h e f g = rw (f, g, e, filter_more p l x, each-append v (filter p l) (cond (p x) (x ∷ []) []), each_if v x (p x)) (Wrote-if w (x, v) (p x) h)
+  -- the cells of a list that pass are written, and one cell more is looked at
+  module _ (l : List ℕ) {a : Literals} where
+    -- no more are written than were looked at
+    pub pass_count : Holds lent (each v (filter p l)) a → a.count ≤ length l
+    pass_count h = omega (arith, h.wrote.many, each-length v (filter p l), filter-length p l)
 
--- the same for the cells in row order
-pub cells_none : (p : ℕ → Bool) (v : ℕ) (b : List ℕ) → Wrote (each v (filter p (upto 0))) b b 0
-unfolding upto range
-cells_none p v b = pass_none p v (upto 0) b refl
+    -- and there is room for that one, where the buffer that was lent has room for all
+    pub pass_room : Holds lent (each v (filter p l)) a → length l < length lent.now → a.count < length a.out.now
+    pass_room h room = holds_room h (omega (arith, pass_count h))
 
-pub cells_more : (p : ℕ → Bool) (v i : ℕ) {b a : List ℕ} {k : ℕ} → Wrote (each v (filter p (upto i))) b a k → k < length b
-    → {yes : Bool} → yes ≡ p i → {r : ℕ} {c : List ℕ} → r ≡ cond yes (k + 1) k → c ≡ cond yes (set a k (word (i, v))) a → Wrote (each v (filter p (upto (i + 1)))) b c r
-cells_more p v i w h e f g = rw (upto_more i) (pass_more p v (upto i) i w h e f g)
+    -- it was written, as it passes
+    pub pass_on : (x : ℕ) → Holds lent (each v (filter p l) ++ ((x, v) ∷ [])) a → p x ≡ true → Holds lent (each v (filter p (l ++ (x ∷ [])))) a
+    pass_on x h e = rw (literals_on p v l x e) at h
 
-pub cells_count : (p : ℕ → Bool) (v i : ℕ) {b a : List ℕ} {k : ℕ} → Wrote (each v (filter p (upto i))) b a k → k ≤ i
-cells_count p v i w = omega (arith, pass_count p v (upto i) i w, upto-length i)
+    -- it was not, as it does not
+    pub pass_over : (x : ℕ) → Holds lent (each v (filter p l)) a → p x ≡ false → Holds lent (each v (filter p (l ++ (x ∷ [])))) a
+    pass_over x h e = rw (literals_over p v l x e) at h
+
+  -- the same for the cells in row order
+  module _ (i : ℕ) {a : Literals} where
+    pub cells_count : Holds lent (each v (filter p (upto i))) a → a.count ≤ i
+    cells_count h = omega (arith, pass_count (upto i) h, upto-length i)
+
+    pub cells_room : Holds lent (each v (filter p (upto i))) a → i < length lent.now → a.count < length a.out.now
+    cells_room h room = pass_room (upto i) h (omega (arith, upto-length i))
+
+    pub cells_on : Holds lent (each v (filter p (upto i)) ++ ((i, v) ∷ [])) a → p i ≡ true → Holds lent (each v (filter p (upto (i + 1)))) a
+    cells_on h e = rw (upto_more i) (pass_on (upto i) i h e)
+
+    pub cells_over : Holds lent (each v (filter p (upto i))) a → p i ≡ false → Holds lent (each v (filter p (upto (i + 1)))) a
+    cells_over h e = rw (upto_more i) (pass_over (upto i) i h e)
+
+  pub cells_none : {out : MutBor (List ℕ)} → out.ghost_name ≡ lent.ghost_name → out.now ≡ lent.now → Holds lent (each v (filter p (upto 0))) record { out = out; count = 0 }
+  unfolding upto range
+  cells_none same now = pass_none same now

@@ -1,3 +1,4 @@
 pub mod Literals
 pub mod Buffer
 pub mod Inside
+pub mod Held

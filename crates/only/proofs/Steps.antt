@@ -65,7 +65,6 @@ module _ (l : Leaf) (valid : ValidLeaf l) (full : List ℕ) (fin : Finished l fu
 
     -- an arrow has as many cells that are not empty as it has squares there, or more
     open_more : (a : List ℕ) → length (filter (square full) a) ≤ length (filter (potential cells) a)
-    unfolding filter
     open_more [] = omega arith
     open_more (c ∷ cs) = go (split (square full c)) (potential cells c) refl (open_more cs)
       where

@@ -1,75 +1,83 @@
 -- The first reason among the pairs of one arrow, and of all arrows, by their places.
 -- Assumes nothing.
-use Prim.Native.Nat.{ℕ, ◌+◌, ◌*◌, ◌≤◌, ◌<◌}
+use Prim.Native.Nat.{ℕ, zero, suc, ◌+◌, ◌*◌, ◌≤◌, ◌<◌}
 use native.Mathlib.Omega.{arith}
 use native.Mathlib.Numerals.{add-one}
-use mathlib.Core.Path.{◌≡◌, refl, ap, ◌∙◌}
+use mathlib.Core.Path.{◌≡◌, refl, sym, ap, ◌∙◌}
 use mathlib.Core.Bool.{true}
 use mathlib.Core.List.{List, [], ◌∷◌, Memᴰ}
 use mathlib.Core.Option.{none}
 use lib.ListN.{length, get_or, take, drop, length-take, drop_of_length-le}
-use lib.Seq.{slice, slice-cons, length-slice}
+use lib.Seq.{slice, slice-cons, take_all}
 use Rattle.grid.proofs.CellLaws.{square_taken}
 use Rattle.grid.specs.Lists.{flat_map, member}
-use Rattle.grid.proofs.ListLaws.{mem-any, mem-member}
-use Rattle.grid.proofs.SliceLaws.{slice_none, slice_at, slice_taken}
+use Rattle.grid.proofs.ListLaws.{at_mem, mem-any, mem-member}
+use Rattle.grid.proofs.SliceLaws.{slice_none, slice_taken}
 use Rattle.grid.specs.Cells.{square}
 use Rattle.record.specs.Problem.{arrows_from}
+use Rattle.record.specs.Lines.{start_at}
 use Rattle.groups.specs.Arrows.{on_arrow, Pair, pairs}
 use Rattle.groups.specs.Arrays.{lines_of}
 use Rattle.kinds.specs.Kinds.{View}
-use Rattle.growth.specs.Pairs.{pair_at, NextSquare, view_on, Stretch, Line, Whole}
+use Rattle.growth.specs.Pairs.{pair_at, pair_in, NextSquare, view_on, Stretch, Line, Whole}
 use Rattle.literals.specs.Inside.{FoundAs}
 use Rattle.literals.specs.Literals.{Found, or_else, first_found_of}
 use Rattle.std.specs.Prelude.{Some, None}
 use Rattle.literals.proofs.Findings.{nothing_found, found_first, first_append}
-use Rattle.growth.proofs.PairNames.{next_taken}
-use Rattle.growth.proofs.PairPlaces.{pairs_start, pairs_more, pairs_end}
+use Rattle.growth.proofs.PairNames.{next_taken, part_at}
+use Rattle.growth.proofs.PairPlaces.{pair_part, pairs_start, pairs_more, pairs_end}
 
 -- ---- one arrow
 
 -- the first reason that `finds` has among the pairs from the place k on
-abbrev pub ahead : (View → Pair → Found) → ℕ → ℕ → List (List ℕ) → List ℕ → List ℕ → ℕ → ℕ → Found
-ahead finds h w lines cells arrows to k = first_found_of (finds (view_on h w lines cells)) (pairs (take (h * w) cells) (slice k to arrows))
+abbrev pub ahead : (View → Pair → Found) → ℕ → ℕ → List (List ℕ) → List ℕ → List ℕ → ℕ → Found
+ahead finds h w lines cells arrow k = first_found_of (finds (view_on h w lines cells)) (pairs (take (h * w) cells) (slice k (length arrow) arrow))
 
-module _ (finds : View → Pair → Found) {h w : ℕ} {lines : List (List ℕ)} {cells arrows kinds owners : List ℕ} {from to : ℕ} (s : Stretch h w lines cells arrows kinds owners from to) (long : to ≤ length arrows) where
+module _ (finds : View → Pair → Found) {h w : ℕ} {lines : List (List ℕ)} {cells arrow kinds owners : List ℕ} (s : Stretch h w lines cells arrow kinds owners) where
   abbrev F : Pair → Found
   F = finds (view_on h w lines cells)
 
   abbrev L : List ℕ
   L = take (h * w) cells
 
+  long : length arrow ≤ length arrow
+  long = omega arith
+
   -- it is the one from the first square on
-  pub search_start : {r : ℕ} → NextSquare cells arrows from to r → ahead finds h w lines cells arrows to from ≡ ahead finds h w lines cells arrows to r
-  search_start n = ap (first_found_of F) (pairs_start L arrows to long (next_taken (h * w) n s.inside))
+  pub search_start : {r : ℕ} → NextSquare cells arrow 0 (length arrow) r → first_found_of F (pairs L arrow) ≡ ahead finds h w lines cells arrow r
+  search_start n =
+      ap (λ (l : List ℕ). first_found_of F (pairs L l)) (sym (take_all (length arrow) arrow long))
+      ∙ ap (first_found_of F) (pairs_start L arrow (length arrow) long (next_taken (h * w) n (λ k _ u. s.inside k u)))
 
   -- there is none behind the last place
-  pub search_done : (k : ℕ) → to ≤ k → ahead finds h w lines cells arrows to k ≡ none
+  pub search_done : (k : ℕ) → length arrow ≤ k → ahead finds h w lines cells arrow k ≡ none
   unfolding first_found_of pairs
-  search_done k q = rw (slice_none arrows k to q) refl
+  search_done k q = rw (slice_none arrow k (length arrow) q) refl
 
-  module _ (last : ℕ) (low : from ≤ last) (within : last < to) (first : square cells (get_or arrows last 0) ≡ true) {cur : ℕ} (n : NextSquare cells arrows (last + 1) to cur) where
-    taken : NextSquare L arrows (last + 1) to cur
-    taken = next_taken (h * w) n (λ k l u. s.inside k (omega arith) u)
+  module _ (last : ℕ) (within : last < length arrow) (first : square cells (get_or arrow last 0) ≡ true) {cur : ℕ} (n : NextSquare cells arrow (last + 1) (length arrow) cur) where
+    taken : NextSquare L arrow (last + 1) (length arrow) cur
+    taken = next_taken (h * w) n (λ k _ u. s.inside k u)
 
-    first_taken : square L (get_or arrows last 0) ≡ true
-    first_taken = square_taken cells (h * w) (get_or arrows last 0) (s.inside last low within) ∙ first
+    first_taken : square L (get_or arrow last 0) ≡ true
+    first_taken = square_taken cells (h * w) (get_or arrow last 0) (s.inside last within) ∙ first
 
     -- the pair of a square and the next gives none, or the reason
-    pub search_more : cur < to → {b a : List ℕ} → FoundAs (F (pair_at arrows last cur)) b a None → ahead finds h w lines cells arrows to last ≡ ahead finds h w lines cells arrows to cur
+    pub search_more : cur < length arrow → {part b a : List ℕ} → part ≡ slice last (cur + 1) arrow → FoundAs (F (pair_in part)) b a None → ahead finds h w lines cells arrow last ≡ ahead finds h w lines cells arrow cur
     unfolding first_found_of or_else
-    search_more q x = ap (first_found_of F) (pairs_more L arrows to long last within first_taken taken q) ∙ rw (nothing_found (F (pair_at arrows last cur)) x).0 refl
+    search_more q e x =
+        let pair = ap pair_in e ∙ pair_part arrow last cur n.low q in
+        ap (first_found_of F) (pairs_more L arrow (length arrow) long last within first_taken taken q) ∙ rw (nothing_found (F (pair_at arrow last cur)) (rw pair at x)).0 refl
 
-    pub search_found : cur < to → {b a : List ℕ} {k : ℕ} → FoundAs (F (pair_at arrows last cur)) b a (Some k) → FoundAs (ahead finds h w lines cells arrows to last) b a (Some k)
+    pub search_found : cur < length arrow → {part b a : List ℕ} {k : ℕ} → part ≡ slice last (cur + 1) arrow → FoundAs (F (pair_in part)) b a (Some k) → FoundAs (ahead finds h w lines cells arrow last) b a (Some k)
     unfolding first_found_of
-    search_found q x =
-        rw (pairs_more L arrows to long last within first_taken taken q)
-        (found_first (F (pair_at arrows last cur)) (ahead finds h w lines cells arrows to cur) x)
+    search_found q e x =
+        rw (pairs_more L arrow (length arrow) long last within first_taken taken q)
+        (found_first (F (pair_at arrow last cur)) (ahead finds h w lines cells arrow cur) (rw (ap pair_in e ∙ pair_part arrow last cur n.low q) at x))
 
     -- no square comes after it
-    pub search_end : cur ≡ to → ahead finds h w lines cells arrows to last ≡ none
+    pub search_end : cur ≡ length arrow → ahead finds h w lines cells arrow last ≡ none
     unfolding first_found_of
-    search_end e = ap (first_found_of F) (pairs_end L arrows to long last within first_taken taken e)
+    search_end e = ap (first_found_of F) (pairs_end L arrow (length arrow) long last within first_taken taken e)
 
 -- ---- all arrows
 
@@ -92,13 +100,12 @@ rest_of f cells l = first_found_of f (flat_map (pairs cells) l)
 
 module _ (f : Pair → Found) (cells arrows ends : List ℕ) (number from a : ℕ) where
   pub rest_end : number ≤ a → rest_of f cells (lines_from arrows ends number from a) ≡ none
-  unfolding first_found_of flat_map
+  unfolding first_found_of
   rest_end h = rw (lines_end arrows ends number from a h) refl
 
   module _ (h : a < number) (k : number ≤ length ends) where
     rest_split : rest_of f cells (lines_from arrows ends number from a)
         ≡ or_else (first_found_of f (pairs cells (slice from (get_or ends a 0) arrows))) (rest_of f cells (lines_from arrows ends number (get_or ends a 0) (a + 1)))
-    unfolding flat_map
     rest_split = rw (lines_more arrows ends number from a h k) (first_append f (pairs cells (slice from (get_or ends a 0) arrows)) (flat_map (pairs cells) (lines_from arrows ends number (get_or ends a 0) (a + 1))))
 
     -- the next arrow gives none, or the reason
@@ -122,17 +129,24 @@ module _ {h w : ℕ} {cells arrows ends kinds owners : List ℕ} {number : ℕ} 
   pub sub_more : (l : List ℕ) → Memᴰ l (lines_from arrows ends number (get_or ends a 0) (a + 1)) → Memᴰ l (lines_of arrows ends number)
   sub_more l m = sub l (rw (lines_more arrows ends number from a within all.drawn.ends_long) (Memᴰ.tail m))
 
-  module _ (rise : from ≤ get_or ends a 0) where
-    pub next_Stretch : Stretch h w (lines_of arrows ends number) cells arrows kinds owners from (get_or ends a 0)
-    unfolding on_arrow
-    next_Stretch =
-        let short : get_or ends a 0 ≤ length arrows = omega (arith, all.drawn.ends_low a within, all.drawn.places.long) in
-        record {
-          held = all.held;
-          few = omega (arith, all.drawn.few (slice from (get_or ends a 0) arrows) this, length-slice from (get_or ends a 0) arrows short);
-          inside = λ k p q. all.drawn.inside (slice from (get_or ends a 0) arrows) this (get_or arrows k 0) (slice_at arrows from (get_or ends a 0) k p q short);
-          are_on_arrow = λ k p q. mem-any (member (get_or arrows k 0)) (lines_of arrows ends number) this (mem-member (get_or arrows k 0) (slice from (get_or ends a 0) arrows) (slice_at arrows from (get_or ends a 0) k p q short));
-        }
+  pub next_Stretch : Stretch h w (lines_of arrows ends number) cells (slice from (get_or ends a 0) arrows) kinds owners
+  unfolding on_arrow
+  next_Stretch = record {
+    held = all.held;
+    few = all.drawn.few (slice from (get_or ends a 0) arrows) this;
+    inside = λ k l. all.drawn.inside (slice from (get_or ends a 0) arrows) this (get_or (slice from (get_or ends a 0) arrows) k 0) (at_mem (slice from (get_or ends a 0) arrows) k l);
+    are_on_arrow = λ k l. mem-any (member (get_or (slice from (get_or ends a 0) arrows) k 0)) (lines_of arrows ends number) this (mem-member (get_or (slice from (get_or ends a 0) arrows) k 0) (slice from (get_or ends a 0) arrows) (at_mem (slice from (get_or ends a 0) arrows) k l));
+  }
 
-    pub next_Line : Line h w cells arrows kinds owners from (get_or ends a 0)
-    next_Line = record { lines = lines_of arrows ends number; stretch = next_Stretch; places = all.drawn.places; order = rise; short = all.drawn.ends_low a within }
+  pub next_Line : Line h w cells (slice from (get_or ends a 0) arrows) kinds owners
+  next_Line = record {
+    lines = lines_of arrows ends number;
+    stretch = next_Stretch;
+    places = record { small = λ k l. rw (part_at from (get_or ends a 0) arrows k l) (all.drawn.places.cells (from + k)) };
+  }
+
+-- an arrow ends where it starts, or behind that
+pub starts_low : {h w : ℕ} {cells arrows ends kinds owners : List ℕ} {number : ℕ} → Whole h w cells arrows ends kinds owners number → (a : ℕ) → a < number → start_at ends a ≤ get_or ends a 0
+unfolding start_at
+starts_low all zero l = omega arith
+starts_low {ends = ends} all (suc a) l = let rise = all.drawn.ends_rise a (omega arith) in rw (← add-one a) rise

@@ -3,15 +3,13 @@
 
 pub mod fourth;
 
-ghost use Rattle.std.specs.Prelude.{List, ◌≡◌, ℕ, ◌+◌, ◌≤◌, ◌<◌, MatchOption};
-ghost use Rattle.std.proofs.Math.Seq.{slice};
+ghost use Rattle.std.specs.Prelude.{List, ◌≡◌, ℕ, ◌+◌, ◌≤◌, ◌<◌, length, MatchOption};
 ghost use Rattle.grid.specs.Lists.{flat_map};
 ghost use Rattle.groups.specs.Arrows.{Pair, pairs};
-ghost use Rattle.groups.specs.Arrays.{CellArray};
 ghost use Rattle.kinds.specs.Kinds.{View};
 ghost use Rattle.literals.specs.Inside.{FoundAs};
 ghost use Rattle.literals.specs.Literals.{Found, first_found_of};
-ghost use Rattle.growth.specs.Pairs.{NextSquare, HasRoom};
+ghost use Rattle.growth.specs.Pairs.{ArePlaces, NextSquare, HasRoom};
 ghost use Rattle.growth.specs.Growth.{reason3_at, reason34};
 ghost use Rattle.growth.specs.Scenes.{arrows_of, pair_of, scene_board, scene_cells, HasStretch, HasPair, HasLine, HasSquares, HasProblem};
 
@@ -19,10 +17,9 @@ use fourth::Fourth;
 use growth::{Scene, SquarePair};
 use record::Problem;
 use shift::Work;
-use std::ops::Range;
 
-// A reason that may apply to two squares of an arrow with none between.
-trait PairReason {
+// A reason that may apply to two squares of an arrow with none between. It is searched for in a W, whatever stands there.
+pub trait PairReason<W> {
     ghost finds: { Self → View → Pair → Found };
 
     // The reason for the two, if it applies.
@@ -30,7 +27,7 @@ trait PairReason {
         &self,
         scene: &Scene<'_>,
         pair: &SquarePair<'_>,
-        work: &mut Work<'_>,
+        work: &mut W,
         buffer: &mut [u16],
     ) -> Option<usize>
         requires squares { HasSquares scene.now pair.now }
@@ -43,7 +40,7 @@ trait PairReason {
 #[derive(Clone, Copy)]
 struct Third;
 
-impl PairReason for Third {
+impl PairReason<Work<'_>> for Third {
     ghost finds = { λ _. reason3_at };
 
     fn check(
@@ -65,37 +62,36 @@ impl PairReason for Third {
     }
 }
 
-// The first of the places that holds a square.
-fn next_square(cells: &[u8; 1024], arrows: &[u16; 1024], mut places: Range<usize>) -> Option<usize>
-    requires order { places.start ≤ places.end }
-    requires short { places.end ≤ 1024 }
-    requires cells { CellArray arrows.now }
-    ensures { MatchOption result (NextSquare cells.now arrows.now places.start places.end places.end)
-        (λ k. (k < places.end) × NextSquare cells.now arrows.now places.start places.end k) }
+// The first place from `from` on that holds a square.
+fn next_square(cells: &[u8; 1024], arrow: &[u16], from: usize) -> Option<usize>
+    requires places { ArePlaces arrow.now }
+    requires from { from ≤ length arrow.now }
+    ensures { MatchOption result (NextSquare cells.now arrow.now from (length arrow.now) (length arrow.now))
+        (λ k. (k < length arrow.now) × NextSquare cells.now arrow.now from (length arrow.now) k) }
 {
-    places.find(|&k| cells[usize::from(arrows[k])] == grid::SQUARE)
+    (from..arrow.len()).find(|&k| cells[usize::from(arrow[k])] == grid::SQUARE)
 }
 
-// The first reason among the pairs of the arrow at these places.
-fn search_arrow<R: PairReason>(
+// The first reason among the pairs of an arrow.
+fn search_arrow<W, R: PairReason<W>>(
     by: &R,
     scene: &Scene<'_>,
-    arrows: &[u16; 1024],
-    places: Range<usize>,
-    work: &mut Work<'_>,
+    arrow: &[u16],
+    work: &mut W,
     buffer: &mut [u16],
 ) -> Option<usize>
-    requires line { HasLine scene.now arrows.now places.start places.end }
+    requires line { HasLine scene.now arrow.now }
     requires room { HasRoom scene.now.linked.info buffer.old }
-    ensures { (lines : List (List ℕ)) → HasStretch scene.now lines arrows.now places.start places.end
-        → FoundAs (first_found_of (R.finds by.now (scene_board scene.now lines)) (pairs (scene_cells scene.now) (slice places.start places.end arrows.now)))
-        buffer.old buffer.new result }
+    ensures { (lines : List (List ℕ)) → HasStretch scene.now lines arrow.now
+        → FoundAs (first_found_of (R.finds by.now (scene_board scene.now lines)) (pairs (scene_cells scene.now) arrow.now)) buffer.old buffer.new result }
 {
     let cells = scene.linked.info.cells;
-    let end = places.end;
-    let mut last = next_square(cells, arrows, places)?;
-    while let Some(cur) = next_square(cells, arrows, last + 1..end) {
-        let pair = SquarePair { arrows, last, cur };
+    let mut last = next_square(cells, arrow, 0)?;
+    // A `while`: where the next square stands depends on the one that was found.
+    while let Some(cur) = next_square(cells, arrow, last + 1) {
+        let pair = SquarePair {
+            cells: &arrow[last..=cur],
+        };
         if let Some(literals) = by.check(scene, &pair, work, buffer) {
             return Some(literals);
         }
@@ -105,11 +101,11 @@ fn search_arrow<R: PairReason>(
 }
 
 // The first reason among the pairs of all arrows, in record order.
-fn search_arrows<R: PairReason>(
+fn search_arrows<W, R: PairReason<W>>(
     by: &R,
     problem: &Problem,
     scene: &Scene<'_>,
-    work: &mut Work<'_>,
+    work: &mut W,
     buffer: &mut [u16],
 ) -> Option<usize>
     requires whole { HasProblem scene.now problem.now }
@@ -117,13 +113,12 @@ fn search_arrows<R: PairReason>(
     ensures { let lines = arrows_of problem.now in
         FoundAs (first_found_of (R.finds by.now (scene_board scene.now lines)) (flat_map (pairs (scene_cells scene.now)) lines)) buffer.old buffer.new result }
 {
-    let mut from = 0;
-    for a in 0..problem.count {
-        let to = problem.ends[a] as usize;
-        if let Some(literals) = search_arrow(by, scene, &problem.arrows, from..to, work, buffer) {
+    // No `find_map`: its closure would be lent `work` and `buffer`, and of what it leaves there a proof would know a chain of calls, in place of the one before.
+    for k in 0..problem.count {
+        let arrow = problem.arrow(k);
+        if let Some(literals) = search_arrow(by, scene, arrow, work, buffer) {
             return Some(literals);
         }
-        from = to;
     }
     None
 }
@@ -144,5 +139,11 @@ pub fn search_pairs(
     if let Some(literals) = search_arrows(&Third, problem, scene, work, buffer) {
         return Some(literals);
     }
-    search_arrows(&Fourth { edition }, problem, scene, work, buffer)
+    search_arrows(
+        &Fourth { edition },
+        problem,
+        scene,
+        &mut work.floats,
+        buffer,
+    )
 }

@@ -8,7 +8,7 @@ use mathlib.Core.List.{List, [], ◌∷◌, Memᴰ}
 use lib.Dec.{eqb, leb}
 use lib.ListN.{length, get_or, take}
 use borrow.Author.Tests.{le-leb, leb-true, leb-false}
-use Rattle.grid.specs.Lists.{range, upto, filter, tail}
+use Rattle.grid.specs.Lists.{range, upto, filter}
 use Rattle.grid.specs.Grid.{Grid, size}
 use Rattle.grid.proofs.ListLaws.{filter-mem}
 use Rattle.grid.proofs.AppendLaws.{filter_agree}
@@ -64,7 +64,7 @@ module _ (t : ℕ → Bool) where
 
   -- what passes is the first that does, and what passes behind it
   pub first_and_rest : (from k a : ℕ) → find t (range from k) ≡ Some a → filter t (range from k) ≡ a ∷ filter t (range (a + 1) (from + k - (a + 1)))
-  unfolding filter range
+  unfolding range
   first_and_rest from zero a e = let z : ◌≡◌ {A = ℕ} 0 1 = cc in absurd (omega arith)
   first_and_rest from (suc k) a e = go (t from) e (λ q. first_and_rest (suc from) k a q)
     where
@@ -83,7 +83,6 @@ module _ (t : ℕ → Bool) where
 
   -- nothing passes where no first one does
   pub none_passes : (l : List ℕ) → find t l ≡ None → filter t l ≡ []
-  unfolding filter
   none_passes [] e = refl
   none_passes (x ∷ xs) e = go (t x) e (none_passes xs)
     where

@@ -1,8 +1,7 @@
--- The breadth-first list in arrays: a cell is offered, and the neighbours of a cell one after another.
+-- The breadth-first list as it is kept: a cell is offered, and the neighbours of a cell one after another.
 -- Assumes nothing.
 use Prim.Native.Nat.{ℕ, zero, suc, ◌+◌, ◌-◌, ◌≤◌, ◌<◌}
 use native.Mathlib.Omega.{arith}
-use native.Mathlib.Numerals.{add-one}
 use native.Mathlib.Nat.{add-zero, add-suc}
 use mathlib.Core.Logic.{◌⊎◌, inl, inr}
 use mathlib.Core.Path.{◌≡◌, refl, sym, ap, ◌∙◌, subst}
@@ -10,8 +9,8 @@ use mathlib.Core.Bool.{Bool, true, false, cond, ◌&&◌, ◌||◌, not}
 use mathlib.Core.List.Memᴰ
 use mathlib.Core.List.{List, [], ◌∷◌, ◌++◌, map, map-append, append_assoc, append-nil, Memᴰ}
 use lib.Dec.{eqb}
-use lib.ListN.{get_or, set, take, length-set, length-append}
-use lib.Seq.{take-suc-set, get_or-set_same, get_or-set_other, get_or-take}
+use lib.ListN.{get_or, set, take, length-set}
+use lib.Seq.{get_or-set_same, get_or-set_other, get_or-take}
 use Rattle.std.specs.Prelude.{Some, None}
 use borrow.Author.Tests.{eqb-true, eqb-false, eq-eqb, ne_eqb}
 use Rattle.grid.specs.Lists.{any, filter, Distinct}
@@ -35,38 +34,30 @@ room_left from j e = omega (arith, fewer_set from j 0 e (λ z. omega (arith, z))
 
 -- ---- one cell is offered
 
-module _ (cells from order : List ℕ) (count j p : ℕ) where
-  offer_none : wanted cells from j ≡ false → Offered cells from order count j p from order count
-  offer_none t = record { number = rw t refl; parents = rw t refl; listed = rw t refl }
+module _ (cells from order : List ℕ) (j p : ℕ) where
+  offer_none : wanted cells from j ≡ false → Offered cells from order j p from order
+  offer_none t = record { parents = rw t refl; listed = rw t refl }
 
   -- it is no square
-  pub offer_plain : (get_or cells j 0 ≡ 1 → ⊥) → Offered cells from order count j p from order count
+  pub offer_plain : (get_or cells j 0 ≡ 1 → ⊥) → Offered cells from order j p from order
   unfolding wanted
   offer_plain h = offer_none (rw (ne_eqb (get_or cells j 0) 1 h) refl)
 
   -- it is listed
-  pub offer_seen : get_or cells j 0 ≡ 1 → (get_or from j 0 ≡ 1024 → ⊥) → Offered cells from order count j p from order count
+  pub offer_seen : get_or cells j 0 ≡ 1 → (get_or from j 0 ≡ 1024 → ⊥) → Offered cells from order j p from order
   unfolding wanted
   offer_seen e h = offer_none (rw (eq-eqb (get_or cells j 0) 1 e, ne_eqb (get_or from j 0) 1024 h) refl)
 
   -- it is wanted
-  pub offer_new : get_or cells j 0 ≡ 1 → get_or from j 0 ≡ 1024 → Offered cells from order count j p (set from j p) (set order count j) (count + 1)
+  pub offer_new : get_or cells j 0 ≡ 1 → get_or from j 0 ≡ 1024 → Offered cells from order j p (set from j p) (order ++ (j ∷ []))
   unfolding wanted
   offer_new e h =
       let t : wanted cells from j ≡ true = rw (wanted, eq-eqb (get_or cells j 0) 1 e, eq-eqb (get_or from j 0) 1024 h) refl in
-      record { number = rw t refl; parents = rw t refl; listed = rw t refl }
-
--- no fewer are listed
-pub offered_more : {cells from order : List ℕ} {count j p : ℕ} {from' order' : List ℕ} {r : ℕ} → Offered cells from order count j p from' order' r → count ≤ r
-offered_more {cells} {from} {count = count} {j = j} o = rw o.number (go (wanted cells from j))
-  where
-    go : (b : Bool) → count ≤ cond b (count + 1) count
-    go true = omega arith
-    go false = omega arith
+      record { parents = rw t refl; listed = rw t refl }
 
 -- a cell is marked as not listed exactly where it is not
 unseen : (cs : List Entry) → ((c : Entry) → Memᴰ c cs → c.1 < 1024) → (i : ℕ) → eqb (parent_mark cs i) 1024 ≡ not (seen cs i)
-unfolding parent_mark any
+unfolding parent_mark
 unseen [] h i = refl
 unseen (c ∷ cs) h i = go (eqb c.0 i) (unseen cs (λ d m. h d (Memᴰ.tail m)) i)
   where
@@ -76,7 +67,7 @@ unseen (c ∷ cs) h i = go (eqb c.0 i) (unseen cs (λ d m. h d (Memᴰ.tail m)) 
 
 -- the parents of a list with one cell more, which was not listed
 mark_more : (cs : List Entry) (j p i : ℕ) → parent_mark (cs ++ ((j, p) ∷ [])) i ≡ cond (seen cs i) (parent_mark cs i) (cond (eqb j i) p 1024)
-unfolding parent_mark any
+unfolding parent_mark
 mark_more [] j p i = refl
 mark_more (c ∷ cs) j p i = go (eqb c.0 i) (mark_more cs j p i)
   where
@@ -86,7 +77,7 @@ mark_more (c ∷ cs) j p i = go (eqb c.0 i) (mark_more cs j p i)
     go false e = e
 
 mark_unseen : (cs : List Entry) (i : ℕ) → seen cs i ≡ false → parent_mark cs i ≡ 1024
-unfolding parent_mark any
+unfolding parent_mark
 mark_unseen [] i h = refl
 mark_unseen (c ∷ cs) i h = go (eqb c.0 i) h (λ k. mark_unseen cs i k)
   where
@@ -94,19 +85,17 @@ mark_unseen (c ∷ cs) i h = go (eqb c.0 i) h (λ k. mark_unseen cs i k)
     go true h ih = let z : ◌≡◌ {A = ℕ} 0 1 = cc in absurd (omega arith)
     go false h ih = ih h
 
-module _ {n : ℕ} {order from : List ℕ} {count : ℕ} {cs : List Entry} (L : Listing n order from count cs) (cells : List ℕ) where
+module _ {n : ℕ} {order from : List ℕ} {cs : List Entry} (L : Listing n order from cs) (cells : List ℕ) where
   -- the code's test is the list's
   pub wanted_is : (j : ℕ) → j < n → wanted cells from j ≡ (square cells j && not (seen cs j))
   unfolding wanted square
   wanted_is j h = rw (L.parents_are j h, unseen cs L.parents_low j) refl
 
   -- a cell that was wanted is listed
-  listed_more : (j p : ℕ) → j < n → n ≤ 1024 → p < 1024 → count < 1024 → seen cs j ≡ false → Listing n (set order count j) (set from j p) (count + 1) (cs ++ ((j, p) ∷ []))
-  listed_more j p h k l m u = record {
-    order_long = length-set order count j ∙ L.order_long;
+  listed_more : (j p : ℕ) → j < n → n ≤ 1024 → p < 1024 → seen cs j ≡ false → Listing n (order ++ (j ∷ [])) (set from j p) (cs ++ ((j, p) ∷ []))
+  listed_more j p h k l u = record {
     from_long = length-set from j p ∙ L.from_long;
-    many = simp length-append (omega (arith, L.many));
-    cells_are = rw (add-one count) (take-suc-set order count j (omega (arith, L.order_long)) ∙ rw L.cells_are (sym (map-append (λ (c : Entry). c.0) cs ((j, p) ∷ []))));
+    cells_are = rw L.cells_are (sym (map-append (λ (c : Entry). c.0) cs ((j, p) ∷ [])));
     parents_are = λ i i<. go i i< (split (eqb j i));
     parents_low = λ c x. low c (Memᴰ.append_cases cs x);
   }
@@ -127,32 +116,29 @@ module _ {n : ℕ} {order from : List ℕ} {count : ℕ} {cs : List Entry} (L : 
           pick false e = mark_unseen cs i e
 
   -- what one offer makes of the list
-  pub Offered-list : (j p : ℕ) {from' order' : List ℕ} {r : ℕ} → Offered cells from order count j p from' order' r → j < n → n ≤ 1024 → p < 1024 → count + unlisted from ≤ 1024
-      → Listing n order' from' r (cs ++ cond (square cells j && not (seen cs j)) ((j, p) ∷ []) [])
+  pub Offered-list : (j p : ℕ) {from' order' : List ℕ} → Offered cells from order j p from' order' → j < n → n ≤ 1024 → p < 1024
+      → Listing n order' from' (cs ++ cond (square cells j && not (seen cs j)) ((j, p) ∷ []) [])
   unfolding wanted
-  Offered-list j p o h k l m = rw (o.number, o.parents, o.listed, wanted_is j h) (go (square cells j) (seen cs j) refl)
+  Offered-list j p o h k l = rw (o.parents, o.listed, wanted_is j h) (go (square cells j) (seen cs j) refl)
     where
       go : (a b : Bool) → seen cs j ≡ b
-          → Listing n (cond (a && not b) (set order count j) order) (cond (a && not b) (set from j p) from) (cond (a && not b) (count + 1) count) (cs ++ cond (a && not b) ((j, p) ∷ []) [])
-      go true false e =
-          let free : get_or from j 0 ≡ 1024 = L.parents_are j h ∙ mark_unseen cs j e in
-          listed_more j p h k l (omega (arith, m, room_left from j free)) e
+          → Listing n (cond (a && not b) (order ++ (j ∷ [])) order) (cond (a && not b) (set from j p) from) (cs ++ cond (a && not b) ((j, p) ∷ []) [])
+      go true false e = listed_more j p h k l e
       go true true e = rw (append-nil cs) L
       go false b e = rw (append-nil cs) L
 
 -- ---- the neighbours of a cell are offered in turn
 
 -- only the cells of the grid count
-pub Offered-take : (n : ℕ) {cells from order : List ℕ} {count j p : ℕ} {from' order' : List ℕ} {r : ℕ} → j < n
-    → Offered cells from order count j p from' order' r → Offered (take n cells) from order count j p from' order' r
+pub Offered-take : (n : ℕ) {cells from order : List ℕ} {j p : ℕ} {from' order' : List ℕ} → j < n
+    → Offered cells from order j p from' order' → Offered (take n cells) from order j p from' order'
 unfolding wanted
-Offered-take n {cells} {from} {order} {count} {j} h o =
+Offered-take n {cells} {from} {order} {j} h o =
     let e : wanted (take n cells) from j ≡ wanted cells from j = rw (wanted, get_or-take n cells j 0 h) refl in
-    record { number = rw e o.number; parents = rw e o.parents; listed = rw e o.listed }
+    record { parents = rw e o.parents; listed = rw e o.listed }
 
 -- a cell that is none of those appended is listed if it was before
 seen_other : (cs : List Entry) (c j : ℕ) (t : ℕ → Bool) (l : List ℕ) → ¬ Memᴰ j l → seen (cs ++ map (λ i. (i, c)) (filter t l)) j ≡ seen cs j
-unfolding any filter
 seen_other [] c j t l n = So-false _ (λ h. none l n h)
   where
     none : (l : List ℕ) → ¬ Memᴰ j l → seen (map (λ i. (i, c)) (filter t l)) j ≡ true → ⊥
@@ -198,10 +184,10 @@ module _ (g : Grid) (cells : List ℕ) (cs : List Entry) (c : ℕ) where
 
   -- the neighbours js were offered, and one more is
   neighbour_Offered : (js : List ℕ) (j : ℕ) → ¬ Memᴰ j js
-      → {order from : List ℕ} {count : ℕ} → Listing (size g) order from count (cs ++ news js) → size g ≤ 1024 → c < 1024 → j < size g → count + unlisted from ≤ 1024
-      → {from' order' : List ℕ} {r : ℕ} → Offered cells from order count j c from' order' r → Listing (size g) order' from' r (cs ++ news (js ++ (j ∷ [])))
-  neighbour_Offered js j n {order} {from} {count} L s c< j< m {from'} {order'} {r} o =
-      subst (Listing (size g) order' from' r) same (Offered-list L cells j c o j< s c< m)
+      → {order from : List ℕ} → Listing (size g) order from (cs ++ news js) → size g ≤ 1024 → c < 1024 → j < size g
+      → {from' order' : List ℕ} → Offered cells from order j c from' order' → Listing (size g) order' from' (cs ++ news (js ++ (j ∷ [])))
+  neighbour_Offered js j n {order} {from} L s c< j< {from'} {order'} o =
+      subst (Listing (size g) order' from') same (Offered-list L cells j c o j< s c<)
     where
       t : ℕ → Bool
       t i = square cells i && not (seen cs i)
@@ -217,34 +203,32 @@ module _ (g : Grid) (cells : List ℕ) (cs : List Entry) (c : ℕ) where
       same = rw (seen_other cs c j t js n, more) (append_assoc cs (news js) (cond (t j) ((j, c) ∷ []) []))
 
 -- the list after the neighbours of the cell p in the first k directions were offered, and before
-pub record Amid (g : Grid) (cells : List ℕ) (p : ℕ) (from₀ order₀ : List ℕ) (count₀ : ℕ) (from order : List ℕ) (count k : ℕ) : Type 0 where
-  pub more : count₀ ≤ count
-  pub list : (cs : List Entry) → Listing (size g) order₀ from₀ count₀ cs → Listing (size g) order from count (cs ++ news g cells cs p (gathered g p k))
+pub record Amid (g : Grid) (cells : List ℕ) (p : ℕ) (from₀ order₀ from order : List ℕ) (k : ℕ) : Type 0 where
+  pub list : (cs : List Entry) → Listing (size g) order₀ from₀ cs → Listing (size g) order from (cs ++ news g cells cs p (gathered g p k))
 
 module _ (g : Grid) (cells : List ℕ) (p : ℕ) where
   -- before the first
-  pub Amid-none : (from order : List ℕ) (count : ℕ) → Amid g cells p from order count from order count 0
-  unfolding filter gathered
-  Amid-none from order count = record { more = omega arith; list = λ cs L. rw (append-nil cs) L }
+  pub Amid-none : (from order : List ℕ) → Amid g cells p from order from order 0
+  unfolding gathered
+  Amid-none from order = record { list = λ cs L. rw (append-nil cs) L }
 
-  module _ {from₀ order₀ : List ℕ} {count₀ : ℕ} {from order : List ℕ} {count k : ℕ} (A : Amid g (take (size g) cells) p from₀ order₀ count₀ from order count k) where
+  module _ {from₀ order₀ from order : List ℕ} {k : ℕ} (A : Amid g (take (size g) cells) p from₀ order₀ from order k) where
     -- one more
-    pub Amid-at : p < size g → size g ≤ 1024 → count + unlisted from ≤ 1024 → k < 4 → (j : ℕ) → Some j ≡ beside_of g p k
-        → {from' order' : List ℕ} {r : ℕ} → Offered cells from order count j p from' order' r → Amid g (take (size g) cells) p from₀ order₀ count₀ from' order' r (k + 1)
-    Amid-at h s m l j e o =
+    pub Amid-at : p < size g → size g ≤ 1024 → k < 4 → (j : ℕ) → Some j ≡ beside_of g p k
+        → {from' order' : List ℕ} → Offered cells from order j p from' order' → Amid g (take (size g) cells) p from₀ order₀ from' order' (k + 1)
+    Amid-at h s l j e o =
         let j< = beside_in g p k j h e in
         record {
-          more = omega (arith, A.more, offered_more o);
           list = λ cs L. rw (gathered_next g p k j e)
-              (neighbour_Offered g (take (size g) cells) cs p (gathered g p k) j (not_before g p h k j l e) (A.list cs L) s (omega arith) j< m (Offered-take (size g) j< o));
+              (neighbour_Offered g (take (size g) cells) cs p (gathered g p k) j (not_before g p h k j l e) (A.list cs L) s (omega arith) j< (Offered-take (size g) j< o));
         }
 
     -- no neighbour in this direction
-    pub Amid-off : None ≡ beside_of g p k → Amid g (take (size g) cells) p from₀ order₀ count₀ from order count (k + 1)
-    Amid-off e = record { more = A.more; list = λ cs L. rw (gathered_same g p k e) (A.list cs L) }
+    pub Amid-off : None ≡ beside_of g p k → Amid g (take (size g) cells) p from₀ order₀ from order (k + 1)
+    Amid-off e = record { list = λ cs L. rw (gathered_same g p k e) (A.list cs L) }
 
   -- after the fourth
-  pub Amid-all : {from₀ order₀ : List ℕ} {count₀ : ℕ} {from order : List ℕ} {count : ℕ} → Amid g cells p from₀ order₀ count₀ from order count 4
-      → (cs : List Entry) → Listing (size g) order₀ from₀ count₀ cs → Listing (size g) order from count (cs ++ appended g cells cs p)
+  pub Amid-all : {from₀ order₀ from order : List ℕ} → Amid g cells p from₀ order₀ from order 4
+      → (cs : List Entry) → Listing (size g) order₀ from₀ cs → Listing (size g) order from (cs ++ appended g cells cs p)
   unfolding appended
   Amid-all A cs L = rw (← gathered_all g p) (A.list cs L)

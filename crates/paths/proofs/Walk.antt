@@ -11,8 +11,9 @@ use lib.Dec.{eqb}
 use lib.ListN.{length, length-append}
 use lib.Seq.{append_snoc}
 use borrow.Author.Tests.{eqb-true, eq-eqb}
+use Rattle.std.proofs.lemmas.Bool.{and_from}
 use Rattle.grid.specs.Lists.{Distinct, filter}
-use Rattle.grid.proofs.ListLaws.{filter-mem, mem-filter, Dec-So, So-false, and-true, true-and, not-So, So-not, any-mem, mem-any, Distinct-filter}
+use Rattle.grid.proofs.ListLaws.{filter-mem, mem-filter, Dec-So, So-false, and-true, not-So, So-not, any-mem, mem-any, Distinct-filter}
 use Rattle.grid.specs.Grid.{Grid, size, neighbours, Adjacent}
 use Rattle.grid.specs.Link.{Linked, here, step}
 use Rattle.grid.proofs.LinkLaws.{Linked-start, Linked-trans, Linked-inside}
@@ -150,7 +151,7 @@ module _ (g : Grid) (cells : List ℕ)
           at_x y e ad (no k) = Listed-right base new z (
             x.0,
             mathlib.Core.List.Memᴰ.map (λ j. (j, x.0))
-                (mem-filter test (neighbours g x.0) (subst (λ q. Memᴰ z (neighbours g q)) e ad.1) (true-and s (So-not (seen base z) (λ h. k (seen-So base z h))))),
+                (mem-filter test (neighbours g x.0) (subst (λ q. Memᴰ z (neighbours g q)) e ad.1) (and_from _ _ s (So-not (seen base z) (λ h. k (seen-So base z h))))),
           )
 
           go : Listed done y ⊎ Listed (x ∷ []) y → Listed (base ++ new) z

@@ -3,3 +3,5 @@ pub mod BreadthFirst
 pub mod Chosen
 pub mod Search
 pub mod Ends
+pub mod Lists
+pub mod Lent

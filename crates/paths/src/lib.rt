@@ -1,46 +1,48 @@
 // Reason 2: a block with two arrow cells, and the squares of a shortest way between them.
 #![tactic(auto)]
 
-ghost use Rattle.std.specs.Prelude.{◌≡◌, ℕ, ◌+◌, ◌-◌, ◌*◌, ◌<◌, ◌≤◌, length, get_or, take, replicate, List, ◌++◌, find, All};
+ghost use Rattle.std.specs.Prelude.{◌≡◌, ℕ, ◌+◌, ◌-◌, ◌<◌, ◌≤◌, length, get_or, List, find, All};
 ghost use Rattle.std.specs.Option.{ForSome};
+ghost use Rattle.arrayvec.specs.ArrayVec.{array_vec_len};
 ghost use Rattle.grid.specs.Lists.{range};
 ghost use Rattle.grid.specs.Grid.{size};
-ghost use Rattle.grid.specs.Side.{sized};
-ghost use Rattle.grid.specs.Cells.{square};
 ghost use Rattle.record.specs.Record.{Puzzle};
-ghost use Rattle.literals.specs.Literals.{each};
-ghost use Rattle.paths.specs.Paths.{Entry, appended, list_from, way, reason2};
-ghost use Rattle.literals.specs.Inside.{Wrote, FoundAs};
-ghost use Rattle.groups.specs.Groups.{Joined};
 ghost use Rattle.groups.specs.Arrays.{Names};
-ghost use Rattle.paths.specs.Ends.{BlockTable, crossed, arrow_cell_of, Crossing, Blocked};
-ghost use Rattle.kinds.specs.Inside.{puzzle_with};
-ghost use Rattle.paths.specs.Search.{unlisted, Offered, Listing};
+ghost use Rattle.literals.specs.Literals.{each};
+ghost use Rattle.literals.specs.Inside.{Wrote, FoundAs};
+ghost use Rattle.units.specs.Lent.{cells_in, puzzle_on, states_on, HasRoom};
+ghost use Rattle.paths.specs.Paths.{reason2};
+ghost use Rattle.paths.specs.Search.{unlisted};
+ghost use Rattle.paths.specs.Ends.{crossed, arrow_cell_of, Crossing};
+ghost use Rattle.paths.specs.Lent.{way_on, HasTable, HasBlocks, AreJoined, BlocksAreThere};
 
+use arrayvec::ArrayVec;
 use grid::Grid;
 use groups::Groups;
+use literals::{Literal, Literals};
 
-// Stands for the parent of a cell that is not listed.
+// Stands for the parent of a cell that is not listed. A number, and no `Option`, as `groups::NO_GROUP`.
 const UNLISTED: u16 = 1024;
 
-// A breadth-first list of squares: the first `count` places of `order` have its cells, and `from` has the parent of each.
+// A breadth-first list of squares: `order` has its cells, and `from` the parent of each.
 #[derive(Drop)]
 struct BreadthFirstList {
     from: [u16; 1024],
-    order: [u16; 1024],
-    count: usize,
-    // there is room for every cell that is not listed
-    ghost room: { count + unlisted from ≤ 1024 },
+    order: ArrayVec<u16, 1024>,
+    // There is room for every cell that is not listed.
+    ghost room: { array_vec_len order + unlisted from ≤ 1024 },
 }
 
 impl BreadthFirstList {
+    ghost use Rattle.paths.specs.Paths.{Entry};
+    ghost use Rattle.paths.specs.Lists.{IsEmpty, Offers, Lists, with_neighbours, listed_from};
+
     fn new() -> BreadthFirstList
-        ensures { (result.count ≡ 0) × (result.from ≡ replicate 1024 1024) }
+        ensures { IsEmpty result }
     {
         BreadthFirstList {
             from: [UNLISTED; 1024],
-            order: [0; 1024],
-            count: 0,
+            order: ArrayVec::new(),
         }
     }
 
@@ -48,7 +50,7 @@ impl BreadthFirstList {
     #[tactic(auto, using(crate::proofs::Listings::room_left, grid::proofs::ArrayLaws::fewer_set))]
     fn list_cell(&mut self, cells: &[u8; 1024], j: usize, p: u16)
         requires { (j < 1024) × (p < 1024) }
-        ensures { Offered cells.now self.old.from self.old.order self.old.count j p self.new.from self.new.order self.new.count }
+        ensures { Offers cells.now self.old j p self.new }
     {
         if cells[j] != grid::SQUARE {
             return;
@@ -57,24 +59,17 @@ impl BreadthFirstList {
             return;
         }
         self.from[j] = p;
-        self.order[self.count] = j as u16;
-        self.count += 1;
+        self.order.push(j as u16);
     }
 
-    // Lists the square neighbours of the cell at place t.
-    fn list_neighbours(&mut self, grid: Grid, cells: &[u8; 1024], t: usize)
-        requires { (t < self.old.count) × (get_or self.old.order t 0 < grid.height * grid.width) }
-        ensures list { (cs : List Entry) → Listing (grid.height * grid.width) self.old.order self.old.from self.old.count cs
-            → Listing (grid.height * grid.width) self.new.order self.new.from self.new.count
-            (cs ++ appended (sized grid.height grid.width) (take (grid.height * grid.width) cells.now) cs (get_or self.old.order t 0)) }
-        ensures more { self.old.count ≤ self.new.count }
+    // Lists the square neighbours of cell p, which is a listed one.
+    fn list_neighbours(&mut self, grid: Grid, cells: &[u8; 1024], p: u16)
+        requires { p < cells_in grid }
+        ensures { (cs : List Entry) → Lists grid self.old cs → Lists grid self.new (with_neighbours grid cells.now cs p) }
     {
-        let p = self.order[t];
         let cell = usize::from(p);
-        let y = cell / grid.width;
-        let x = cell % grid.width;
         for k in 0..4 {
-            if let Some(j) = grid.toward(y, x, k) {
+            if let Some(j) = grid.toward(cell, k) {
                 self.list_cell(cells, j, p);
             }
         }
@@ -82,16 +77,15 @@ impl BreadthFirstList {
 
     // Lists the squares joined to b, breadth first. The list comes empty.
     fn list_from(&mut self, grid: Grid, cells: &[u8; 1024], b: usize)
-        requires empty { (self.old.count ≡ 0) × (self.old.from ≡ replicate 1024 1024) }
-        requires square { (b < grid.height * grid.width) × (get_or cells.now b 0 ≡ 1) }
-        ensures { Listing (grid.height * grid.width) self.new.order self.new.from self.new.count
-            (list_from (sized grid.height grid.width) (take (grid.height * grid.width) cells.now) b) }
+        requires empty { IsEmpty self.old }
+        requires square { (b < cells_in grid) × (get_or cells.now b 0 ≡ 1) }
+        ensures { Lists grid self.new (listed_from grid cells.now b) }
     {
         self.list_cell(cells, b, b as u16);
         let mut t = 0;
-        // no for: the list grows while it is gone through, and ends where it stops to grow
-        while t < self.count {
-            self.list_neighbours(grid, cells, t);
+        // No `for`: the list grows while it is gone through, and the loop ends where it stops to grow.
+        while let Some(&p) = self.order.get(t) {
+            self.list_neighbours(grid, cells, p);
             t += 1;
         }
     }
@@ -99,22 +93,30 @@ impl BreadthFirstList {
 
 // The squares of a shortest way from a to b, which are squares of one block, by the parents of the breadth-first list from b.
 fn reason_for_path(grid: Grid, cells: &[u8; 1024], a: usize, b: usize, buffer: &mut [u16]) -> usize
-    requires ends { Joined (sized grid.height grid.width) (square (take (grid.height * grid.width) cells.now)) b a }
-    requires room { grid.height * grid.width ≤ length buffer.old }
-    ensures { Wrote (each 1 (way (sized grid.height grid.width) (take (grid.height * grid.width) cells.now) a b)) buffer.old buffer.new result }
+    requires ends { AreJoined grid cells.now b a }
+    requires room { cells_in grid ≤ length buffer.old }
+    ensures { Wrote (each 1 (way_on grid cells.now a b)) buffer.old buffer.new result }
 {
     let mut list = BreadthFirstList::new();
     list.list_from(grid, cells, b);
     let mut cell = a;
-    let mut count = 0;
-    // no for: the way goes from parent to parent, and has no index
+    let mut way = Literals {
+        out: buffer,
+        count: 0,
+    };
+    // No `for`: the way goes from parent to parent, and has no index.
     while cell != b {
-        buffer[count] = literals::literal(cell, 1);
+        way.push(Literal {
+            index: cell as u16,
+            value: 1,
+        });
         cell = usize::from(list.from[cell]);
-        count += 1;
     }
-    buffer[count] = literals::literal(cell, 1);
-    count + 1
+    way.push(Literal {
+        index: cell as u16,
+        value: 1,
+    });
+    way.count
 }
 
 // The name of the lowest numbered block with two arrow cells or more, of those that are listed.
@@ -147,9 +149,8 @@ fn next_arrow_cell(
 // The first two arrow cells of the lowest numbered block that has two or more, if there is one.
 fn find_crossing(grid: Grid, blocks: &Groups, onarrow: &[u8; 1024]) -> Option<(usize, usize)>
     requires { Names blocks.now.firsts blocks.now.count }
-    ensures { (p : Puzzle) (cells squares : List ℕ)
-        → BlockTable p cells blocks.now.labels onarrow.now blocks.now.firsts squares blocks.now.arrowed blocks.now.count
-        → grid.height * grid.width ≡ size p.grid → Crossing p cells result }
+    ensures { (p : Puzzle) (cells squares : List ℕ) → HasTable p cells squares onarrow.now blocks.now
+        → cells_in grid ≡ size p.grid → Crossing p cells result }
 {
     let f = first_crossed(&blocks.firsts[..blocks.count], &blocks.arrowed)?;
     let n = grid.size();
@@ -166,14 +167,11 @@ pub fn check_blocks(
     onarrow: &[u8; 1024],
     buffer: &mut [u16],
 ) -> Option<usize>
-    requires blocked { Blocked grid.height grid.width cells.now blocks.now.labels onarrow.now blocks.now.firsts blocks.now.arrowed blocks.now.count }
-    requires room { 3 * (grid.height * grid.width) + 1 ≤ length buffer.old }
-    ensures { (lines : List (List ℕ)) (squares : List ℕ)
-        → BlockTable (puzzle_with (sized grid.height grid.width) lines) (take (grid.height * grid.width) cells.now)
-        blocks.now.labels onarrow.now blocks.now.firsts squares blocks.now.arrowed blocks.now.count
-        → FoundAs (reason2 (puzzle_with (sized grid.height grid.width) lines) (take (grid.height * grid.width) cells.now)) buffer.old buffer.new result }
+    requires blocked { BlocksAreThere grid cells.now onarrow.now blocks.now }
+    requires room { HasRoom grid buffer.old }
+    ensures { (lines : List (List ℕ)) (squares : List ℕ) → HasBlocks grid lines cells.now squares onarrow.now blocks.now
+        → FoundAs (reason2 (puzzle_on grid lines) (states_on grid cells.now)) buffer.old buffer.new result }
 {
     let (a, b) = find_crossing(grid, blocks, onarrow)?;
-    let count = reason_for_path(grid, cells, a, b, buffer);
-    Some(count)
+    Some(reason_for_path(grid, cells, a, b, buffer))
 }

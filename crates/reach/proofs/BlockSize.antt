@@ -9,9 +9,10 @@ use mathlib.Core.List.{List}
 use lib.Dec.{eqb}
 use lib.ListN.{length, get_or, get_or-eq_default}
 use borrow.Author.Tests.{eqb-true, eq-eqb}
+use Rattle.std.proofs.lemmas.Bool.{and_from}
 use Rattle.grid.specs.Lists.{upto}
 use Rattle.grid.specs.Grid.{Grid, size, cells_of}
-use Rattle.grid.proofs.ListLaws.{So-false, and-true, true-and, upto-mem}
+use Rattle.grid.proofs.ListLaws.{So-false, and-true, upto-mem}
 use Rattle.grid.proofs.AppendLaws.{same_test, filter-filter, filter_agree}
 use Rattle.grid.proofs.FilledLaws.{filled_past, filled_length}
 use Rattle.record.specs.Record.{Puzzle}
@@ -94,7 +95,7 @@ module _ (p : Puzzle) (small : size p.grid ≤ 1024) (cells K O : List ℕ) (H :
     where
       same : (i : ℕ) → i < size g → is_in f (kind i) ≡ ((square cells i && eqb (label i) f) && square cells i)
       same i l = same_test (is_in f (kind i)) ((square cells i && eqb (label i) f) && square cells i)
-          (λ h. let q = in_block_lem i f l h in true-and (true-and q.0 (eq-eqb (label i) f q.2)) q.0)
+          (λ h. let q = in_block_lem i f l h in and_from _ _ (and_from _ _ q.0 (eq-eqb (label i) f q.2)) q.0)
           (λ h. let q = and-true (square cells i && eqb (label i) f) _ h in
           let e : label i ≡ f = eqb-true (label i) f (and-true (square cells i) _ q.0).1 in
           subst (λ x. So (is_in x (kind i))) e (block_in i l q.1 (rw e (named i l q.1 e))))

@@ -27,7 +27,7 @@ record First (p : ℕ → Bool) (k m i : ℕ) : Type 0 where
   none_before : filter p (range k (i - k)) ≡ []
 
 First-of : (p : ℕ → Bool) (k m i : ℕ) → i ≡ first_cell (filter p (range k m)) → i < 1024 → First p k m i
-unfolding first_cell filter range
+unfolding first_cell range
 First-of p k zero i e h = absurd (omega (arith, e))
 First-of p k (suc m) i e h = go (p k) refl (First-of p (suc k) m i)
   where
@@ -98,7 +98,7 @@ module _ (owners : List ℕ) (n f : ℕ) where
 
   -- the next cell is passed, and it is the only one up to it
   pub passed_first : (k i : ℕ) → i ≡ first_from owners n f k → i < 1024 → cells_up_to owners f (i + 1) ≡ cells_up_to owners f k ++ (i ∷ [])
-  unfolding cells_up_to upto filter
+  unfolding cells_up_to upto
   passed_first k i e h =
       let F = first k i e h in
       let p = owned_by owners f in
@@ -131,7 +131,7 @@ module _ (owners : List ℕ) (n f : ℕ) where
 
 -- no cell is passed yet
 pub passed_none : (owners : List ℕ) (f : ℕ) → cells_up_to owners f 0 ≡ []
-unfolding cells_up_to upto range filter
+unfolding cells_up_to upto range
 passed_none owners f = refl
 
 -- head has the first cell, and next the one behind each
@@ -146,12 +146,12 @@ module _ {owners head next : List ℕ} {n : ℕ} (C : Chains owners head next n)
 
 module _ (owners : List ℕ) (n : ℕ) where
   from_next : (f i : ℕ) → i < n → cells_from owners n f i ≡ cond (owned_by owners f i) (i ∷ cells_from owners n f (i + 1)) (cells_from owners n f (i + 1))
-  unfolding cells_from range filter
+  unfolding cells_from range
   from_next f i h = let s : n - i ≡ suc (n - (i + 1)) = omega arith in rw (s, add-one i) refl
 
   -- before the last cell
   pub chains_none : n ≤ 1024 → ChainsFrom owners (replicate 1024 1024) (replicate 1024 1024) n n
-  unfolding first_from cells_from range filter first_cell
+  unfolding first_from cells_from range first_cell
   chains_none small = record {
     small = small;
     head_long = length-replicate {A = ℕ} 1024 1024;

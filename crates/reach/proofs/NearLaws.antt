@@ -11,8 +11,10 @@ use mathlib.Core.List.Memᴰ
 use mathlib.Core.List.{List, [], ◌∷◌, ◌++◌, Memᴰ}
 use lib.Dec.{eqb, ltb}
 use lib.ListN.{length, get_or, set, take, replicate, length-append, length-set, length-replicate, get_or-replicate}
-use lib.Seq.{length-take-le, get_or-set_same, get_or-set_other, set-get_or, get_or-take, take-suc, take-suc-set}
+use lib.Seq.{length-take-le, get_or-set_same, get_or-set_other, set-get_or, take-suc, take-suc-set}
 use borrow.Author.Tests.{eq-eqb, ne_eqb, eqb-true, lt-ltb, le-ltb}
+use Rattle.std.specs.List.{All}
+use Rattle.std.proofs.lemmas.List.{get_or_default}
 use Rattle.grid.specs.Lists.{range, upto, any, filter, member, Distinct}
 use Rattle.grid.specs.Grid.{Grid, neighbours}
 use Rattle.grid.proofs.ListLaws.{length-range, filter-length, filter_split, Distinct-snoc, at_mem, So-false, member-mem, Distinct-few}
@@ -21,7 +23,6 @@ use Rattle.grid.proofs.MarkLaws.{Marks-none, Marks-same, Marks-set, mark_on, mar
 use Rattle.reach.specs.Inside.{near_at, near_among, float_among}
 use Rattle.reach.specs.Chains.{owned_by, cells_from, Chains}
 use Rattle.kinds.specs.Inside.{of_block}
-use Rattle.groups.specs.Arrays.{Names}
 use Rattle.groups.proofs.TableLaws.{any-filter}
 use Rattle.reach.specs.Near.{beside_owned, Sizes, Listed, Listing}
 use Rattle.reach.proofs.ChainWalks.{Walk, Walk-start, Walk-more, walk_end}
@@ -35,7 +36,7 @@ cells_are owners n f = let z : n - 0 ≡ n = omega arith in rw z refl
 
 -- before the first
 pub Sizes-none : (kinds owners : List ℕ) → Sizes kinds owners 0 (replicate 1024 0)
-unfolding upto range filter
+unfolding upto range
 Sizes-none kinds owners = record { long = length-replicate {A = ℕ} 1024 0; at = λ f h. get_or-replicate {A = ℕ} 1024 f 0 0 h }
 
 module _ {kinds owners sizes : List ℕ} {i : ℕ} (S : Sizes kinds owners i sizes) where
@@ -153,44 +154,22 @@ module _ {t : ℕ → Bool} {near groups : List ℕ} {c : ℕ} (L : Listed t nea
         from x false e q = rw (← (eqb-true m x (rw e at q.1))) (mem_end (take c groups))
 
   -- the listed names are below 1024
-  pub listed_Names : Names groups c
-  listed_Names = record { long = L.long; few = L.few; small = λ k h. subst (λ x. x < 1024) (get_or-take c groups k 0 h) ((L.listed _).0 (at_mem (take c groups) k (omega (arith, as_many)))).0 }
+  pub listed_small : All (λ m. m < 1024) (take c groups)
+  listed_small k d h = ((L.listed _).0 (rw (get_or_default (take c groups) k d 0 h) (at_mem (take c groups) k h))).0
 
 -- ---- the floating group of a cell is listed
 
 module _ (kinds owners : List ℕ) {t : ℕ → Bool} {near groups : List ℕ} {c : ℕ} (L : Listed t near groups c) where
   -- no cell
   pub float_none : Listed (λ m. t m || float_among kinds owners [] m) near groups c
-  unfolding any
   float_none = Listed-same L _ (λ m h. sym (or-false (t m)))
 
   module _ (j : ℕ) where
     abbrev then : ℕ → Bool
     then m = t m || float_among kinds owners (j ∷ []) m
 
-    -- the cell is not floating
-    pub float_off : (get_or kinds j 0 ≡ 4 → ⊥) → Listed then near groups c
-    unfolding any
-    float_off ne = Listed-same L then (λ m h. rw (ne_eqb (get_or kinds j 0) 4 ne) (sym (or-false (t m))))
-
-    -- it has no name
-    pub float_unnamed : 1024 ≤ get_or owners j 0 → Listed then near groups c
-    unfolding any
-    float_unnamed l = Listed-same L then (λ m h. simp (ne_eqb (get_or owners j 0) m (λ q. omega (arith, q)), and-false, or-false))
-
-    -- its group is listed already
-    pub float_old : get_or owners j 0 < 1024 → get_or near (get_or owners j 0) 0 ≡ 1 → Listed then near groups c
-    unfolding any
-    float_old l e = Listed-same L then (λ m h. go m (t m) refl (ℕ_discrete (get_or owners j 0) m))
-      where
-        go : (m : ℕ) (b : Bool) → t m ≡ b → Dec (get_or owners j 0 ≡ m) → b ≡ (b || ((eqb (get_or kinds j 0) 4 && eqb (get_or owners j 0) m) || false))
-        go m true q d = refl
-        go m false q (yes s) = absurd (false≢true (sym q ∙ subst (λ x. t x ≡ true) s (mark_on L.marked (get_or owners j 0) l e)))
-        go m false q (no ne) = simp (ne_eqb (get_or owners j 0) m ne, and-false)
-
     -- its group is new
     pub float_new : get_or kinds j 0 ≡ 4 → get_or owners j 0 < 1024 → (get_or near (get_or owners j 0) 0 ≡ 1 → ⊥) → Listed then (set near (get_or owners j 0) 1) (set groups c (get_or owners j 0)) (c + 1)
-    unfolding any
     float_new e l ne = Listed-same (Listed-more L (get_or owners j 0) l (mark_off L.marked (get_or owners j 0) l ne)) then (λ m h. rw (eq-eqb (get_or kinds j 0) 4 e) (ap (λ (b : Bool). t m || b) (sym (or-false (eqb (get_or owners j 0) m)))))
 
 -- a group that is not marked has room
@@ -222,14 +201,14 @@ pub record Nearby (kinds owners : List ℕ) (g : Grid) (n f i : ℕ) (near group
 
 module _ (kinds : List ℕ) {owners head next : List ℕ} (g : Grid) {n : ℕ} (C : Chains owners head next n) (f : ℕ) (small : f < 1024) where
   pub Nearby-none : {groups : List ℕ} → length groups ≡ 1024 → Nearby kinds owners g n f (get_or head f 0) (replicate 1024 0) groups 0
-  unfolding near_in any
+  unfolding near_in
   Nearby-none long = record { passed = []; walk = Walk-start C f small; so_far = Listed-none long }
 
   module _ {i : ℕ} {near groups : List ℕ} {c : ℕ} (W : Nearby kinds owners g n f i near groups c) where
     -- the cell is passed
     pub Nearby-more : {near' groups' : List ℕ} {c' : ℕ} → i < 1024
         → Listed (λ m. near_in kinds owners g W.passed m || (eqb (get_or kinds i 0) 2 && float_among kinds owners (neighbours g i) m)) near' groups' c' → Nearby kinds owners g n f (get_or next i 0) near' groups' c'
-    unfolding near_in any
+    unfolding near_in
     Nearby-more h L = record {
       passed = W.passed ++ (i ∷ []);
       walk = Walk-more C f small W.walk h;
@@ -277,7 +256,6 @@ total_same F G [] h = refl
 total_same F G (x ∷ l) h = rw (h x (Memᴰ.head refl), total_same F G l (λ y m. h y (Memᴰ.tail m)))
 
 any-or : (a b : ℕ → Bool) (l : List ℕ) → any (λ x. a x || b x) l ≡ (any a l || any b l)
-unfolding any
 any-or a b [] = refl
 any-or a b (x ∷ l) = rw (any-or a b l) (go (a x) (b x) (any a l) (any b l))
   where
@@ -288,7 +266,6 @@ any-or a b (x ∷ l) = rw (any-or a b l) (go (a x) (b x) (any a l) (any b l))
     go false false r s = refl
 
 length-or : (a b : ℕ → Bool) (l : List ℕ) → ((x : ℕ) → a x ≡ true → b x ≡ false) → length (filter (λ x. a x || b x) l) ≡ length (filter a l) + length (filter b l)
-unfolding filter
 length-or a b [] h = refl
 length-or a b (x ∷ l) h = go (a x) (b x) (h x) (length-or a b l h)
   where
@@ -305,12 +282,11 @@ owned_in owners ms i = member (get_or owners i 0) ms
 
 module _ (owners : List ℕ) (n : ℕ) where
   none_owned : (p : ℕ → Bool) (l : List ℕ) → any (λ x. false && p x) l ≡ false
-  unfolding any
   none_owned p [] = refl
   none_owned p (x ∷ l) = none_owned p l
 
   any_owners : (p : ℕ → Bool) (ms l : List ℕ) → any (λ i. owned_in owners ms i && p i) l ≡ any (λ m. any p (filter (owned_by owners m) l)) ms
-  unfolding any member owned_by
+  unfolding member owned_by
   any_owners p [] l = none_owned p l
   any_owners p (m ∷ ms) l =
       any_agree _ _ l (λ i _. and-or_distrib_right (eqb (get_or owners i 0) m) (member (get_or owners i 0) ms) (p i)) ∙ any-or (λ i. owned_by owners m i && p i) (λ i. owned_in owners ms i && p i) l
@@ -321,12 +297,12 @@ module _ (owners : List ℕ) (n : ℕ) where
   any_owned p ms = any-filter p (owned_in owners ms) (upto n) ∙ any_owners p ms (upto n) ∙ any_agree _ _ ms (λ m _. ap (any p) (sym (cells_are owners n m)))
 
   none_counted : (l : List ℕ) → length (filter (owned_in owners []) l) ≡ 0
-  unfolding filter any member
+  unfolding member
   none_counted [] = refl
   none_counted (x ∷ l) = none_counted l
 
   length_owners : (ms l : List ℕ) → Distinct ms → length (filter (owned_in owners ms) l) ≡ total (λ m. length (filter (owned_by owners m) l)) ms
-  unfolding total any member owned_by
+  unfolding total member owned_by
   length_owners [] l d = none_counted l
   length_owners (m ∷ ms) l d = omega (arith, either, length_owners ms l d.1)
     where

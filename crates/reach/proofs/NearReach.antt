@@ -172,7 +172,7 @@ module _ (p : Puzzle) (small : size p.grid ≤ 1024) (cells K O : List ℕ) (H :
 
       -- a cell is in the reach if its owner is f or a listed group
       owner_in : (i : ℕ) → i < size g → in_reach v f i ≡ owned_in O (f ∷ gs) i
-      unfolding in_reach has any member is_in is_neighbour is_floating owner_by
+      unfolding in_reach has member is_in is_neighbour is_floating owner_by
       owner_in i l = by (kind i) refl ∙ ap (λ (o : ℕ). eqb o f || member o gs) (sym (owner_get p small cells K O H i l))
         where
           outside : false ≡ (eqb 1024 f || member 1024 gs)
@@ -203,7 +203,6 @@ module _ (p : Puzzle) (small : size p.grid ≤ 1024) (cells K O : List ℕ) (H :
       f_apart q = false≢true (sym f_kind ∙ float_name f f ((N.listed f).0 q).1)
 
       any-reach : (q : ℕ → Bool) → any q (reach v f) ≡ (any q (cells_from O (size g) f 0) || any (λ m. any q (cells_from O (size g) m 0)) gs)
-      unfolding any
       any-reach q = ap (any q) reach_owned ∙ any_owned O (size g) q (f ∷ gs)
 
       length-reach : length (reach v f) ≡ length (cells_from O (size g) f 0) + total (λ m. length (cells_from O (size g) m 0)) gs

@@ -1,15 +1,16 @@
-// The reach of an arrow block as marks, and the cells of each owner in chains.
+// The reach of an arrow block as marks, and the cells of each owner in chains. What C calls takes no memory: the arrays stand in the frame of who makes them.
 #![tactic(auto)]
 
 pub mod near;
 
-ghost use Rattle.std.specs.Prelude.{◌≡◌, ℕ, ◌+◌, ◌*◌, ◌≤◌, ◌<◌, Bool, ◌||◌, List, replicate};
+ghost use Rattle.std.specs.Prelude.{◌≡◌, ℕ, ◌+◌, ◌≤◌, ◌<◌, Bool, ◌||◌, List, replicate};
 ghost use Rattle.grid.specs.Marks.{Marks};
 ghost use Rattle.reach.specs.Chains.{ChainsFrom, Chains};
 ghost use Rattle.kinds.specs.Board.{cell_count, board_with, KindsAre};
-ghost use Rattle.reach.specs.Inside.{reaches, Reached, Reach};
+ghost use Rattle.reach.specs.Inside.{reaches_at, Reached, Reach};
 ghost use Rattle.reach.specs.Board.{float_beside, is_float_near, CellsLinked};
 
+use groups::NO_GROUP;
 use kinds::{ARROW_BLOCK, ARROW_BLOCK_NEIGHBOR, BoardInfo, FLOATING};
 
 // What is known of a board's cells, with the cells of each owner linked by rising index: `head` has the first cell of each owner and `next` the one behind
@@ -22,6 +23,9 @@ pub struct Linked<'a> {
     pub ghost chains: { CellsLinked info head.now next.now },
 }
 
+// Stands for a cell where there is none. A number, and no `Option`: definitions have it, and `grid::pick` chooses it without a branch.
+pub const NO_CELL: u16 = 1024;
+
 // Puts cell i in front of the chain of its owner, if it has one. Without one the places are written with what they hold.
 fn chain_cell(owners: &[u16; 1024], i: usize, head: &mut [u16; 1024], next: &mut [u16; 1024])
     requires cell { i < 1024 }
@@ -29,7 +33,7 @@ fn chain_cell(owners: &[u16; 1024], i: usize, head: &mut [u16; 1024], next: &mut
         → ChainsFrom owners.now head.new next.new n i }
 {
     let f = owners[i];
-    let owned = f < 1024;
+    let owned = f < NO_GROUP;
     let slot = usize::from(f % 1024);
     let first = head[slot];
     let behind = next[i];
@@ -37,7 +41,7 @@ fn chain_cell(owners: &[u16; 1024], i: usize, head: &mut [u16; 1024], next: &mut
     head[slot] = grid::pick(owned, i as u16, first);
 }
 
-// Links the cells of each owner by rising index, as `Linked` has them. Both arrays come with 1024 everywhere.
+// Links the cells of each owner by rising index, as `Linked` has them. Both arrays come with 1024 everywhere, lent as those of `kinds::compute_cell_kinds`.
 pub fn chain_cells(owners: &[u16; 1024], n: usize, head: &mut [u16; 1024], next: &mut [u16; 1024])
     requires fresh { (n ≤ 1024) × (head.old ≡ replicate 1024 1024) × (next.old ≡ replicate 1024 1024) }
     ensures { Chains owners.now head.new next.new n }
@@ -47,34 +51,45 @@ pub fn chain_cells(owners: &[u16; 1024], n: usize, head: &mut [u16; 1024], next:
     }
 }
 
-// Whether a cell of this kind and owner is in the reach of the block f.
-#[tactic(auto, using(std::proofs::lemmas::Bool::Decides::nat_tests), unfolding(crate::specs::Inside::reaches))]
-pub fn in_reach(near: &[u8; 1024], f: u16, kind: u8, owner: u16) -> bool
-    ensures { result ≡ reaches near.now f kind owner }
+// The reach of an arrow block: marks of the floating groups in it, by name, marks of its cells, and how many these are.
+#[derive(Clone, Copy)]
+pub struct BlockReach {
+    pub near: [u8; 1024],
+    pub marks: [u8; 1024],
+    pub size: usize,
+}
+
+// Whether cell i is in the reach of the block f, whose floating groups are marked.
+#[tactic(auto, using(std::proofs::lemmas::Bool::Decides::nat_tests), unfolding(crate::specs::Inside::reaches, crate::specs::Inside::reaches_at))]
+pub fn in_reach(info: &BoardInfo<'_>, near: &[u8; 1024], f: u16, i: usize) -> bool
+    requires cell { i < 1024 }
+    ensures { result ≡ reaches_at info.now.kinds.now info.now.owners.now near.now f i }
 {
-    match kind {
+    let owner = info.owners[i];
+    match info.kinds[i] {
         ARROW_BLOCK | ARROW_BLOCK_NEIGHBOR => owner == f,
-        FLOATING => owner < 1024 && near[usize::from(owner)] == 1,
+        FLOATING => owner < NO_GROUP && near[usize::from(owner)] == 1,
         _ => false,
     }
 }
 
-// Marks the cells of the reach of the block f, and counts them.
-fn mark_reach(info: &BoardInfo<'_>, f: u16, near: &[u8; 1024], marks: &mut [u8; 1024]) -> usize
-    ensures { Reached info.now.kinds.now info.now.owners.now near.now f (cell_count info.now) marks.new result }
+// The cells of the reach of the block f, whose floating groups are marked, as marks, and how many they are.
+fn mark_reach(info: &BoardInfo<'_>, f: u16, near: &[u8; 1024]) -> ([u8; 1024], usize)
+    ensures { Reached info.now.kinds.now info.now.owners.now near.now f (cell_count info.now) result.0 result.1 }
 {
-    *marks = [0; 1024];
+    let mut marks = [0; 1024];
     let mut count = 0;
     for i in 0..info.grid.size() {
-        if in_reach(near, f, info.kinds[i], info.owners[i]) {
+        if in_reach(info, near, f, i) {
             marks[i] = 1;
             count += 1;
         }
     }
-    count
+    (marks, count)
 }
 
-// Marks the floating groups that touch cell i, if that is a neighbour of the block f.
+// Marks the floating groups that touch cell i, if that is a neighbour of the block f. It goes over the directions as `Floats::list_floats_beside` does, which
+// lists them too; a closure for what is done there would be as long as the loop.
 fn mark_floats_beside(info: &BoardInfo<'_>, f: u16, i: usize, near: &mut [u8; 1024])
     requires cell { i < cell_count info.now }
     ensures { (t : ℕ → Bool) → Marks near.old t → Marks near.new (λ m. t m || float_beside info.now f i m) }
@@ -85,35 +100,30 @@ fn mark_floats_beside(info: &BoardInfo<'_>, f: u16, i: usize, near: &mut [u8; 10
     if info.owners[i] != f {
         return;
     }
-    let y = i / info.grid.width;
-    let x = i % info.grid.width;
     for k in 0..4 {
-        if let Some(j) = info.grid.toward(y, x, k) {
+        if let Some(j) = info.grid.toward(i, k) {
             info.mark_owner(FLOATING, j, near);
         }
     }
 }
 
-// Marks the floating groups that touch a neighbour of the block f.
-fn mark_near_floats(info: &BoardInfo<'_>, f: u16, near: &mut [u8; 1024])
-    ensures { Marks near.new (is_float_near info.now f) }
+// The floating groups that touch a neighbour of the block f, as marks.
+fn mark_near_floats(info: &BoardInfo<'_>, f: u16) -> [u8; 1024]
+    ensures { Marks result (is_float_near info.now f) }
 {
-    *near = [0; 1024];
+    let mut near = [0; 1024];
     for i in 0..info.grid.size() {
-        mark_floats_beside(info, f, i, near);
+        mark_floats_beside(info, f, i, &mut near);
     }
+    near
 }
 
-// Marks the cells of the reach of the block f, and counts them; near marks the floating groups in it.
-pub fn compute_reach(
-    info: &BoardInfo<'_>,
-    f: u16,
-    near: &mut [u8; 1024],
-    marks: &mut [u8; 1024],
-) -> usize
+// The reach of the block f, by passes over the grid: who writes a reason has no chains of its cells, by which `near::Floats::list_near` goes.
+pub fn compute_reach(info: &BoardInfo<'_>, f: u16) -> BlockReach
     ensures { (arrows : List (List ℕ)) (cells : List ℕ) → KindsAre info.now (board_with info.now arrows cells)
-        → Reach (board_with info.now arrows cells) f near.new marks.new result }
+        → Reach (board_with info.now arrows cells) f result.near result.marks result.size }
 {
-    mark_near_floats(info, f, near);
-    mark_reach(info, f, near, marks)
+    let near = mark_near_floats(info, f);
+    let (marks, size) = mark_reach(info, f, &near);
+    BlockReach { near, marks, size }
 }

@@ -11,10 +11,11 @@ use lib.Dec.{eqb}
 use lib.ListN.{length, length-append}
 use lib.Seq.{append_snoc}
 use borrow.Author.Tests.{eqb-true, eq-eqb}
+use Rattle.std.proofs.lemmas.Bool.{and_from}
 use Rattle.grid.specs.Lists.{Distinct, filter}
 use Rattle.grid.specs.Grid.{Grid, size, neighbours, Adjacent}
 use Rattle.grid.specs.Link.{Linked}
-use Rattle.grid.proofs.ListLaws.{Dec-So, So-false, and-true, true-and, not-So, So-not}
+use Rattle.grid.proofs.ListLaws.{Dec-So, So-false, and-true, not-So, So-not}
 use Rattle.grid.proofs.GridLaws.{apart}
 use Rattle.grid.specs.Cells.{Literal, square}
 use Rattle.paths.specs.Paths.{Entry, seen, appended, breadth_first, list_from, parent, path}
@@ -28,7 +29,6 @@ use Rattle.paths.proofs.Walk.{seen-So, So-seen, Listed-left, Listed-cases, Liste
 appends : (cells : List ℕ) (base : List Entry) (c : ℕ) (js : List ℕ) (l : List Entry) → Distinct js
     → ((j : ℕ) → Memᴰ j js → Listed l j → Listed base j) → ((j : ℕ) → Memᴰ j js → Listed base j → Listed l j)
     → Appends cells c js l (map (λ j. (j, c)) (filter (λ j. square cells j && not (seen base j)) js))
-unfolding filter
 appends cells base c [] l d f h = through
 appends cells base c (j ∷ js) l d f h =
     go (Dec-So (square cells j && not (seen base j))) (λ l f h. appends cells base c js l d.1 f h)
@@ -52,7 +52,7 @@ appends cells base c (j ∷ js) l d f h =
         rw t (append q.0 (λ k. not-So {a = seen base j} q.1 (So-seen base j (f j (Memᴰ.head refl) k)))
         (ih (l ++ ((j, c) ∷ [])) (λ k m q. still k m (Listed-cases l ((j, c) ∷ []) k q)) (λ k m q. Listed-left l ((j, c) ∷ []) k (h k (Memᴰ.tail m) q))))
     go (no t) ih =
-        rw (So-false (test j) t) (pass (λ (s, n). t (true-and s (So-not (seen base j) (λ k. n (h j (Memᴰ.head refl) (seen-So base j k))))))
+        rw (So-false (test j) t) (pass (λ (s, n). t (and_from _ _ s (So-not (seen base j) (λ k. n (h j (Memᴰ.head refl) (seen-So base j k))))))
         (ih l (λ k m. f k (Memᴰ.tail m)) (λ k m. h k (Memᴰ.tail m))))
 
 -- it appends nothing else

@@ -10,14 +10,16 @@ use mathlib.Core.Bool.{Bool, So, ◌&&◌, not}
 use mathlib.Core.List.Memᴰ
 use mathlib.Core.List.{List, [], ◌∷◌, Memᴰ}
 use mathlib.Core.Option.{none, some}
+use Rattle.std.proofs.Math.Option.{none-ne-some}
 use lib.ListN.{length, get_or-eq_default}
 use borrow.Author.Tests.{eq-eqb}
+use Rattle.std.proofs.lemmas.Bool.{and_from}
 use Rattle.grid.specs.Lists.{Rising, nil, cons, any, filter, last}
 use Rattle.grid.specs.Grid.{Grid, size, cells_of, touches, Adjacent}
 use Rattle.grid.specs.Link.{here}
 use Rattle.grid.proofs.LinkLaws.{Linked-end, Linked-start, Linked-trans, Linked-sym}
 use Rattle.grid.specs.Cells.{Literal, empty, square, potential}
-use Rattle.grid.proofs.ListLaws.{and-true, true-and, not-So, So-not, filter-mem, mem-filter, any-mem, mem-any, upto-mem, last-mem}
+use Rattle.grid.proofs.ListLaws.{and-true, not-So, So-not, filter-mem, mem-filter, any-mem, mem-any, upto-mem, last-mem}
 use Rattle.grid.proofs.RisingLaws.{filter-Rising, cells_Rising, first_least, last_greatest, Rising-same}
 use Rattle.grid.proofs.GridLaws.{adj_sym, Adjacent-touches, touches-Adjacent, in_cells}
 use Rattle.grid.proofs.CellLaws.{square_below}
@@ -47,7 +49,7 @@ record Lowest (f : ℕ → Found) (l : List ℕ) (r : List Literal) : Type 0 whe
 
 first_Lowest : (f : ℕ → Found) {l : List ℕ} → Rising l → (r : List Literal) → first_found_of f l ≡ some r → Lowest f l r
 unfolding first_found_of or_else
-first_Lowest f nil r e = absurd (let z : ◌≡◌ {A = ℕ} 0 1 = cc in omega arith)
+first_Lowest f nil r e = absurd (none-ne-some r e)
 first_Lowest f (cons {x} {xs} h k) r e = go (f x) refl e (λ q. first_Lowest f k r q)
   where
     later : f x ≡ none → (w : Lowest f xs r) (y : ℕ) (s : List Literal) → Memᴰ y (x ∷ xs) → f y ≡ some s → w.x ≤ y
@@ -70,7 +72,7 @@ module _ (f : ℕ → Found) (l : List ℕ) (rise : Rising l) (P : ℕ → Type 
       (w.x, q.0, q.1, λ y a. let v = given y a in w.low y v.1.0 v.0 v.1.1)
 
   none_is : first_found_of f l ≡ none → (x : ℕ) → ¬ P x
-  none_is e x a = let v = given x a in let z : ◌≡◌ {A = ℕ} 0 1 = cc (first_none f l e v.0, v.1.1) in omega arith
+  none_is e x a = let v = given x a in none-ne-some v.1.0 (sym (first_none f l e v.0) ∙ v.1.1)
 
   is_first : (r : List Literal) → (x : ℕ) × P x × G x r × ((y : ℕ) → P y → x ≤ y) → first_found_of f l ≡ some r
   is_first r (x, a, b, h) = go (first_found_of f l) refl
@@ -170,7 +172,7 @@ module _ (p : Puzzle) (cells : List ℕ) (long : length cells ≡ size p.grid) w
         }
 
     Stranded-So : Stranded p cells f → So (stranded_test f)
-    Stranded-So s = true-and (mem-any (square cells) (pot f) (listed s.some.0 s.some.1) s.some.2)
+    Stranded-So s = and_from _ _ (mem-any (square cells) (pot f) (listed s.some.0 s.some.1) s.some.2)
         (So-not (any (on_arrow p.arrows) (pot f)) (λ t. let w = any-mem (on_arrow p.arrows) (pot f) t in s.none w.0 (joined w.0 w.1) (arrow_So p.arrows w.0 w.2)))
 
     -- the squares of the group, and the empty cells that touch it
@@ -193,7 +195,7 @@ module _ (p : Puzzle) (cells : List ℕ) (long : length cells ≡ size p.grid) w
 
         from : So (empty cells i) × ((j : ℕ) × Adjacent grid i j × SamePotential grid cells f j) → Memᴰ i bounds
         from (z, w) = mem-filter (λ k. empty cells k && touches grid (pot f) k) (cells_of grid) (in_cells grid i w.1.0)
-            (true-and z (Adjacent-touches grid (pot f) i w.0 w.1 (listed w.0 w.2)))
+            (and_from _ _ z (Adjacent-touches grid (pot f) i w.0 w.1 (listed w.0 w.2)))
 
     -- the computed literals are those of the meaning
     bounded : Stranded p cells f → Boundary p cells f (boundary grid cells (pot f))
@@ -336,8 +338,8 @@ module _ (p : Puzzle) (cells : List ℕ) (long : length cells ≡ size p.grid) w
   reason2_gives f r m e = go (arrow_cells f) refl e
     where
       go : (l : List ℕ) → arrow_cells f ≡ l → reason2_at grid cells l ≡ some r → HasTwo f × WayBetween f r
-      go [] q e = absurd (let z : ◌≡◌ {A = ℕ} 0 1 = cc in omega arith)
-      go (a ∷ []) q e = absurd (let z : ◌≡◌ {A = ℕ} 0 1 = cc in omega arith)
+      go [] q e = absurd (none-ne-some r e)
+      go (a ∷ []) q e = absurd (none-ne-some r e)
       go (a ∷ b ∷ rest) q e =
           let c = Crossed-of f m a b rest q in
           let e : each 1 (way grid cells a b) ≡ r = cc in

@@ -6,6 +6,7 @@ use mathlib.Core.Path.{◌≡◌, refl}
 use mathlib.Core.Bool.{Bool, true, false, cond}
 use mathlib.Core.List.{List, [], ◌∷◌}
 use mathlib.Core.Option.{none, some}
+use Rattle.std.proofs.Math.Option.{none-ne-some}
 use lib.Dec.{eqb, ltb}
 use lib.ListN.{length, length-append}
 use borrow.Author.Tests.{ltb-true}
@@ -35,7 +36,7 @@ some-Literate s h r e = let q : s ≡ r = cc in rw (← q) h
 
 none-Literate : Literate none
 unfolding Literate
-none-Literate r e = let z : ◌≡◌ {A = ℕ} 0 1 = cc in absurd (omega arith)
+none-Literate r e = absurd (none-ne-some r e)
 
 or_else-Literate : (a b : Found) → Literate a → Literate b → Literate (or_else a b)
 unfolding or_else

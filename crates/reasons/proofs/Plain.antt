@@ -4,11 +4,9 @@ use Prim.Native.Nat.{ℕ, ◌<◌}
 use mathlib.Core.Path.{◌≡◌, refl, sym, ◌∙◌, subst}
 use mathlib.Core.Bool.{So}
 use mathlib.Core.List.{List, ◌∷◌, ◌++◌, Memᴰ}
-use mathlib.Core.Option.{none}
 use native.Mathlib.Omega.{arith}
 use lib.ListN.{length, get_or, take}
 use Rattle.grid.proofs.GridLaws.{adj_sym}
-use Rattle.grid.specs.Lists.{last}
 use Rattle.grid.proofs.ListLaws.{at_mem, So-false}
 use Rattle.grid.specs.Grid.{Grid, size, Adjacent}
 use Rattle.grid.proofs.LinkLaws.{Linked-start, Linked-trans, Linked-sym}
@@ -19,7 +17,6 @@ use Rattle.groups.specs.Arrows.{OnArrow, Pair, Parted, pos_last, pos_cur}
 use Rattle.groups.proofs.ArrowLaws.{NextAt, at_last, at_cur, pos_below, position, mid, tip, whole, mid_clear}
 use Rattle.record.specs.Leaf.{Range, leaf_with}
 use Rattle.groups.specs.Rules.{Next, InRange, BlockRules, Grown, SameBlock}
-use Rattle.kinds.specs.Kinds.{has}
 use Rattle.reasons.proofs.Refute.{Rules}
 
 -- one of the arrows

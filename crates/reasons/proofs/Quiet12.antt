@@ -7,10 +7,11 @@ use mathlib.Core.Bool.{So, ◌&&◌, not}
 use mathlib.Core.List.Memᴰ
 use mathlib.Core.List.{List, [], ◌∷◌, Memᴰ}
 use mathlib.Core.Option.{none}
-use native.Mathlib.Omega.{arith}
+use Rattle.std.proofs.Math.Option.{some-ne-none}
 use lib.ListN.{get_or}
+use Rattle.std.proofs.lemmas.Bool.{and_from}
 use Rattle.grid.specs.Lists.{filter, any}
-use Rattle.grid.proofs.ListLaws.{mem-filter, true-and, So-not, any-mem, mem-any}
+use Rattle.grid.proofs.ListLaws.{mem-filter, So-not, any-mem, mem-any}
 use Rattle.grid.specs.Grid.{Grid, Adjacent}
 use Rattle.grid.specs.Link.{Linked, here}
 use Rattle.grid.proofs.LinkLaws.{Linked-end, Linked-map, Linked-start}
@@ -50,7 +51,7 @@ module _ (set : Setting) where
       let c : List ℕ = group grid (potential cells) l (get_or l s 0) in
       let k = first_none (λ f. reason1_at puzzle cells (group grid (potential cells) l f)) (names grid (potential cells) l) e (own_names grid (potential cells) s s< fs) in
       reason_if-none (any (square cells) c && not (any (on_arrow arrows) c)) _ k
-      (true-and (mem-any (square cells) c (mem-group grid (potential cells) l (get_or l s 0) s s< fs refl) sq)
+      (and_from _ _ (mem-any (square cells) c (mem-group grid (potential cells) l (get_or l s 0) s s< fs refl) sq)
       (So-not (any (on_arrow arrows) c) (λ a.
       let w = any-mem (on_arrow arrows) c a in
       none_there w.0 (Linked-map (λ x q. So-filled set x (Linked-end q)) (group_linked grid (potential cells) s w.0 s< fs w.1)) (arrow_So arrows w.0 w.2))))
@@ -62,7 +63,7 @@ module _ (set : Setting) where
   unfolding reason2_at
   two_none a b [] ma mb ne e = Memᴰ.not-nil ma
   two_none a b (x ∷ []) ma mb ne e = ne (Memᴰ.eq_of_singleton ma ∙ sym (Memᴰ.eq_of_singleton mb))
-  two_none a b (x ∷ y ∷ l) ma mb ne e = let z : ◌≡◌ {A = ℕ} 0 1 = cc in omega arith
+  two_none a b (x ∷ y ∷ l) ma mb ne e = some-ne-none _ e
 
   -- no two arrow cells are in one block
   pub quiet_2 : reason2 puzzle cells ≡ none → (a b : ℕ) → OnArrow arrows a → OnArrow arrows b → a ≢ b → ¬ Block B a b

@@ -6,6 +6,7 @@ use mathlib.Core.Path.{◌≡◌, refl}
 use mathlib.Core.Bool.{Bool, true, false, cond, ◌&&◌, not}
 use mathlib.Core.List.{List, [], ◌∷◌, ◌++◌, Memᴰ}
 use mathlib.Core.Option.{none, some}
+use Rattle.std.proofs.Math.Option.{none-ne-some}
 use lib.Dec.{eqb}
 use lib.ListN.{length, length-append}
 use Rattle.grid.proofs.ListLaws.{filter-length, length-tail, length-init, flat_map-mem}
@@ -40,7 +41,7 @@ some-Short n r h l e = let q : r ≡ l = cc in rw (← q) h
 
 none-Short : (n : ℕ) → Short n none
 unfolding Short
-none-Short n l e = let z : ◌≡◌ {A = ℕ} 0 1 = cc in absurd (omega arith)
+none-Short n l e = absurd (none-ne-some l e)
 
 or_else-Short : (n : ℕ) (a b : Found) → Short n a → Short n b → Short n (or_else a b)
 unfolding or_else

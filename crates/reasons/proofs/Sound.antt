@@ -11,7 +11,7 @@ use native.Mathlib.Decide.{dec_lt}
 use lib.Dec.{ltb}
 use lib.ListN.{length}
 use borrow.Author.Tests.{lt-ltb}
-use Rattle.grid.specs.Lists.{flat_map, last, init, tail}
+use Rattle.grid.specs.Lists.{flat_map, init, tail}
 use Rattle.grid.proofs.ListLaws.{mem-flat_map}
 use Rattle.grid.specs.Grid.{Grid, size}
 use Rattle.grid.specs.Count.{count}

@@ -9,9 +9,10 @@ use mathlib.Core.Option.{some}
 use native.Mathlib.Omega.{arith}
 use lib.ListN.{length}
 use borrow.Author.Tests.{eqb-true, eq-eqb}
+use Rattle.std.proofs.lemmas.Bool.{and_from}
 use Rattle.grid.proofs.GridLaws.{in_cells, Adjacent-touches, adj_sym}
 use Rattle.grid.specs.Lists.{filter, any, last}
-use Rattle.grid.proofs.ListLaws.{filter-mem, mem-filter, and-true, true-and, not-So, So-not, any-mem, mem-any, last-mem}
+use Rattle.grid.proofs.ListLaws.{filter-mem, mem-filter, and-true, not-So, So-not, any-mem, mem-any, last-mem}
 use Rattle.grid.specs.Grid.{Grid, size, cells_of, touches, Adjacent}
 use Rattle.grid.specs.Link.{Linked}
 use Rattle.grid.proofs.LinkLaws.{Linked-end, Linked-map}
@@ -93,7 +94,7 @@ module _ (set : Setting) where
               arith,
               eqb-true,
               Agrees-each full 0 (bounds (pot f)) (Agrees-left full (each 0 (bounds (pot f))) (each 1 (s ∷ [])) ag') y
-                  (mem-filter (λ i. empty cells i && touches grid (pot f) i) (cells_of grid) (mem_cell y (adj_sym grid x y ad).0) (true-and z (touch y x (adj_sym grid x y ad) (pot-Linked f s x sm.0 l)))),
+                  (mem-filter (λ i. empty cells i && touches grid (pot f) i) (cells_of grid) (mem_cell y (adj_sym grid x y ad).0) (and_from _ _ z (touch y x (adj_sym grid x y ad) (pot-Linked f s x sm.0 l)))),
             ))
             (rules.has s fs)
           where

@@ -5,7 +5,7 @@ use mathlib.Core.Path.{◌≡◌, refl, sym, ◌∙◌, subst}
 use mathlib.Core.Bool.{So}
 use mathlib.Core.List.{List, [], ◌∷◌, Memᴰ}
 use mathlib.Core.Option.{some}
-use native.Mathlib.Omega.{arith}
+use Rattle.std.proofs.Math.Option.{none-ne-some}
 use borrow.Author.Tests.{eq-eqb}
 use mathlib.Core.Logic.{◌≢◌}
 use Rattle.grid.specs.Lists.{Distinct, filter}
@@ -52,28 +52,16 @@ module _ (set : Setting) where
     pub joined : Block B b a
     pub is : r ≡ each 1 (way grid cells a b)
 
-  none_two : {r : List Literal} → reason2_at grid cells [] ≡ some r → ⊥
-  unfolding reason2_at
-  none_two k = let z : ◌≡◌ {A = ℕ} 0 1 = cc in omega arith
-
-  one_two : {r : List Literal} (a : ℕ) → reason2_at grid cells (a ∷ []) ≡ some r → ⊥
-  unfolding reason2_at
-  one_two a k = let z : ◌≡◌ {A = ℕ} 0 1 = cc in omega arith
-
-  two_two : {r : List Literal} (a b : ℕ) (rest : List ℕ) → reason2_at grid cells (a ∷ b ∷ rest) ≡ some r → r ≡ each 1 (way grid cells a b)
-  unfolding reason2_at
-  two_two a b rest k = cc
-
   -- what reason 2 found
   pub Two-of : (r : List Literal) → reason2 puzzle cells ≡ some r → Two r
-  unfolding reason2
+  unfolding reason2 reason2_at
   Two-of r e =
       let w = first_some (λ f. reason2_at grid cells (filter (on_arrow arrows) (block_of f))) (names grid (square cells) (labels grid (square cells))) r e in
       go w.0 (filter (on_arrow arrows) (block_of w.0)) (λ x m. m) (Distinct-filter (on_arrow arrows) (block_of w.0) (group-Distinct grid (square cells) (labels grid (square cells)) w.0)) w.2
     where
       go : (f : ℕ) (l : List ℕ) → ((x : ℕ) → Memᴰ x l → Memᴰ x (filter (on_arrow arrows) (block_of f))) → Distinct l → reason2_at grid cells l ≡ some r → Two r
-      go f [] h d k = absurd (none_two k)
-      go f (a ∷ []) h d k = absurd (one_two a k)
+      go f [] h d k = absurd (none-ne-some r k)
+      go f (a ∷ []) h d k = absurd (none-ne-some r k)
       go f (a ∷ b ∷ rest) h d k =
           let ma = filter-mem (on_arrow arrows) (block_of f) (h a (Memᴰ.head refl)) in
           let mb = filter-mem (on_arrow arrows) (block_of f) (h b (Memᴰ.tail (Memᴰ.head refl))) in
@@ -86,7 +74,7 @@ module _ (set : Setting) where
             arrow_b = arrow_So arrows b mb.1;
             differ = λ z. d.0 (Memᴰ.head z);
             joined = (block_Labels set).same b a bb.1 ba.1 (bb.2 ∙ sym ba.2);
-            is = two_two a b rest k;
+            is = cc;
           }
 
   -- reason 2 is sound

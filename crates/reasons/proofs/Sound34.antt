@@ -6,11 +6,12 @@ use mathlib.Core.Path.{◌≡◌, refl, sym, ap, ◌∙◌, subst}
 use mathlib.Core.Bool.{Bool, true, false, So, cond, not, false≢true}
 use mathlib.Core.List.{List, [], ◌∷◌, ◌++◌, Memᴰ}
 use mathlib.Core.Option.{none, some}
+use Rattle.std.proofs.Math.Option.{none-ne-some}
 use native.Mathlib.Omega.{arith}
 use lib.Dec.{eqb, ltb}
 use lib.ListN.{length, get_or}
 use borrow.Author.Tests.{eqb-true, eq-eqb, ltb-true}
-use Rattle.grid.specs.Lists.{filter, any, flat_map, last, init, tail}
+use Rattle.grid.specs.Lists.{filter, any, flat_map, init, tail}
 use Rattle.grid.proofs.ListLaws.{mem-filter, flat_map-mem, Dec-So, not-So, So-not, any-mem, at_mem}
 use Rattle.grid.specs.Grid.{Grid, size}
 use Rattle.grid.specs.Count.{count}
@@ -147,7 +148,7 @@ module _ (set : Setting) where
       where
         go : (t : Bool) → eqb e 1 ≡ t → cond t (reason_if too_many shrink_literals) none ≡ some r → (e ≡ 1) × So too_many × (shrink_literals ≡ r)
         go true z k = let w = reason_if-some too_many shrink_literals r k in (eqb-true e 1 z, w.0, w.1)
-        go false z k = absurd (let y : ◌≡◌ {A = ℕ} 0 1 = cc in omega arith)
+        go false z k = absurd (none-ne-some r k)
 
     pub four_some : (e : ℕ) (r : List Literal) → reason4_at v pair e ≡ some r → (So too_few × (reason_grow v pair ≡ r)) ⊎ ((e ≡ 1) × So too_many × (shrink_literals ≡ r))
     unfolding reason4_at reason4a_at reason4b_at reason_shrink view view_with view_name gap

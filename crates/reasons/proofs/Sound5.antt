@@ -18,7 +18,7 @@ use Rattle.grid.proofs.Count.{count_mono}
 use Rattle.grid.specs.Cells.{Literal, square, Agrees}
 use Rattle.groups.specs.Arrows.{OnArrow}
 use Rattle.kinds.proofs.Bridge.{decisions, Dec-Reach, block_name}
-use Rattle.kinds.specs.Kinds.{View, view, view_with, block, reach, fence}
+use Rattle.kinds.specs.Kinds.{View, view, view_with, block, reach}
 use Rattle.kinds.specs.Meaning.{PartialBoard, Block, Setting, partial_of}
 use Rattle.kinds.proofs.Confine.{Fenced, OneArrow, confined}
 use Rattle.kinds.proofs.Fence.{in_Block, length-Reach, length-block, fenced}

@@ -38,7 +38,7 @@ rules_without e p cells = (λ r. (r.one, r.grown), λ r. record { one = r.0; gro
 -- reason 1, else 2, else 3 and 4
 pub reason_without : (e : ℕ) (p : Puzzle) (cells : List ℕ)
     → find_reason (in_edition e p) cells ≡ or_else (reason1 p cells) (or_else (reason2 p cells) (reason34 e (view p cells)))
-unfolding find_reason reason5 filter first_found_of
+unfolding find_reason reason5 first_found_of
 reason_without e p cells = rw (or_none (reason34 e (view p cells))) refl
 
 -- so a find on a board that was opened without sizes, after any list of calls

@@ -13,11 +13,11 @@ use kinds::BoardInfo;
 use reach::Linked;
 use reach::near::{self, Floats};
 use shift::Work;
-use sized::SizeRanges;
 use sizes::LentLeaf;
 
-// Reasons 3 and 4, else 5, if one applies, on the linked cells of the leaf. The scene is put together here, where its parts are lent for one time: the
-// function that makes them lends the states of the cells for longer than the rest, and there the check of borrows does not take a scene of them.
+// Reasons 3 and 4, else 5, if one applies, on the linked cells of the leaf. The scene is put together here, of parts that are lent for one time: in
+// `check_arrows`, which makes them, the check of borrows covers no scene, since its field `linked` holds references of other times, even with a copy of
+// the states.
 fn search_arrows(
     leaf: &LentLeaf<'_>,
     linked: Linked<'_>,
@@ -42,11 +42,7 @@ fn search_arrows(
     if let Some(literals) = finding {
         return Some(literals);
     }
-    let ranges = SizeRanges {
-        lowest: leaf.lowest,
-        highest: leaf.highest,
-    };
-    ranges.check_sizes(&scene, &mut work.floats, buffer)
+    sized::check_sizes(&leaf.sizes, &scene, &mut work.floats, buffer)
 }
 
 // Reasons 3 and 4, else 5, if one applies, from the blocks of the leaf. The searches work in the arrays of their labels, names and arrow cells, which
@@ -63,11 +59,11 @@ fn check_arrows(
 {
     let grid = leaf.grid();
     let n = grid.size();
-    let mut kinds = [0u8; 1024];
-    let mut owners = [1024u16; 1024];
+    let mut kinds = [kinds::VACANT; 1024];
+    let mut owners = [groups::NO_GROUP; 1024];
     kinds::compute_board_info_detailed(grid, cells, &*blocks, &mut kinds, &mut owners);
-    let mut head = [1024u16; 1024];
-    let mut next = [1024u16; 1024];
+    let mut head = [reach::NO_CELL; 1024];
+    let mut next = [reach::NO_CELL; 1024];
     let mut sizes = [0u16; 1024];
     reach::chain_cells(&owners, n, &mut head, &mut next);
     near::count_cells(&kinds, &owners, n, &mut sizes);
@@ -106,9 +102,7 @@ pub fn find_inconsistency(
     ensures { FoundAs (find_reason (leaf_of leaf.now) (leaf_cells leaf.now cells.now)) buffer.old buffer.new result }
 {
     let grid = leaf.grid();
-    let mut onarrow = [0u8; 1024];
-    let total = leaf.problem.arrow_total();
-    groups::mark_arrow_cells(&leaf.problem.arrows, total, &mut onarrow);
+    let onarrow = groups::mark_arrow_cells(&leaf.problem.arrows[..leaf.problem.arrow_total()]);
     let mut groups = Groups::new();
     groups.compute_connected_components(grid, cells, &onarrow, Members::Potential);
     let first = units::check_potential_groups(grid, cells, &groups, buffer);

@@ -12,14 +12,15 @@ ghost use Rattle.reasons.specs.Find.{find_of, found_as, buffer_after};
 use board::Board;
 use refusal::Refusal;
 
-// The answer of `find`, with the board as find leaves it.
+// The answer of `find`, with the board as find leaves it: a refusal comes with the board too, so that the two are no `Result` of one another.
 #[derive(Clone, Copy)]
 pub struct Asked {
     pub finding: Result<Option<usize>, Refusal>,
     pub board: Board,
 }
 
-// A buffer with room for the longest reason, for a caller that has none.
+// A buffer with room for the longest reason, for a caller that has none. A function, and no array where it is wanted, so that what such a buffer starts with
+// is promised once.
 pub fn no_literals() -> [u16; Board::LITERALS]
     ensures { result ≡ replicate 3073 0 }
 {
@@ -44,7 +45,7 @@ fn reason_against(board: &Board, player: u8, buffer: &mut [u16]) -> Result<Optio
     ensures { (outcome_of result ≡ found_as (find_of board.now player buffer.old)) × (buffer.new ≡ buffer_after board.now player buffer.old) }
 {
     let leaf = board.leaf()?;
-    if 3 < player {
+    if Board::PLAYERS <= usize::from(player) {
         return Err(Refusal::Player);
     }
     if buffer.len() < 3 * leaf.grid().size() + 1 {
@@ -56,6 +57,7 @@ fn reason_against(board: &Board, player: u8, buffer: &mut [u16]) -> Result<Optio
 
 // The reason, as above, with the board as find leaves it. A find that is not refused raises its player's count of hints, and changes nothing else on the
 // board; the reason doesn't depend on the player.
+#[tactic(auto, using(crate::proofs::FindLaws::find_counted, crate::proofs::FindLaws::find_kept))]
 pub fn find(board: Board, player: u8, buffer: &mut [u16]) -> Asked
     ensures { (outcome_of result.finding ≡ found_as (find_of board player buffer.old)) × (result.board ≡ after_find board player (length buffer.old))
         × (buffer.new ≡ buffer_after board player buffer.old) }

@@ -9,22 +9,22 @@ use mathlib.Core.List.{List, [], ◌∷◌, ◌++◌, append_assoc, append-nil}
 use lib.Dec.{eqb, ltb}
 use lib.ListN.{length}
 use borrow.Author.Tests.{ltb-true}
-use Rattle.grid.specs.Lists.{any, member}
+use Rattle.grid.specs.Lists.{member}
 use Rattle.grid.proofs.ListLaws.{and-true}
 use Rattle.grid.specs.Grid.{Grid}
 use Rattle.grid.proofs.AppendLaws.{member-append}
 use Rattle.fields.specs.Fields.{Outcome, ok, refused, ◌>>=◌, unless, field, step_from}
 use Rattle.record.specs.Record.{step_cells, arrow_at}
 use Rattle.record.specs.Head.{arrows_in}
-use Rattle.fields.specs.Inside.{Agrees, step_at, opening_at}
+use Rattle.fields.specs.Inside.{Agrees, Past, step_at, opening_at}
+use Rattle.fields.specs.declared.BitReader.{BitReader}
 use Rattle.record.specs.Inside.{take_at}
 use Rattle.fields.specs.declared.Start.{Start}
-use Rattle.std.specs.Prelude.{Ok, Err}
+use Rattle.std.specs.Prelude.{Ok, Err, IfOk}
 use Rattle.std.specs.declared.result.Result.{Result}
 use Rattle.refusal.specs.declared.Refusal.{Refusal}
-use Rattle.refusal.specs.Refusals.{number_of}
 use Rattle.fields.proofs.OutcomeLaws.{bind_ok, unless-ok, ok-eq, field-ok}
-use Rattle.fields.proofs.ReadLaws.{bind_bind, bind_same, bind_value, bind_refused, behind}
+use Rattle.fields.proofs.ReadLaws.{bind_bind, bind_same, bind_value, bind_refused, behind, past_none, past_then}
 
 -- steps that agree on every value
 pub bind_ext : {A B : Type 0} (o : Outcome A) (f h : A → Outcome B) → ((x : A) → f x ≡ h x) → (o >>= f) ≡ (o >>= h)
@@ -37,7 +37,7 @@ pub record Same (u v : List ℕ) : Type 0 where
   pub each : (x : ℕ) → member x u ≡ member x v
 
 Same-cons : (j : ℕ) {u v : List ℕ} → Same u v → Same (j ∷ u) (j ∷ v)
-unfolding member any
+unfolding member
 Same-cons j e = record { each = λ x. ap (λ (b : Bool). eqb x j || b) (e.each x) }
 
 -- one list after another, either way round
@@ -92,23 +92,23 @@ module _ (s : List ℕ) (g : Grid) where
 
   -- an arrow in parts
   pub arrow_parts : (l : List ℕ) (at : ℕ)
-      → arrow_at s g l at ≡ (opening_at s g at >>= λ o. unless (not (member (o.row * g.width + o.col) l)) 4 >>= λ _. from l (at + 20) o.steps (o.row * g.width + o.col))
+      → arrow_at s g l at ≡ (opening_at s g at >>= λ o. unless (not (member (o.place.row * g.width + o.place.col) l)) 4 >>= λ _. from l (at + 20) o.steps (o.place.row * g.width + o.place.col))
   unfolding arrow_at opening_at ◌>>=◌
   arrow_parts l at = go (field s at 5) (field s (at + 5) 5) (field s (at + 10) 10)
     where
       R : Start → Outcome (List ℕ)
-      R o = unless (not (member (o.row * g.width + o.col) l)) 4 >>= λ _. from l (at + 20) o.steps (o.row * g.width + o.col)
+      R o = unless (not (member (o.place.row * g.width + o.place.col) l)) 4 >>= λ _. from l (at + 20) o.steps (o.place.row * g.width + o.place.col)
 
       go : (f₁ f₂ f₃ : Outcome ℕ)
           → (f₁ >>= λ y. f₂ >>= λ x. f₃ >>= λ k. unless (ltb y g.height && ltb x g.width) 3 >>= λ _. unless (not (member (y * g.width + x) l)) 4 >>= λ _.
           step_cells s g ((y * g.width + x) ∷ l) (y * g.width + x) (at + 20) k >>= λ js. ok ((y * g.width + x) ∷ js))
-          ≡ ((f₁ >>= λ y. f₂ >>= λ x. f₃ >>= λ k. unless (ltb y g.height && ltb x g.width) 3 >>= λ _. ok (record { row = y; col = x; steps = k })) >>= R)
+          ≡ ((f₁ >>= λ y. f₂ >>= λ x. f₃ >>= λ k. unless (ltb y g.height && ltb x g.width) 3 >>= λ _. ok (record { place = record { row = y; col = x }; steps = k })) >>= R)
       go (refused k) f₂ f₃ = refl
       go (ok y) (refused k) f₃ = refl
       go (ok y) (ok x) (refused k) = refl
       go (ok y) (ok x) (ok k) =
           bind_ext (unless (ltb y g.height && ltb x g.width) 3) _ _ (λ _. joined l (at + 20) k (y * g.width + x))
-          ∙ sym (bind_bind (unless (ltb y g.height && ltb x g.width) 3) (λ _. ok (record { row = y; col = x; steps = k })) R)
+          ∙ sym (bind_bind (unless (ltb y g.height && ltb x g.width) 3) (λ _. ok (record { place = record { row = y; col = x }; steps = k })) R)
 
 -- a step that is taken: each way out
 module _ (s : List ℕ) (g : Grid) (l : List ℕ) (i at : ℕ) where
@@ -125,17 +125,25 @@ module _ (s : List ℕ) (g : Grid) (l : List ℕ) (i at : ℕ) where
     unfolding take_at
     step_new a = bind_value _ (sym e) ∙ bind_value _ a
 
--- the first t steps are taken, and what is left makes of them what the whole makes
-pub record StepsSoFar (s : List ℕ) (g : Grid) (l : List ℕ) (i at k t j : ℕ) (line : List ℕ) : Type 0 where
+-- the first t steps are taken, up to where is read now, and what is left makes of them what the whole makes
+pub record StepsSoFar (b : BitReader) (g : Grid) (l : List ℕ) (i k t j : ℕ) (line : List ℕ) (now : BitReader) : Type 0 where
   pub js : List ℕ
   pub line_is : line ≡ l ++ js
-  pub rest : step_cells s g l i at k ≡ (step_cells s g (l ++ js) j (at + 2 * t) (k - t) >>= λ ks. ok (js ++ ks))
+  pub past : Past (2 * t) b now
+  pub rest : step_cells b.bytes.now g l i b.at k ≡ (step_cells b.bytes.now g (l ++ js) j (b.at + 2 * t) (k - t) >>= λ ks. ok (js ++ ks))
 
-module _ (s : List ℕ) (g : Grid) (l : List ℕ) (i at k : ℕ) where
-  pub steps_start : StepsSoFar s g l i at k 0 i l
+module _ (b : BitReader) (g : Grid) (l : List ℕ) (i k : ℕ) where
+  abbrev s : List ℕ
+  s = b.bytes.now
+
+  abbrev at : ℕ
+  at = b.at
+
+  pub steps_start : StepsSoFar b g l i k 0 i l b
   steps_start = record {
     js = [];
     line_is = sym (append-nil l);
+    past = past_none b;
     rest = rw (append-nil l, sub-zero k, add-zero at) (sym (bind_same (step_cells s g l i at k)));
   }
 
@@ -146,32 +154,34 @@ module _ (s : List ℕ) (g : Grid) (l : List ℕ) (i at k : ℕ) where
       let p : at + 2 * t + 2 ≡ at + 2 * (t + 1) = omega arith in
       rw e (ap (λ (o : Outcome (List ℕ)). o >>= λ ks. ok (js ++ ks)) (steps_next s g (l ++ js) j (at + 2 * t) (k - (t + 1)) ∙ rw p refl))
 
-  module _ {t j : ℕ} {line : List ℕ} (h : t < k) (w : StepsSoFar s g l i at k t j line) where
-    pub steps_fault : {f : ℕ} → take_at s g line j (at + 2 * t) ≡ refused f → step_cells s g l i at k ≡ refused f
-    steps_fault {f} e =
-        let taken : take_at s g (l ++ w.js) j (at + 2 * t) ≡ refused f = rw (← w.line_is) e in
-        w.rest ∙ left t j w.js h ∙ bind_refused (λ ks. ok (w.js ++ ks)) (bind_refused _ taken)
+  module _ {t j : ℕ} {line : List ℕ} {now : BitReader} (h : t < k) (w : StepsSoFar b g l i k t j line now) where
+    -- what is taken here
+    taken : {o : Outcome ℕ} → take_at now.bytes.now g line j now.at ≡ o → take_at s g (l ++ w.js) j (at + 2 * t) ≡ o
+    taken e = rw (w.past.same, w.past.on, w.line_is) at e
 
-    pub steps_more : {c : ℕ} {line' : List ℕ} → take_at s g line j (at + 2 * t) ≡ ok c → line' ≡ line ++ (c ∷ []) → StepsSoFar s g l i at k (t + 1) c line'
-    steps_more {c} e q =
-        let taken : take_at s g (l ++ w.js) j (at + 2 * t) ≡ ok c = rw (← w.line_is) e in
-        record {
-          js = w.js ++ (c ∷ []);
-          line_is = q ∙ ap (λ (u : List ℕ). u ++ (c ∷ [])) w.line_is ∙ append_assoc l w.js (c ∷ []);
-          rest = w.rest ∙ left t j w.js h ∙ ap (λ (o : Outcome (List ℕ)). o >>= λ ks. ok (w.js ++ ks)) (bind_value _ taken)
-              ∙ behind (step_cells s g ((l ++ w.js) ++ (c ∷ [])) c (at + 2 * (t + 1)) (k - (t + 1))) w.js c
-              ∙ ap (λ (u : List ℕ). step_cells s g u c (at + 2 * (t + 1)) (k - (t + 1)) >>= λ ks. ok ((w.js ++ (c ∷ [])) ++ ks)) (append_assoc l w.js (c ∷ []));
-        }
+    pub steps_fault : {f : ℕ} → take_at now.bytes.now g line j now.at ≡ refused f → step_cells s g l i at k ≡ refused f
+    steps_fault e = w.rest ∙ left t j w.js h ∙ bind_refused (λ ks. ok (w.js ++ ks)) (bind_refused _ (taken e))
 
-  pub steps_end : {t j : ℕ} {line : List ℕ} → t ≡ k → StepsSoFar s g l i at k t j line → Agrees {B = Unit {0}} (step_cells s g l i at k) (λ js _. line ≡ l ++ js) (Ok tt)
-  unfolding step_cells ◌>>=◌
-  steps_end {t} {j} h w =
-      let e : k - t ≡ 0 = omega (arith, h) in
-      let a : step_cells s g l i at k ≡ ok w.js = w.rest ∙ ap (λ (m : ℕ). step_cells s g (l ++ w.js) j (at + 2 * t) m >>= λ ks. ok (w.js ++ ks)) e ∙ ap {B = Outcome (List ℕ)} ok (append-nil w.js) in
-      (w.js, a, w.line_is)
+    pub steps_more : {c : ℕ} {line' : List ℕ} {next : BitReader} → take_at now.bytes.now g line j now.at ≡ ok c → line' ≡ line ++ (c ∷ []) → Past 2 now next → StepsSoFar b g l i k (t + 1) c line' next
+    steps_more {c} e q p = record {
+      js = w.js ++ (c ∷ []);
+      line_is = q ∙ ap (λ (u : List ℕ). u ++ (c ∷ [])) w.line_is ∙ append_assoc l w.js (c ∷ []);
+      past = past_then (2 * (t + 1)) w.past p (omega arith);
+      rest = w.rest ∙ left t j w.js h ∙ ap (λ (o : Outcome (List ℕ)). o >>= λ ks. ok (w.js ++ ks)) (bind_value _ (taken e))
+          ∙ behind (step_cells s g ((l ++ w.js) ++ (c ∷ [])) c (at + 2 * (t + 1)) (k - (t + 1))) w.js c
+          ∙ ap (λ (u : List ℕ). step_cells s g u c (at + 2 * (t + 1)) (k - (t + 1)) >>= λ ks. ok ((w.js ++ (c ∷ [])) ++ ks)) (append_assoc l w.js (c ∷ []));
+    }
+
+  module _ {t j : ℕ} {line : List ℕ} {now : BitReader} (h : t ≡ k) (w : StepsSoFar b g l i k t j line now) where
+    pub steps_end : Agrees {B = Unit {0}} (step_cells s g l i at k) (λ js _. line ≡ l ++ js) (Ok tt)
+    unfolding step_cells ◌>>=◌
+    steps_end =
+        let e : k - t ≡ 0 = omega (arith, h) in
+        let a : step_cells s g l i at k ≡ ok w.js = w.rest ∙ ap (λ (m : ℕ). step_cells s g (l ++ w.js) j (at + 2 * t) m >>= λ ks. ok (w.js ++ ks)) e ∙ ap {B = Outcome (List ℕ)} ok (append-nil w.js) in
+        (w.js, a, w.line_is)
 
 -- an arrow begins on the grid
-pub opening_fits : (s : List ℕ) (g : Grid) (at : ℕ) {y x k : ℕ} → opening_at s g at ≡ ok (record { row = y; col = x; steps = k }) → (y < g.height) × (x < g.width) × (k < 1024)
+pub opening_fits : (s : List ℕ) (g : Grid) (at : ℕ) {y x k : ℕ} → opening_at s g at ≡ ok (record { place = record { row = y; col = x }; steps = k }) → (y < g.height) × (x < g.width) × (k < 1024)
 unfolding opening_at
 opening_fits s g at {y} {x} {k} e =
     let a = bind_ok (field s at 5) _ e in
@@ -180,8 +190,8 @@ opening_fits s g at {y} {x} {k} e =
     let d = bind_ok (unless (ltb a.0 g.height && ltb b.0 g.width) 3) _ c.2 in
     let t = and-true (ltb a.0 g.height) (ltb b.0 g.width) (unless-ok _ 3 d.1) in
     let q = ok-eq d.2 in
-    let qy : a.0 ≡ y = ap (λ (o : Start). o.row) q in
-    let qx : b.0 ≡ x = ap (λ (o : Start). o.col) q in
+    let qy : a.0 ≡ y = ap (λ (o : Start). o.place.row) q in
+    let qx : b.0 ≡ x = ap (λ (o : Start). o.place.col) q in
     let qk : c.0 ≡ k = ap (λ (o : Start). o.steps) q in
     let h : a.0 < g.height = ltb-true a.0 g.height t.0 in
     let w : b.0 < g.width = ltb-true b.0 g.width t.1 in
@@ -200,26 +210,41 @@ steps_length s g u i at (suc k) e =
     rw (← ok-eq d.2) (ap suc (steps_length s g (b.0 ∷ u) b.0 (at + 2) k d.1))
 
 -- an arrow: each way out
-module _ (s : List ℕ) (g : Grid) (l : List ℕ) (at : ℕ) where
-  pub arrow_bad : {k : ℕ} → refused k ≡ opening_at s g at → arrow_at s g l at ≡ refused k
-  arrow_bad e = arrow_parts s g l at ∙ bind_refused _ (sym e)
+module _ (b : BitReader) (g : Grid) (l : List ℕ) where
+  abbrev bytes : List ℕ
+  bytes = b.bytes.now
 
-  module _ (y x k : ℕ) (e : ok (record { row = y; col = x; steps = k }) ≡ opening_at s g at) where
+  abbrev place : ℕ
+  place = b.at
+
+  pub arrow_bad : {k : ℕ} → refused k ≡ opening_at bytes g place → arrow_at bytes g l place ≡ refused k
+  arrow_bad e = arrow_parts bytes g l place ∙ bind_refused _ (sym e)
+
+  module _ (y x k : ℕ) (e : ok (record { place = record { row = y; col = x }; steps = k }) ≡ opening_at bytes g place) where
     abbrev cell : ℕ
     cell = y * g.width + x
 
     -- what is left when the start is read
-    begun : arrow_at s g l at ≡ (unless (not (member cell l)) 4 >>= λ _. from s g l (at + 20) k cell)
-    begun = arrow_parts s g l at ∙ bind_value _ (sym e)
+    begun : arrow_at bytes g l place ≡ (unless (not (member cell l)) 4 >>= λ _. from bytes g l (place + 20) k cell)
+    begun = arrow_parts bytes g l place ∙ bind_value _ (sym e)
 
-    pub arrow_used : {f : ℕ} → unless (not (member cell l)) 4 ≡ refused f → arrow_at s g l at ≡ refused f
+    pub arrow_used : {f : ℕ} → unless (not (member cell l)) 4 ≡ refused f → arrow_at bytes g l place ≡ refused f
     arrow_used a = begun ∙ bind_refused _ a
 
-    pub arrow_steps : {z : ℕ} {line : List ℕ} (line' : List ℕ) (r : Result (Unit {0}) Refusal) → unless (not (member cell l)) 4 ≡ ok z → line ≡ l ++ (cell ∷ [])
-        → Agrees (step_cells s g line cell (at + 20) k) (λ js _. line' ≡ line ++ js) r → Agrees (arrow_at s g l at) (λ a _. line' ≡ l ++ a) r
-    arrow_steps line' (Ok u) a q b =
-        let taken : step_cells s g (l ++ (cell ∷ [])) cell (at + 20) k ≡ ok b.0 = rw (← q) b.1 in
-        (cell ∷ b.0, begun ∙ bind_value _ a ∙ bind_value _ taken, b.2 ∙ ap (λ (u : List ℕ). u ++ b.0) q ∙ append_assoc l (cell ∷ []) b.0)
-    arrow_steps line' (Err f) a q b =
-        let lost : step_cells s g (l ++ (cell ∷ [])) cell (at + 20) k ≡ refused (number_of f) = rw (← q) b in
-        begun ∙ bind_value _ a ∙ bind_refused _ lost
+    module _ {now : BitReader} (p : Past 20 b now) {z : ℕ} {line : List ℕ} (line' : List ℕ) (a : unless (not (member cell l)) 4 ≡ ok z) (q : line ≡ l ++ (cell ∷ [])) where
+      -- the steps that are read from here
+      onward : {o : Outcome (List ℕ)} → step_cells now.bytes.now g line cell now.at k ≡ o → step_cells bytes g (l ++ (cell ∷ [])) cell (place + 20) k ≡ o
+      onward c = rw (p.same, p.on, q) at c
+
+      pub arrow_steps : (next : BitReader) (r : Result (Unit {0}) Refusal) → Agrees (step_cells now.bytes.now g line cell now.at k) (λ js _. line' ≡ line ++ js) r → IfOk r (λ _. Past (2 * k) now next)
+          → Agrees (arrow_at bytes g l place) (λ a _. (line' ≡ l ++ a) × Past (18 + 2 * length a) b next) r
+      arrow_steps next (Ok u) c d =
+          let t = onward c.1 in (
+            cell ∷ c.0,
+            begun ∙ bind_value _ a ∙ bind_value _ t,
+            (
+              c.2 ∙ ap (λ (u : List ℕ). u ++ c.0) q ∙ append_assoc l (cell ∷ []) c.0,
+              past_then (18 + 2 * length (cell ∷ c.0)) p d (omega (arith, steps_length bytes g (l ++ (cell ∷ [])) cell (place + 20) k t)),
+            ),
+          )
+      arrow_steps next (Err f) c d = begun ∙ bind_value _ a ∙ bind_refused _ (onward c)

@@ -4,10 +4,10 @@ use Prim.Native.Nat.{ℕ, suc, ◌+◌, ◌-◌, ◌*◌, ◌≤◌, ◌<◌}
 use native.Mathlib.Nat.{sub-zero}
 use native.Mathlib.Omega.{arith}
 use mathlib.Core.Path.{◌≡◌, refl, sym, ap, ◌∙◌}
-use mathlib.Core.Bool.{true, false}
+use mathlib.Core.Bool.{Bool, true, false}
 use mathlib.Core.List.{List, [], ◌∷◌, ◌++◌, append_assoc, append-nil}
-use lib.ListN.{length, set, length-append}
-use Rattle.grid.specs.Lists.{flat_map, array_of}
+use lib.ListN.{length, set, replicate, length-append}
+use Rattle.grid.specs.Lists.{array_of}
 use Rattle.grid.specs.Grid.{Grid}
 use Rattle.fields.specs.Fields.{Outcome, ok, refused, ◌>>=◌, unless}
 use Rattle.record.specs.Record.{arrow_at}
@@ -16,11 +16,12 @@ use Rattle.grid.proofs.ArrayLaws.{array_more}
 use Rattle.record.specs.Valid.{Arrow}
 use Rattle.record.specs.Problem.{arrow_cells, ends_from}
 use Rattle.std.specs.Prelude.{Ok}
-use Rattle.fields.specs.Inside.{Agrees}
+use Rattle.fields.specs.Inside.{Agrees, Past}
+use Rattle.fields.specs.declared.BitReader.{BitReader}
 use Rattle.record.specs.Inside.{ended, arrows_ended}
 use Rattle.record.specs.declared.Extent.{Extent}
 use Rattle.record.proofs.RecordLaws.{Arrow-ok}
-use Rattle.fields.proofs.ReadLaws.{bind_same, bind_value, bind_refused, behind}
+use Rattle.fields.proofs.ReadLaws.{bind_same, bind_value, bind_refused, behind, past_none, past_then}
 use Rattle.record.proofs.ProblemLaws.{length_ends}
 use Rattle.record.proofs.ArrowLaws.{bind_ext, Same-turn, arrows_Same}
 
@@ -31,12 +32,12 @@ arrows_next s g l at m = bind_ext (arrow_at s g l at) _ _ (λ a. ap (λ (o : Out
 
 -- the cells and the ends of one arrow more
 cells_snoc : (as' : List (List ℕ)) (a : List ℕ) → arrow_cells (as' ++ (a ∷ [])) ≡ arrow_cells as' ++ a
-unfolding arrow_cells flat_map
+unfolding arrow_cells
 cells_snoc [] a = append-nil a
 cells_snoc (b ∷ as') a = ap (λ (t : List ℕ). b ++ t) (cells_snoc as' a) ∙ sym (append_assoc b (arrow_cells as') a)
 
 ends_snoc : (at : ℕ) (as' : List (List ℕ)) (a : List ℕ) → ends_from at (as' ++ (a ∷ [])) ≡ ends_from at as' ++ ((at + length (arrow_cells as') + length a) ∷ [])
-unfolding arrow_cells flat_map ends_from
+unfolding arrow_cells ends_from
 ends_snoc at [] a = ap (λ (n : ℕ). n ∷ []) (omega arith)
 ends_snoc at (b ∷ as') a =
     let e : at + length b + length (arrow_cells as') + length a ≡ at + length (b ++ arrow_cells as') + length a = rw (length-append b (arrow_cells as')) (omega arith) in
@@ -49,90 +50,101 @@ arrow_some s g l at e = go (Arrow-ok s g l at e).0
     go : {b : List ℕ} → Arrow g b → 0 < length b
     go (Arrow.arrow h w) = omega arith
 
--- the first n arrows are read, and what is left makes of them what the whole makes
-pub record ArrowsSoFar (s : List ℕ) (g : Grid) (at m n : ℕ) (line ends : List ℕ) : Type 0 where
+-- the first n arrows are read, up to where is read now, and what is left makes of them what the whole makes
+pub record ArrowsSoFar (b : BitReader) (g : Grid) (m n : ℕ) (line ends : List ℕ) (now : BitReader) : Type 0 where
   pub read : List (List ℕ)
   pub many : length read ≡ n
   pub line_is : line ≡ arrow_cells read
   pub some : n ≤ length line
   pub ended : ends ≡ array_of 0 (ends_from 0 read)
-  pub rest : arrows_in s g [] at m ≡ (arrows_in s g line (at + 18 * n + 2 * length line) (m - n) >>= λ l. ok (read ++ l))
+  pub past : Past (18 * n + 2 * length line) b now
+  pub rest : arrows_in b.bytes.now g [] b.at m ≡ (arrows_in b.bytes.now g line now.at (m - n) >>= λ l. ok (read ++ l))
 
-module _ (s : List ℕ) (g : Grid) (at m : ℕ) where
-  pub arrows_start : (line ends : List ℕ) → line ≡ [] → ends ≡ array_of 0 [] → ArrowsSoFar s g at m 0 line ends
-  unfolding arrow_cells flat_map ends_from
-  arrows_start line ends e f =
-      let nothing : at + 18 * 0 + 2 * 0 ≡ at = omega arith in
+module _ (b : BitReader) (g : Grid) (m : ℕ) where
+  abbrev s : List ℕ
+  s = b.bytes.now
+
+  abbrev at : ℕ
+  at = b.at
+
+  pub arrows_start : (line : List ℕ) → line ≡ [] → ArrowsSoFar b g m 0 line (replicate 1024 0) b
+  unfolding arrow_cells ends_from array_of
+  arrows_start line e =
       rw e (record {
         read = [];
         many = refl;
         line_is = refl;
         some = omega arith;
-        ended = f;
-        rest = sym (ap (λ (k : ℕ). arrows_in s g [] k (m - 0) >>= λ l. ok l) nothing ∙ ap (λ (k : ℕ). arrows_in s g [] at k >>= λ l. ok l) (sub-zero m) ∙ bind_same (arrows_in s g [] at m));
+        ended = refl;
+        past = past_then 0 (past_none b) (past_none b) (omega arith);
+        rest = rw (sub-zero m) (sym (bind_same (arrows_in s g [] at m)));
       })
 
-  module _ (n : ℕ) {line ends : List ℕ} (w : ArrowsSoFar s g at m n line ends) where
-    abbrev place : ℕ
-    place = at + 18 * n + 2 * length line
-
-    left : n < m → arrows_in s g [] at m ≡ ((arrow_at s g line place >>= λ a. arrows_in s g (line ++ a) (place + 18 + 2 * length a) (m - (n + 1)) >>= λ l. ok (a ∷ l)) >>= λ l. ok (w.read ++ l))
+  module _ {n : ℕ} {line ends : List ℕ} {now : BitReader} (w : ArrowsSoFar b g m n line ends now) where
+    left : n < m → arrows_in s g [] at m ≡ ((arrow_at s g line now.at >>= λ a. arrows_in s g (line ++ a) (now.at + 18 + 2 * length a) (m - (n + 1)) >>= λ l. ok (a ∷ l)) >>= λ l. ok (w.read ++ l))
     left h =
         let e : m - n ≡ suc (m - (n + 1)) = omega arith in
-        w.rest ∙ rw e (ap (λ (o : Outcome (List (List ℕ))). o >>= λ l. ok (w.read ++ l)) (arrows_next s g line place (m - (n + 1))))
+        w.rest ∙ rw e (ap (λ (o : Outcome (List (List ℕ))). o >>= λ l. ok (w.read ++ l)) (arrows_next s g line now.at (m - (n + 1))))
 
-    pub arrows_fault : (extent : Extent) {k : ℕ} → n < m → arrow_at s g line place ≡ refused k → arrows_ended extent s g at m ≡ refused k
+    -- the arrow that is read here
+    here : {o : Outcome (List ℕ)} → arrow_at now.bytes.now g line now.at ≡ o → arrow_at s g line now.at ≡ o
+    here e = rw w.past.same at e
+
+    pub arrows_fault : (extent : Extent) {k : ℕ} → n < m → arrow_at now.bytes.now g line now.at ≡ refused k → arrows_ended extent s g at m ≡ refused k
     unfolding arrows_ended
-    arrows_fault extent h e = bind_refused _ (left h ∙ bind_refused (λ l. ok (w.read ++ l)) (bind_refused _ e))
+    arrows_fault extent h e = bind_refused _ (left h ∙ bind_refused (λ l. ok (w.read ++ l)) (bind_refused _ (here e)))
 
-    module _ {a line' : List ℕ} (e : arrow_at s g line place ≡ ok a) (q : line' ≡ line ++ a) where
+    module _ {a line' : List ℕ} (e : arrow_at now.bytes.now g line now.at ≡ ok a) (q : line' ≡ line ++ a) where
       -- there is room for its end
       pub arrows_room : length line' ≤ 1024 → n < 1024
-      arrows_room k = omega (arith, w.some, arrow_some s g line place e, length-append line a, ap length q)
+      arrows_room k = omega (arith, w.some, arrow_some s g line now.at (here e), length-append line a, ap length q)
 
-      pub arrows_more : n < m → length line' ≤ 1024 → ArrowsSoFar s g at m (n + 1) line' (set ends n (length line'))
-      arrows_more h k =
+      pub arrows_more : {next : BitReader} → Past (18 + 2 * length a) now next → n < m → length line' ≤ 1024 → ArrowsSoFar b g m (n + 1) line' (set ends n (length line')) next
+      arrows_more {next} p h k =
           let c : ℕ = length line' in
           let size : length (ends_from 0 w.read) ≡ n = length_ends 0 w.read ∙ w.many in
           let cells : length line ≡ length (arrow_cells w.read) = ap length w.line_is in
           let total : c ≡ length line + length a = ap length q ∙ length-append line a in
           let end : c ≡ 0 + length (arrow_cells w.read) + length a = omega (arith, total, cells) in
-          let on : place + 18 + 2 * length a ≡ at + 18 * (n + 1) + 2 * c = omega (arith, total) in
+          let on : now.at + 18 + 2 * length a ≡ next.at = omega (arith, p.on) in
           record {
             read = w.read ++ (a ∷ []);
             many = length-append w.read (a ∷ []) ∙ omega (arith, w.many);
             line_is = q ∙ ap (λ (u : List ℕ). u ++ a) w.line_is ∙ sym (cells_snoc w.read a);
-            some = omega (arith, w.some, arrow_some s g line place e, total);
+            some = omega (arith, w.some, arrow_some s g line now.at (here e), total);
             ended = ap (λ (t : List ℕ). set t n c) w.ended
                 ∙ ap (λ (i : ℕ). set (array_of 0 (ends_from 0 w.read)) i c) (sym size)
                 ∙ array_more 0 (ends_from 0 w.read) c (omega (arith, size, arrows_room k))
                 ∙ ap (λ (i : ℕ). array_of 0 (ends_from 0 w.read ++ (i ∷ []))) end
                 ∙ ap (array_of 0) (sym (ends_snoc 0 w.read a));
+            past = past_then (18 * (n + 1) + 2 * c) w.past p (omega (arith, total));
             rest = left h
-                ∙ ap (λ (o : Outcome (List (List ℕ))). o >>= λ l. ok (w.read ++ l)) (bind_value _ e)
-                ∙ behind (arrows_in s g (line ++ a) (place + 18 + 2 * length a) (m - (n + 1))) w.read a
+                ∙ ap (λ (o : Outcome (List (List ℕ))). o >>= λ l. ok (w.read ++ l)) (bind_value _ (here e))
+                ∙ behind (arrows_in s g (line ++ a) (now.at + 18 + 2 * length a) (m - (n + 1))) w.read a
                 ∙ ap (λ (i : ℕ). arrows_in s g (line ++ a) i (m - (n + 1)) >>= λ l. ok ((w.read ++ (a ∷ [])) ++ l)) on
-                ∙ ap (λ (u : List ℕ). arrows_in s g u (at + 18 * (n + 1) + 2 * c) (m - (n + 1)) >>= λ l. ok ((w.read ++ (a ∷ [])) ++ l)) (sym q);
+                ∙ ap (λ (u : List ℕ). arrows_in s g u next.at (m - (n + 1)) >>= λ l. ok ((w.read ++ (a ∷ [])) ++ l)) (sym q);
           }
 
   -- no arrow is left
-  module _ {n : ℕ} (h : n ≡ m) {line ends : List ℕ} (w : ArrowsSoFar s g at m n line ends) where
-    all_read : (arrows_in s g [] at m ≡ ok w.read) × (at + 18 * m + 2 * length line ≡ at + 18 * m + 2 * length (arrow_cells w.read))
+  module _ {n : ℕ} (h : n ≡ m) {line ends : List ℕ} {now : BitReader} (w : ArrowsSoFar b g m n line ends now) where
+    all_read : arrows_in s g [] at m ≡ ok w.read
     unfolding arrows_in ◌>>=◌
     all_read =
         let e : m - n ≡ 0 = omega (arith, h) in
-        (w.rest ∙ rw e (ap {B = Outcome (List (List ℕ))} ok (append-nil w.read)), rw w.line_is refl)
+        w.rest ∙ rw e (ap {B = Outcome (List (List ℕ))} ok (append-nil w.read))
 
-    pub arrows_filled : (extent : Extent) → true ≡ ended extent s (at + 18 * m + 2 * length line)
-        → Agrees {B = Unit {0}} (arrows_ended extent s g at m) (λ l _. (line ≡ arrow_cells l) × (ends ≡ array_of 0 (ends_from 0 l))) (Ok tt)
+    behind_is : (extent : Extent) {t : Bool} → t ≡ ended extent now.bytes.now now.at → ended extent s (at + 18 * m + 2 * length (arrow_cells w.read)) ≡ t
+    behind_is extent f =
+        let on : now.at ≡ at + 18 * m + 2 * length (arrow_cells w.read) = omega (arith, w.past.on, h, ap length w.line_is) in
+        sym (rw (w.past.same, on) at f)
+
+    pub arrows_filled : (extent : Extent) → true ≡ ended extent now.bytes.now now.at
+        → Agrees {B = List ℕ} (arrows_ended extent s g at m) (λ l held. (line ≡ arrow_cells l) × (held ≡ array_of 0 (ends_from 0 l))) (Ok ends)
     unfolding arrows_ended ◌>>=◌ unless
     arrows_filled extent f =
-        let r = all_read in
-        let a : arrows_ended extent s g at m ≡ ok w.read = rw (r.0, ← r.1, ← f) refl in
+        let a : arrows_ended extent s g at m ≡ ok w.read = rw (all_read, behind_is extent f) refl in
         (w.read, a, (w.line_is, w.ended))
 
-    pub arrows_unfilled : (extent : Extent) → false ≡ ended extent s (at + 18 * m + 2 * length line) → arrows_ended extent s g at m ≡ refused 5
+    pub arrows_unfilled : (extent : Extent) → false ≡ ended extent now.bytes.now now.at → arrows_ended extent s g at m ≡ refused 5
     unfolding arrows_ended ◌>>=◌ unless
-    arrows_unfilled extent f =
-        let r = all_read in
-        rw (r.0, ← r.1, ← f) refl
+    arrows_unfilled extent f = rw (all_read, behind_is extent f) refl

@@ -61,7 +61,7 @@ module _ (s : List ℕ) where
 
   -- the codes of the cells
   cells_bits : (at n : ℕ) {cs : List ℕ} → at ≤ 8 * length s → cell_codes s at n ≡ ok cs → (flat_map (λ c. bits_of c 2) cs ≡ bits_at at (2 * n)) × (at + 2 * n ≤ 8 * length s)
-  unfolding cell_codes flat_map
+  unfolding cell_codes
   cells_bits at zero h e = rw (← ok-eq e) (unfold bits_at in refl, omega arith)
   cells_bits at (suc n) h e =
       let a = bind_ok (field s at 2) _ e in
@@ -158,7 +158,7 @@ module _ (s : List ℕ) (g : Grid) where
 
   arrows_bits : (u : List ℕ) (at m : ℕ) {l : List (List ℕ)} → at ≤ 8 * length s → arrows_in s g u at m ≡ ok l
       → (n : ℕ) × (flat_map (arrow_bits g) l ≡ bits_at s at n) × (at + n ≤ 8 * length s) × (n ≡ 18 * m + 2 * length (arrow_cells l))
-  unfolding arrows_in flat_map arrow_cells
+  unfolding arrows_in arrow_cells
   arrows_bits u at zero h e = rw (← ok-eq e) (0, unfold bits_at in refl, omega arith, refl)
   arrows_bits u at (suc m) h e =
       let a = bind_ok (arrow_at s g u at) _ e in

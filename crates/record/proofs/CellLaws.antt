@@ -1,17 +1,18 @@
 -- The codes of the cells, one after another.
 -- Assumes nothing.
 use Prim.Native.Nat.{ℕ, suc, ◌+◌, ◌-◌, ◌*◌, ◌≤◌, ◌<◌}
-use native.Mathlib.Nat.{sub-zero}
+use native.Mathlib.Nat.{sub-zero, add-zero}
 use native.Mathlib.Omega.{arith}
 use mathlib.Core.Path.{◌≡◌, refl, sym, ap, ◌∙◌}
 use mathlib.Core.List.{List, [], ◌∷◌, ◌++◌, append-nil}
 use lib.Dec.{ltb}
-use lib.ListN.{length, set, length-append}
+use lib.ListN.{length, set, replicate, length-append}
 use Rattle.grid.specs.Lists.{array_of}
 use Rattle.grid.proofs.ArrayLaws.{array_more}
 use Rattle.fields.specs.Fields.{Outcome, ok, refused, ◌>>=◌, unless, field}
-use Rattle.fields.specs.Inside.{Agrees, cell_code, code_at}
-use Rattle.fields.proofs.ReadLaws.{bind_bind, bind_same, bind_value, bind_refused, behind}
+use Rattle.fields.specs.Inside.{Agrees, Past, cell_code, code_at}
+use Rattle.fields.specs.declared.BitReader.{BitReader}
+use Rattle.fields.proofs.ReadLaws.{bind_bind, bind_same, bind_value, bind_refused, behind, past_none, past_then}
 use Rattle.std.specs.Prelude.{Ok}
 use Rattle.record.specs.Record.{cell_codes}
 
@@ -24,40 +25,54 @@ cells_next s at n = go (field s at 2)
     go (refused k) = refl
     go (ok c) = sym (bind_bind (unless (ltb c 3) 2) (λ _. ok c) (λ x. cell_codes s (at + 2) n >>= λ cs. ok (x ∷ cs)))
 
--- the first i codes are in the array, and what is left makes of them what the whole makes
-pub record CellsSoFar (s : List ℕ) (n i : ℕ) (cells : List ℕ) : Type 0 where
+-- the first i codes are in the array, up to where is read now, and what is left makes of them what the whole makes
+pub record CellsSoFar (b : BitReader) (n i : ℕ) (cells : List ℕ) (now : BitReader) : Type 0 where
   pub codes : List ℕ
   pub many : length codes ≡ i
   pub held : cells ≡ array_of 0 codes
-  pub rest : cell_codes s 21 n ≡ (cell_codes s (21 + 2 * i) (n - i) >>= λ cs. ok (codes ++ cs))
+  pub past : Past (2 * i) b now
+  pub rest : cell_codes b.bytes.now b.at n ≡ (cell_codes b.bytes.now (b.at + 2 * i) (n - i) >>= λ cs. ok (codes ++ cs))
 
-module _ (s : List ℕ) (n : ℕ) where
-  pub cells_start : (cells : List ℕ) → cells ≡ array_of 0 [] → CellsSoFar s n 0 cells
-  cells_start cells e = record { codes = []; many = refl; held = e; rest = rw (sub-zero n) (sym (bind_same (cell_codes s 21 n))) }
+module _ (b : BitReader) (n : ℕ) where
+  abbrev s : List ℕ
+  s = b.bytes.now
 
-  -- what is left, when the next code is read
-  left : (i : ℕ) (codes : List ℕ) → i < n
-      → (cell_codes s (21 + 2 * i) (n - i) >>= λ cs. ok (codes ++ cs))
-      ≡ ((code_at s (21 + 2 * i) >>= λ c. cell_codes s (21 + 2 * (i + 1)) (n - (i + 1)) >>= λ cs. ok (c ∷ cs)) >>= λ cs. ok (codes ++ cs))
-  left i codes h =
-      let e : n - i ≡ suc (n - (i + 1)) = omega arith in
-      let p : 21 + 2 * i + 2 ≡ 21 + 2 * (i + 1) = omega arith in
-      rw e (ap (λ (o : Outcome (List ℕ)). o >>= λ cs. ok (codes ++ cs)) (cells_next s (21 + 2 * i) (n - (i + 1)) ∙ rw p refl))
+  abbrev at : ℕ
+  at = b.at
 
-  pub cells_fault : (i : ℕ) {cells : List ℕ} {k : ℕ} → i < n → CellsSoFar s n i cells → refused k ≡ code_at s (21 + 2 * i) → cell_codes s 21 n ≡ refused k
-  cells_fault i h f e = f.rest ∙ left i f.codes h ∙ bind_refused (λ cs. ok (f.codes ++ cs)) (bind_refused _ (sym e))
+  pub cells_start : CellsSoFar b n 0 (replicate 1024 0) b
+  unfolding array_of
+  cells_start = record { codes = []; many = refl; held = refl; past = past_none b; rest = rw (sub-zero n, add-zero at) (sym (bind_same (cell_codes s at n))) }
 
-  pub cells_more : (i c : ℕ) {cells : List ℕ} → i < n → n ≤ 1024 → CellsSoFar s n i cells → ok c ≡ code_at s (21 + 2 * i) → CellsSoFar s n (i + 1) (set cells i c)
-  cells_more i c h m f e = record {
-    codes = f.codes ++ (c ∷ []);
-    many = rw length-append (omega (arith, f.many));
-    held = rw (f.held, ← f.many) (array_more 0 f.codes c (omega (arith, f.many)));
-    rest = f.rest ∙ left i f.codes h ∙ ap (λ (o : Outcome (List ℕ)). o >>= λ cs. ok (f.codes ++ cs)) (bind_value _ (sym e)) ∙ behind (cell_codes s (21 + 2 * (i + 1)) (n - (i + 1))) f.codes c;
-  }
+  module _ {i : ℕ} {cells : List ℕ} {now : BitReader} (h : i < n) (f : CellsSoFar b n i cells now) where
+    -- what is left, when the next code is read
+    left : (cell_codes s (at + 2 * i) (n - i) >>= λ cs. ok (f.codes ++ cs))
+        ≡ ((code_at s (at + 2 * i) >>= λ c. cell_codes s (at + 2 * (i + 1)) (n - (i + 1)) >>= λ cs. ok (c ∷ cs)) >>= λ cs. ok (f.codes ++ cs))
+    left =
+        let e : n - i ≡ suc (n - (i + 1)) = omega arith in
+        let p : at + 2 * i + 2 ≡ at + 2 * (i + 1) = omega arith in
+        rw e (ap (λ (o : Outcome (List ℕ)). o >>= λ cs. ok (f.codes ++ cs)) (cells_next s (at + 2 * i) (n - (i + 1)) ∙ rw p refl))
 
-  pub cells_end : (i : ℕ) {cells : List ℕ} → i ≤ n → n ≤ i → CellsSoFar s n i cells → Agrees {B = Unit {0}} (cell_codes s 21 n) (λ cs _. cells ≡ array_of 0 cs) (Ok tt)
-  unfolding cell_codes ◌>>=◌
-  cells_end i h k f =
-      let e : n - i ≡ 0 = omega arith in
-      let a : cell_codes s 21 n ≡ ok f.codes = f.rest ∙ ap (λ (m : ℕ). cell_codes s (21 + 2 * i) m >>= λ cs. ok (f.codes ++ cs)) e ∙ ap {B = Outcome (List ℕ)} ok (append-nil f.codes) in
-      (f.codes, a, f.held)
+    -- the code that is read here
+    here : {o : Outcome ℕ} → o ≡ code_at now.bytes.now now.at → code_at s (at + 2 * i) ≡ o
+    here e = sym (rw (f.past.same, f.past.on) at e)
+
+    pub cells_fault : {k : ℕ} → refused k ≡ code_at now.bytes.now now.at → cell_codes s at n ≡ refused k
+    cells_fault e = f.rest ∙ left ∙ bind_refused (λ cs. ok (f.codes ++ cs)) (bind_refused _ (here e))
+
+    pub cells_more : (c : ℕ) {next : BitReader} → n ≤ 1024 → ok c ≡ code_at now.bytes.now now.at → Past 2 now next → CellsSoFar b n (i + 1) (set cells i c) next
+    cells_more c m e p = record {
+      codes = f.codes ++ (c ∷ []);
+      many = rw length-append (omega (arith, f.many));
+      held = rw (f.held, ← f.many) (array_more 0 f.codes c (omega (arith, f.many)));
+      past = past_then (2 * (i + 1)) f.past p (omega arith);
+      rest = f.rest ∙ left ∙ ap (λ (o : Outcome (List ℕ)). o >>= λ cs. ok (f.codes ++ cs)) (bind_value _ (here e)) ∙ behind (cell_codes s (at + 2 * (i + 1)) (n - (i + 1))) f.codes c;
+    }
+
+  module _ {i : ℕ} {cells : List ℕ} {now : BitReader} (h : i ≤ n) (k : n ≤ i) (f : CellsSoFar b n i cells now) where
+    pub cells_end : Agrees {B = List ℕ} (cell_codes s at n) (λ cs held. held ≡ array_of 0 cs) (Ok cells)
+    unfolding cell_codes ◌>>=◌
+    cells_end =
+        let e : n - i ≡ 0 = omega arith in
+        let a : cell_codes s at n ≡ ok f.codes = f.rest ∙ ap (λ (m : ℕ). cell_codes s (at + 2 * i) m >>= λ cs. ok (f.codes ++ cs)) e ∙ ap {B = Outcome (List ℕ)} ok (append-nil f.codes) in
+        (f.codes, a, f.held)

@@ -53,7 +53,7 @@ end_of at m l = at + 18 * m + 2 * length (arrow_cells l)
 
 -- arrows and their filler, apart
 none_parted : (s : List ℕ) (at : ℕ) → (unless (filler s at) 5 >>= λ _. ok []) ≡ (ok [] >>= λ (l : List (List ℕ)). unless (filler s (end_of at 0 l)) 5 >>= λ _. ok l)
-unfolding ◌>>=◌ end_of arrow_cells flat_map
+unfolding ◌>>=◌ end_of arrow_cells
 none_parted s at = let z : at + 0 + 0 ≡ at = omega arith in rw z refl
 
 arrows_parted : (s : List ℕ) (g : Grid) (u : List ℕ) (at m : ℕ) → arrows_at s g u at m ≡ (arrows_in s g u at m >>= λ l. unless (filler s (end_of at m l)) 5 >>= λ _. ok l)
@@ -67,7 +67,7 @@ arrows_parted s g u at (suc m) = under (arrow_at s g u at) _ _ _ (λ a _. go a (
     go a ih =
         ap (λ (o : Outcome (List (List ℕ))). o >>= λ rest. ok (a ∷ rest)) ih
         ∙ through (arrows_in s g (a ++ u) (at + 18 + 2 * length a) m) (λ rest. a ∷ rest) (λ l. filler s (end_of (at + 18 + 2 * length a) m l)) 5 (λ l. filler s (end_of at (suc m) l))
-        (λ l _. ap (filler s) (unfold end_of arrow_cells flat_map in omega (arith, length-append a (flat_map (λ b. b) l))))
+        (λ l _. ap (filler s) (unfold end_of arrow_cells in omega (arith, length-append a (flat_map (λ b. b) l))))
 
 -- the puzzle of a grid, codes and arrows
 abbrev pub made : Grid → List ℕ → List (List ℕ) → Puzzle

@@ -59,7 +59,6 @@ together as' = flat_map (λ a. a) as'
 
 -- no arrow cell comes twice
 pub Arrows-Fresh : {g : Grid} {u : List ℕ} {as' : List (List ℕ)} → Arrows g u as' → Fresh u (together as')
-unfolding flat_map
 Arrows-Fresh Arrows.nil = Fresh.nil
 Arrows-Fresh (Arrows.cons a f r) = Fresh-append f (Arrows-Fresh r)
 
@@ -80,7 +79,6 @@ Arrows-size (Arrows.cons h f r) a (Memᴰ.tail m) x k = Arrows-size r a m x k
 
 -- an arrow is no longer than all together
 pub one_length : (as' : List (List ℕ)) (a : List ℕ) → Memᴰ a as' → length a ≤ length (together as')
-unfolding flat_map
 one_length (b ∷ as') a (Memᴰ.head e) = rw (e, length-append) (omega arith)
 one_length (b ∷ as') a (Memᴰ.tail m) = rw length-append (omega (arith, one_length as' a m))
 one_length [] a x' = elim x' [ ]

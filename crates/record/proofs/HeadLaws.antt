@@ -88,7 +88,7 @@ module _ (s t : List ℕ) (end : ℕ) (agree : (j : ℕ) → j < end → bit s j
         then_ok _ x (then_ok _ y (then_ok _ z (then_ok _ d.1 (then_ok _ f.1 (then_ok _ w h.2)))))
 
     arrows_same : (u : List ℕ) (at m : ℕ) {l : List (List ℕ)} → end_of at m l ≤ end → arrows_in s g u at m ≡ ok l → arrows_in t g u at m ≡ ok l
-    unfolding arrows_in end_of arrow_cells flat_map
+    unfolding arrows_in end_of arrow_cells
     arrows_same u at zero h e = e
     arrows_same u at (suc m) h e =
         let a = bind_ok (arrow_at s g u at) _ e in

@@ -8,7 +8,7 @@ use mathlib.Core.Bool.{true, false, not, true≢false}
 use mathlib.Core.List.Memᴰ
 use mathlib.Core.List.{List, [], ◌∷◌, ◌++◌, append-nil, Memᴰ}
 use lib.ListN.{length, get_or, set, take, replicate, length-append}
-use Rattle.grid.specs.Lists.{any, member, array_of}
+use Rattle.grid.specs.Lists.{member, array_of}
 use Rattle.grid.proofs.ListLaws.{mem-member}
 use Rattle.grid.proofs.ArrayLaws.{array_length, array_more}
 use Rattle.grid.proofs.MarkLaws.{Marks-none, Marks-more, mark_zero, mark_other}
@@ -24,7 +24,7 @@ Kept-length {l} k = Fresh-length 1024 [] l k.once k.within
 
 -- nothing is kept in arrays of zeros
 pub Kept-none : Kept [] (replicate 1024 0) (replicate 1024 0)
-unfolding member any array_of
+unfolding member array_of
 Kept-none = record {
   once = Fresh.nil;
   within = λ x m. absurd (Memᴰ.not-nil m);

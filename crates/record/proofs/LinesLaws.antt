@@ -27,6 +27,15 @@ pub start_first : (ends : List ℕ) → start_at ends 0 ≡ 0
 unfolding start_at
 start_first ends = refl
 
+pub start_before : (ends : List ℕ) (k : ℕ) {e : ℕ} → (k ≡ 0 → ⊥) → e ≡ get_or ends (k - 1) 0 → e ≡ start_at ends k
+unfolding start_at
+start_before ends zero h q = absurd (h refl)
+start_before ends (suc k) h q = let p : suc k - 1 ≡ k = omega arith in rw p at q
+
+pub start_first_of : (ends : List ℕ) (k : ℕ) → k ≡ 0 → 0 ≡ start_at ends k
+unfolding start_at
+start_first_of ends k e = rw e refl
+
 pub start_next : (ends : List ℕ) (k : ℕ) → start_at ends (k + 1) ≡ get_or ends k 0
 unfolding start_at
 start_next ends k = ap (start_at ends) (add-one k)
@@ -45,7 +54,7 @@ start_later at e es (suc k) = refl
 
 ends_rise : {g : Grid} {u : List ℕ} {as' : List (List ℕ)} (at : ℕ) → Arrows g u as' → (k : ℕ) → k < length as'
     → (start_from at (ends_from at as') k < get_or (ends_from at as') k 0) × (get_or (ends_from at as') k 0 ≤ at + length (arrow_cells as'))
-unfolding ends_from arrow_cells flat_map start_from
+unfolding ends_from arrow_cells start_from
 ends_rise at Arrows.nil k l = absurd (omega arith)
 ends_rise {as' = (i ∷ js) ∷ rest} at (Arrows.cons (arrow hi w) n r) zero l = (omega arith, omega (arith, length-append (i ∷ js) (arrow_cells rest)))
 ends_rise {as' = (i ∷ js) ∷ rest} at (Arrows.cons (arrow hi w) n r) (suc k) l =
@@ -111,7 +120,7 @@ module _ {B : Type 0} (F : ℕ → ℕ → List B) (f : List ℕ → List B) whe
       → start_at ends s ≡ at → ((k : ℕ) → k < length as' → get_or ends (s + k) 0 ≡ get_or (ends_from at as') k 0)
       → ((j : ℕ) → j < length (arrow_cells as') → get_or line (at + j) 0 ≡ get_or (arrow_cells as') j 0)
       → flat_map (λ k. F (start_at ends k) (get_or ends k 0 - start_at ends k)) (range s (length as')) ≡ flat_map f as'
-  unfolding flat_map range ends_from arrow_cells
+  unfolding range ends_from arrow_cells
   arrows_there line ends [] s at same e o h = refl
   arrows_there line ends (a ∷ rest) s at same e o h =
       let z : s + 0 ≡ s = omega arith in

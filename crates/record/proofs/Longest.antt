@@ -30,7 +30,7 @@ singles-Arrows g u i (suc n) h b = Arrows.cons (arrow {i = i} (omega arith) end)
     more x (Memᴰ.tail m) = omega (arith, h x m)
 
 singles_bits : (g : Grid) (i n : ℕ) → length (flat_map (arrow_bits g) (singles i n)) ≡ 20 * n
-unfolding flat_map singles
+unfolding singles
 singles_bits g i zero = refl
 singles_bits g i (suc n) = length-append (arrow_bits g (i ∷ [])) (flat_map (arrow_bits g) (singles (suc i) n)) ∙ omega (arith, length-arrow_bits g i [], singles_bits g (suc i) n)
 

@@ -97,7 +97,6 @@ Bits-bits_of x (suc k) = Bits-append (bits_of (x / 2) k) ((x % 2) ∷ []) (Bits-
     one (suc i) = lit< tt
 
 pub Bits-flat_map : {A : Type 0} (f : A → List ℕ) (l : List A) → ((x : A) → Bits (f x)) → Bits (flat_map f l)
-unfolding flat_map
 Bits-flat_map f [] h = λ i. lit< tt
 Bits-flat_map f (x ∷ l) h = Bits-append (f x) (flat_map f l) (h x) (Bits-flat_map f l h)
 

@@ -6,7 +6,7 @@ use mathlib.Core.Path.{◌≡◌, refl, ap, ◌∙◌}
 use mathlib.Core.List.{List, [], ◌∷◌, ◌++◌, append_assoc}
 use lib.ListN.{length, take, drop, replicate, length-append}
 use lib.Seq.{take-append_seam, drop_at}
-use Rattle.grid.specs.Lists.{flat_map, array_of}
+use Rattle.grid.specs.Lists.{array_of}
 use Rattle.grid.specs.Grid.{size}
 use Rattle.grid.proofs.ArrayLaws.{array_take}
 use Rattle.fields.specs.Fields.{Outcome, ok, refused, ◌>>=◌}
@@ -23,7 +23,7 @@ length_ends at (a ∷ as') = ap suc (length_ends (at + length a) as')
 
 -- the arrows are cut out of the line of their cells again
 pub arrows_again : (line pre post : List ℕ) (at : ℕ) (as' : List (List ℕ)) → line ≡ pre ++ (arrow_cells as' ++ post) → length pre ≡ at → arrows_from line at (ends_from at as') ≡ as'
-unfolding arrows_from ends_from arrow_cells flat_map
+unfolding arrows_from ends_from arrow_cells
 arrows_again line pre post at [] e n = refl
 arrows_again line pre post at (a ∷ as') e n =
     let q : at + length a - at ≡ length a = omega arith in

@@ -10,8 +10,9 @@ use mathlib.Core.List.Memᴰ
 use mathlib.Core.List.{List, [], ◌∷◌, ◌++◌, Memᴰ}
 use lib.Dec.{eqb, leb}
 use borrow.Author.Tests.{eqb-false, leb-true, le-leb}
+use Rattle.std.proofs.lemmas.Bool.{and_from}
 use Rattle.grid.specs.Lists.{range, upto, member, flat_map, Rising, nil, cons}
-use Rattle.grid.proofs.ListLaws.{and-true, true-and, any-mem, mem-any, member-mem, mem-member, range-mem, flat_map-mem}
+use Rattle.grid.proofs.ListLaws.{and-true, any-mem, mem-any, member-mem, mem-member, range-mem, flat_map-mem}
 use Rattle.fields.proofs.OutcomeLaws.{bind_ok, unless-ok, ok-eq}
 use Rattle.record.specs.Record.{Puzzle, Outcome, ok, refused, ◌>>=◌, unless}
 use Rattle.record.specs.Arrows.{OnArrow, on_arrow}
@@ -45,7 +46,7 @@ module _ (arrows : List (List ℕ)) where
   Proper-test : (from : ℕ) (r : Range) → Proper arrows r → from ≤ r.cell → range_test (on_arrow arrows) from r ≡ true
   unfolding range_test
   Proper-test from r w h =
-      true-and (true-and (true-and (le-leb 1 r.lowest w.least) (le-leb r.lowest r.highest w.order)) (So-arrow arrows r.cell w.on)) (le-leb from r.cell h)
+      and_from _ _ (and_from _ _ (and_from _ _ (le-leb 1 r.lowest w.least) (le-leb r.lowest r.highest w.order)) (So-arrow arrows r.cell w.on)) (le-leb from r.cell h)
 
   -- ---- ranges that may stand from a cell on
 
@@ -72,7 +73,7 @@ module _ (arrows : List (List ℕ)) where
       above x (Memᴰ.tail m) = omega (arith, g.above x m)
 
   read_from : (from : ℕ) (ns : List ℕ) {rs : List Range} → ranges_from (on_arrow arrows) from ns ≡ ok rs → (ns ≡ numbers_of rs) × GoodFrom from rs
-  unfolding ranges_from numbers_of flat_map
+  unfolding ranges_from numbers_of
   read_from from [] h = subst (λ rs. ([] ≡ numbers_of rs) × GoodFrom from rs) (ok-eq h) (refl, none_good from)
   read_from from (c ∷ []) h = no_value h
   read_from from (c ∷ l ∷ []) h = no_value h
@@ -87,7 +88,7 @@ module _ (arrows : List (List ℕ)) where
 
   from_read : (from : ℕ) (rs : List Range) → Rising (sized_cells rs) → ((r : Range) → Memᴰ r rs → Proper arrows r) → ((r : Range) → Memᴰ r rs → from ≤ r.cell)
       → ranges_from (on_arrow arrows) from (numbers_of rs) ≡ ok rs
-  unfolding ranges_from numbers_of flat_map unless ◌>>=◌
+  unfolding ranges_from numbers_of unless ◌>>=◌
   from_read from [] up w h = refl
   from_read from (r ∷ rs) (cons later up) w h =
       rw (
@@ -152,7 +153,7 @@ module _ (low high : ℕ → ℕ) where
       (w.0, h.0, h.1, z.0, z.1)
 
   Rising-from : (k a : ℕ) → Rising (sized_cells (flat_map (kept_at low high) (range a k)))
-  unfolding flat_map range kept_at
+  unfolding range kept_at
   Rising-from zero a = nil
   Rising-from (suc k) a = go (eqb (low a) 0) (Rising-from k (suc a))
     where

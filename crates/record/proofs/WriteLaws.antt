@@ -12,7 +12,7 @@ use lib.ListN.{length, drop, length-append}
 use lib.Seq.{drop_at, drop-length}
 use borrow.Author.Tests.{eqb-true, le-leb, lt-ltb}
 use Rattle.grid.proofs.ListLaws.{So-false, member-mem, split, mem-member}
-use Rattle.grid.specs.Lists.{member, any, flat_map}
+use Rattle.grid.specs.Lists.{member, flat_map}
 use Rattle.grid.specs.Grid.{Grid, size, row, col, only, up, down, left, right, neighbours}
 use Rattle.grid.proofs.GridLaws.{row_below, col_below, index}
 use Rattle.fields.specs.Fields.{◌>>=◌, Outcome, ok, unless, field, there, step_from, filler}
@@ -25,7 +25,7 @@ use Rattle.record.proofs.RecordLaws.{Valid-size}
 
 -- the cell of a list of one
 there_read : (t : Bool) (x j : ℕ) → member j (only t x) ≡ true → there (only t x) ≡ ok j
-unfolding only member any there
+unfolding only member there
 there_read true x j h = go (split (eqb j x)) h
   where
     go : (eqb j x ≡ true) ⊎ (eqb j x ≡ false) → (eqb j x || false) ≡ true → ok x ≡ ok j
@@ -97,7 +97,7 @@ module _ (m : ℕ) (b : List ℕ) (h : Bits b) (fit : length b ≤ 8 * m) where
       (ap {B = Outcome ℕ} ok (pack-number m b h at k (omega (arith, length-pack m b)) ∙ ap (λ (r : List ℕ). value_of k (drop at r)) e ∙ ap (value_of k) (drop_at pre (bits_of x k ++ post) at n) ∙ value_bits_of k x post l))
 
   cells_read : (cs pre post : List ℕ) (at : ℕ) → b ≡ pre ++ (flat_map (λ c. bits_of c 2) cs ++ post) → length pre ≡ at → ((c : ℕ) → Memᴰ c cs → c < 3) → cell_codes (pack m b) at (length cs) ≡ ok cs
-  unfolding cell_codes flat_map ◌>>=◌ unless
+  unfolding cell_codes ◌>>=◌ unless
   cells_read [] pre post at e n f = refl
   cells_read (c ∷ cs) pre post at e n f =
       let l = f c (Memᴰ.head refl) in
@@ -150,7 +150,7 @@ module _ (m : ℕ) (b : List ℕ) (h : Bits b) (fit : length b ≤ 8 * m) where
 
       Arrows-read : (as' : List (List ℕ)) (pre used : List ℕ) (at : ℕ) → Arrows g used as' → ((a : List ℕ) → Memᴰ a as' → length a ≤ 1024)
           → b ≡ pre ++ flat_map (arrow_bits g) as' → length pre ≡ at → 8 * m - length b < 8 → arrows_at (pack m b) g used at (length as') ≡ ok as'
-      unfolding arrows_at flat_map ◌>>=◌ unless filler
+      unfolding arrows_at ◌>>=◌ unless filler
       Arrows-read [] pre used at r t e n q =
           let e' : b ≡ pre = e ∙ append-nil pre in
           let z : drop at b ≡ [] = ap (drop at) e' ∙ ap (λ (k : ℕ). drop k pre) (sym n) ∙ drop-length pre in
@@ -188,13 +188,11 @@ Bits-arrow g (i ∷ js) =
 
 -- two bits for each cell
 pub length_codes : (cs : List ℕ) → length (flat_map (λ c. bits_of c 2) cs) ≡ 2 * length cs
-unfolding flat_map
 length_codes [] = omega arith
 length_codes (c ∷ cs) = rw length-append (omega (arith, length-bits_of c 2, length_codes cs))
 
 -- no arrow is empty
 pub few_Arrows : {g : Grid} {u : List ℕ} {as' : List (List ℕ)} → Arrows g u as' → length as' ≤ length (together as')
-unfolding flat_map
 few_Arrows Arrows.nil = omega arith
 few_Arrows (Arrows.cons (arrow h w) f r) = rw length-append (omega (arith, few_Arrows r))
 

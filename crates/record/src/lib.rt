@@ -1,23 +1,24 @@
 // The record of a puzzle: its fields in turn, read from a byte slice.
 #![tactic(auto)]
 
-ghost use Rattle.std.specs.Prelude.{◌≡◌, not, List, [], ◌∷◌, ◌++◌, ℕ, ◌+◌, ◌*◌, ◌≤◌, ◌<◌, length, take};
+ghost use Rattle.std.specs.Prelude.{◌≡◌, not, List, [], ◌∷◌, ◌++◌, ℕ, ◌+◌, ◌-◌, ◌*◌, ◌≤◌, ◌<◌, length, take, drop, get_or, IfOk};
 ghost use Rattle.grid.specs.Lists.{member, last, array_of};
 ghost use Rattle.grid.specs.Side.{sized};
 ghost use Rattle.refusal.specs.Refusals.{Outcome, refused, outcome_of};
 ghost use Rattle.fields.specs.Fields.{unless, bytes_for};
-ghost use Rattle.fields.specs.Inside.{Agrees};
+ghost use Rattle.fields.specs.Inside.{Agrees, Past};
 ghost use Rattle.record.specs.Record.{Puzzle, cell_codes, step_cells, arrow_at, read_record};
 ghost use Rattle.record.specs.Problem.{arrow_cells, ends_from, as_problem, total_of};
+ghost use Rattle.record.specs.Lines.{start_at};
 ghost use Rattle.record.specs.Head.{read_head, puzzle_in};
 ghost use Rattle.record.specs.Inside.{Kept, take_at, AtCell, ended, arrows_ended, read_as};
 
-use fields::Place;
+use fields::{BitReader, Place};
 use grid::Grid;
 use refusal::Refusal;
 use std::marker::Model;
 
-// The codes of a cell: plain, black, and with a given square.
+// The codes of a cell: plain, black, and with a given square. Numbers, and no enum: C is lent them in a `Problem`.
 pub const PLAIN: u8 = 0;
 
 pub const BLACK: u8 = 1;
@@ -45,20 +46,21 @@ enum Extent {
 }
 
 impl Extent {
-    // Whether a record's fields may end at `at`: only zero bits to the end of the byte, and behind those of a whole record nothing more.
+    // Whether a record's fields may end where it is read: only zero bits to the end of the byte, and behind those of a whole record nothing more.
     #[tactic(auto, using(crate::proofs::FieldsLaws::ended_head, crate::proofs::FieldsLaws::ended_whole))]
-    fn may_end(self, s: &[u8], at: usize) -> bool
-        requires { at ≤ 65536 }
-        ensures { result ≡ ended self s.now at }
+    fn may_end(self, bits: &BitReader) -> bool
+        requires { bits.now.at ≤ 65536 }
+        ensures { result ≡ ended self bits.now.bytes.now bits.now.at }
     {
         match self {
-            Extent::Whole => fields::is_filler(s, at),
-            Extent::Head => fields::is_rest_zero(s, at),
+            Extent::Whole => bits.is_at_filler(),
+            Extent::Head => bits.is_rest_zero(),
         }
     }
 }
 
 // The arrow cells that were read, in their order and each once: the first `count` of `cells`, and each is marked in `used`.
+// No `ArrayVec`: a problem gets the array itself, with zeros behind the cells, and an `ArrayVec` has no zeros to give.
 #[derive(Drop)]
 struct Line {
     cells: [u16; 1024],
@@ -112,87 +114,87 @@ impl Line {
         Ok(())
     }
 
-    // Takes the step at `at`, from a cell that stands last in the line.
+    // Takes a step, from a cell that stands last in the line.
     #[tactic(auto, using(crate::proofs::ArrowLaws::step_lost, crate::proofs::ArrowLaws::step_new, crate::proofs::ArrowLaws::step_used, fields::proofs::OutcomeLaws::agrees_fault))]
-    fn take_step(&mut self, s: &[u8], grid: Grid, from: Place, at: usize) -> Result<Place, Refusal>
-        requires { (from.row < grid.height) × (from.col < grid.width) × (at ≤ 65536) }
-        ensures { Agrees (take_at s.now (sized grid.height grid.width) self.old (from.row * grid.width + from.col) at)
+    fn take_step(&mut self, bits: &mut BitReader, grid: Grid, from: Place) -> Result<Place, Refusal>
+        requires { (from.row < grid.height) × (from.col < grid.width) × (bits.old.at ≤ 65536) }
+        ensures step { Agrees (take_at bits.old.bytes.now (sized grid.height grid.width) self.old (from.row * grid.width + from.col) bits.old.at)
             (λ j place. AtCell grid.height grid.width j place × (self.new ≡ self.old ++ (j ∷ []))) result }
+        ensures past { Past 2 bits.old bits.new }
     {
-        let place = fields::read_step(s, grid.height, grid.width, from.row, from.col, at)?;
+        let place = bits.read_step(grid.height, grid.width, from)?;
         self.enter(place.row * grid.width + place.col)?;
         Ok(place)
     }
 
-    // Takes the steps of an arrow from `at` on.
-    #[tactic(auto, using(crate::proofs::ArrowLaws::steps_fault, crate::proofs::ArrowLaws::steps_more, crate::proofs::ArrowLaws::steps_start, fields::proofs::OutcomeLaws::agrees_fault))]
+    // Takes the steps of an arrow.
+    #[tactic(auto, using(crate::proofs::ArrowLaws::steps_more, crate::proofs::ArrowLaws::steps_start))]
     fn read_steps(
         &mut self,
-        s: &[u8],
+        bits: &mut BitReader,
         grid: Grid,
         from: Place,
-        at: usize,
         steps: usize,
     ) -> Result<(), Refusal>
-        requires { (from.row < grid.height) × (from.col < grid.width) × (at ≤ 60000) × (steps ≤ 1024) }
-        ensures { Agrees (step_cells s.now (sized grid.height grid.width) self.old (from.row * grid.width + from.col) at steps) (λ js _. self.new ≡ self.old ++ js) result }
+        requires { (from.row < grid.height) × (from.col < grid.width) × (bits.old.at ≤ 60000) × (steps ≤ 1024) }
+        ensures cells { Agrees (step_cells bits.old.bytes.now (sized grid.height grid.width) self.old (from.row * grid.width + from.col) bits.old.at steps) (λ js _. self.new ≡ self.old ++ js) result }
+        ensures past { IfOk result (λ _. Past (2 * steps) bits.old bits.new) }
     {
         let mut place = from;
-        for i in 0..steps {
-            place = self.take_step(s, grid, place, at + 2 * i)?;
+        for _ in 0..steps {
+            place = self.take_step(bits, grid, place)?;
         }
         Ok(())
     }
 
-    // Reads the arrow at `at`.
-    fn read_arrow(&mut self, s: &[u8], grid: Grid, at: usize) -> Result<(), Refusal>
-        requires { at ≤ 50000 }
-        ensures { Agrees (arrow_at s.now (sized grid.height grid.width) self.old at) (λ a _. self.new ≡ self.old ++ a) result }
+    // Reads an arrow.
+    fn read_arrow(&mut self, bits: &mut BitReader, grid: Grid) -> Result<(), Refusal>
+        requires { bits.old.at ≤ 50000 }
+        ensures { Agrees (arrow_at bits.old.bytes.now (sized grid.height grid.width) self.old bits.old.at)
+            (λ a _. (self.new ≡ self.old ++ a) × Past (18 + 2 * length a) bits.old bits.new) result }
     {
-        let start = fields::read_start(s, grid.height, grid.width, at)?;
-        let from = Place {
-            row: start.row,
-            col: start.col,
-        };
-        self.enter(from.row * grid.width + from.col)?;
-        self.read_steps(s, grid, from, at + 20, start.steps)
+        let start = bits.read_start(grid.height, grid.width)?;
+        self.enter(start.place.row * grid.width + start.place.col)?;
+        self.read_steps(bits, grid, start.place, start.steps)
     }
 
-    // Reads the arrows, which stand behind the codes of the cells, and the filler behind them; the line and the ends come empty.
-    #[tactic(auto, using(crate::proofs::ArrowsLaws::arrows_more, crate::proofs::ArrowsLaws::arrows_start))]
+    // Reads the arrows, and the filler behind them, to a line that comes empty: where each arrow ends, and 0 behind. By index, as in `read_cells`.
+    #[tactic(auto, using(crate::proofs::ArrowsLaws::arrows_more))]
     fn read_arrows(
         &mut self,
-        s: &[u8],
+        bits: &mut BitReader,
         grid: Grid,
         arrows: usize,
         extent: Extent,
-        ends: &mut [u16; 1024],
-    ) -> Result<(), Refusal>
-        requires { (arrows ≤ 2048) × (self.old ≡ []) × (ends.old ≡ array_of 0 []) }
-        ensures { Agrees (arrows_ended extent s.now (sized grid.height grid.width) (21 + 2 * (grid.height * grid.width)) arrows) (λ l _. (self.new ≡ arrow_cells l) × (ends.new ≡ array_of 0 (ends_from 0 l))) result }
+    ) -> Result<[u16; 1024], Refusal>
+        requires { (bits.old.at ≤ 4000) × (arrows ≤ 2048) × (self.old ≡ []) }
+        ensures { Agrees (arrows_ended extent bits.old.bytes.now (sized grid.height grid.width) bits.old.at arrows) (λ l ends. (self.new ≡ arrow_cells l) × (ends ≡ array_of 0 (ends_from 0 l))) result }
     {
-        let at = 21 + 2 * grid.size();
+        let mut ends = [0; 1024];
         for i in 0..arrows {
-            self.read_arrow(s, grid, at + 18 * i + 2 * self.len())?;
+            self.read_arrow(bits, grid)?;
             ends[i] = self.len() as u16;
         }
-        if extent.may_end(s, at + 18 * arrows + 2 * self.len()) {
-            return Ok(());
+        if extent.may_end(bits) {
+            return Ok(ends);
         }
         Err(Refusal::Filler)
     }
 }
 
-// The codes of all n cells, to the front of an array of zeros.
-#[tactic(auto, using(crate::proofs::CellLaws::cells_more, crate::proofs::CellLaws::cells_start))]
-fn read_cells(s: &[u8], n: usize, cells: &mut [u8; 1024]) -> Result<(), Refusal>
-    requires { (n ≤ 1024) × (cells.old ≡ array_of 0 []) }
-    ensures { Agrees (cell_codes s.now 21 n) (λ cs _. cells.new ≡ array_of 0 cs) result }
+// Reads the codes of n cells, and gives them with 0 behind.
+// By index: only the first n places are written, and of places that are written through an adapter of `iter_mut` a proof does not know what they hold then.
+#[tactic(auto, using(crate::proofs::CellLaws::cells_more))]
+fn read_cells(bits: &mut BitReader, n: usize) -> Result<[u8; 1024], Refusal>
+    requires { (bits.old.at ≤ 4000) × (n ≤ 1024) }
+    ensures codes { Agrees (cell_codes bits.old.bytes.now bits.old.at n) (λ cs cells. cells ≡ array_of 0 cs) result }
+    ensures past { IfOk result (λ _. Past (2 * n) bits.old bits.new) }
 {
+    let mut cells = [0; 1024];
     for i in 0..n {
-        cells[i] = fields::read_code(s, 21 + 2 * i)?;
+        cells[i] = bits.read_code()?;
     }
-    Ok(())
+    Ok(cells)
 }
 
 impl Problem {
@@ -213,19 +215,17 @@ impl Problem {
     }
 
     // The problem of a whole record, or of one at the head of a file, or the refusal of its first fault.
-    #[tactic(auto, using(crate::proofs::WholeLaws::whole_arrows, crate::proofs::WholeLaws::whole_cells, crate::proofs::WholeLaws::whole_cut, crate::proofs::WholeLaws::whole_cut_2, crate::proofs::WholeLaws::whole_cut_3, fields::proofs::OutcomeLaws::outcome_fault), unfolding(grid::specs::Lists::array_of))]
     fn read_as(bytes: &[u8], extent: Extent) -> Result<Problem, Refusal>
         ensures { outcome_of result ≡ as_problem (read_as extent bytes.now) }
     {
-        let height = fields::read_field(bytes, 0, 5)? + 1;
-        let width = fields::read_field(bytes, 5, 5)? + 1;
-        let count = fields::read_field(bytes, 10, 11)?;
+        let mut bits = BitReader { bytes, at: 0 };
+        let height = bits.read_field(5)? + 1;
+        let width = bits.read_field(5)? + 1;
+        let count = bits.read_field(11)?;
         let grid = Grid { height, width };
-        let mut cells = [0; 1024];
-        read_cells(bytes, grid.size(), &mut cells)?;
+        let cells = read_cells(&mut bits, grid.size())?;
         let mut line = Line::new();
-        let mut ends = [0; 1024];
-        line.read_arrows(bytes, grid, count, extent, &mut ends)?;
+        let ends = line.read_arrows(&mut bits, grid, count, extent)?;
         Ok(Problem {
             height,
             width,
@@ -236,15 +236,56 @@ impl Problem {
         })
     }
 
+    // How many cells its grid has.
+    pub fn size(&self) -> usize
+        requires { (self.now.height ≤ 32) × (self.now.width ≤ 32) }
+        ensures value { result ≡ self.now.height * self.now.width }
+        ensures small { result ≤ 1024 }
+    {
+        self.grid().size()
+    }
+
+    // Its grid, if it has at most 32 rows and columns.
+    pub fn grid(&self) -> Grid
+        requires { (self.now.height ≤ 32) × (self.now.width ≤ 32) }
+        ensures height { result.height ≡ self.now.height }
+        ensures width { result.width ≡ self.now.width }
+    {
+        Grid {
+            height: self.height,
+            width: self.width,
+        }
+    }
+
+    // Where arrow k begins: where the one before it ends.
+    #[tactic(auto, using(crate::proofs::LinesLaws::start_before, crate::proofs::LinesLaws::start_first_of))]
+    fn start(&self, k: usize) -> usize
+        requires { k < 1024 }
+        ensures { result ≡ start_at self.now.ends k }
+    {
+        if k == 0 {
+            return 0;
+        }
+        usize::from(self.ends[k - 1])
+    }
+
+    // The cells of arrow k. The ends rise up to it, and there is room for them. Who goes over all arrows asks for each by its number: an iterator over them would
+    // have to be told all this of each arrow before it gives the first.
+    pub fn arrow(&self, k: usize) -> &[u16]
+        requires { (k < self.now.count) × (self.now.count ≤ 1024) × (start_at self.now.ends k ≤ get_or self.now.ends k 0) × (get_or self.now.ends k 0 ≤ 1024) }
+        ensures { result.now ≡ take (get_or self.now.ends k 0 - start_at self.now.ends k) (drop (start_at self.now.ends k) self.now.arrows) }
+    {
+        &self.arrows[self.start(k)..usize::from(self.ends[k])]
+    }
+
     // How many cells the arrows have together: the end of the last one.
     pub fn arrow_total(&self) -> usize
         requires { self.now.count ≤ 1024 }
         ensures { result ≡ total_of self.now }
     {
-        if self.count == 0 {
-            return 0;
-        }
-        usize::from(self.ends[self.count - 1])
+        self.ends[..self.count]
+            .last()
+            .map_or(0, |&end| usize::from(end))
     }
 
     // How many bytes the record of the problem has: where it ends in a file that it is the head of.
@@ -253,7 +294,7 @@ impl Problem {
         requires { (self.now.height ≤ 32) × (self.now.width ≤ 32) × (self.now.count ≤ 1024) × (total_of self.now ≤ 1024) }
         ensures { result ≡ bytes_for (21 + 2 * (self.now.height * self.now.width) + 18 * self.now.count + 2 * total_of self.now) }
     {
-        let bits = 21 + 2 * (self.height * self.width) + 18 * self.count + 2 * self.arrow_total();
-        (bits + 7) / 8
+        let bits = 21 + 2 * self.size() + 18 * self.count + 2 * self.arrow_total();
+        bits.div_ceil(8)
     }
 }

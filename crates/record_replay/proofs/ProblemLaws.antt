@@ -95,29 +95,9 @@ module _ (list : List ℕ) (at : ℕ) (p : Problem) (n : ℕ) (en : n ≡ area_a
   count_is : count ≡ count_at list at
   count_is = ec ∙ ap (λ (k : ℕ). number_at list (at + 2 + k)) en
 
-  -- more arrows than a grid has cells
-  pub too_many : 1024 < count → DiffersUnless true (ProblemSo list at p)
-  too_many h = fails (λ s. absurd (omega (arith, s.few, count_is)))
-
-  -- another height
-  pub other_height : (x : ℕ) → x ≡ get_or list at 0 → (p.height ≡ x → ⊥) → DiffersUnless true (ProblemSo list at p)
-  other_height x e z = fails (λ s. z (s.height_so ∙ sym e))
-
-  -- another width
-  pub other_width : (x : ℕ) → x ≡ get_or list (at + 1) 0 → (p.width ≡ x → ⊥) → DiffersUnless true (ProblemSo list at p)
-  other_width x e z = fails (λ s. z (s.width_so ∙ sym e))
-
-  -- another number of arrows
-  pub other_count : (p.count ≡ count → ⊥) → DiffersUnless true (ProblemSo list at p)
-  other_count z = fails (λ s. z (s.count_so ∙ sym count_is))
-
   -- the codes, held against the list's
   codes : (t : Bool) → t ≡ differs p.cells (byte_in list (at + 2) n 0 0) 0 → t ≡ differs p.cells (byte_in list (at + 2) (area_at list at) 0 0) 0
   codes t d = subst (λ (k : ℕ). t ≡ differs p.cells (byte_in list (at + 2) k 0 0) 0) en d
-
-  -- other codes
-  pub other_codes : (t : Bool) → t ≡ differs p.cells (byte_in list (at + 2) n 0 0) 0 → t ≡ true → DiffersUnless true (ProblemSo list at p)
-  other_codes t d h = fails (λ s. true≢false (sym h ∙ (codes t d ∙ s.cells_so)))
 
   -- all that but the arrows is as the list says: then they decide
   pub arrows_decide : count ≤ 1024 → (x : ℕ) → x ≡ get_or list at 0 → p.height ≡ x → (y : ℕ) → y ≡ get_or list (at + 1) 0 → p.width ≡ y → p.count ≡ count → (t : Bool) → t ≡ differs p.cells (byte_in list (at + 2) n 0 0) 0 → t ≡ false → (r : Bool) → DiffersUnless r (ArrowsSo list (at + 4 + n) count p.arrows p.ends 0 0) → DiffersUnless r (ProblemSo list at p)

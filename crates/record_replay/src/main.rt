@@ -10,6 +10,7 @@ ghost use Rattle.replay.specs.Comparisons.{DiffersUnless};
 ghost use Rattle.record_replay.specs.Problems.{ZerosFrom, ArrowsSo, area_at, problem_end, EndSo, ProblemSo, RefusedSo, RecordSo, EntrySo};
 
 use record::Problem;
+use refusal::Refusal;
 use replay::{Cursor, Entries, Run};
 use std::io;
 
@@ -48,7 +49,7 @@ fn arrows_differ(said: Cursor<'_>, count: usize, line: &[u16; 1024], ends: &[u16
 {
     let mut arrow = said;
     let mut end = 0;
-    for i in 0..count {
+    for &stop in &ends[..count] {
         let Some(n) = arrow.number() else {
             return true;
         };
@@ -60,7 +61,7 @@ fn arrows_differ(said: Cursor<'_>, count: usize, line: &[u16; 1024], ends: &[u16
             return true;
         }
         end = next;
-        if usize::from(ends[i]) != end {
+        if usize::from(stop) != end {
             return true;
         }
         // Behind the last arrow the list may have ended inside its cells: where these are zeros, nothing differs.
@@ -99,13 +100,10 @@ fn problem_differs(said: Cursor<'_>, problem: Problem) -> bool
 }
 
 // Whether a record is not refused with this number.
-fn refusal_differs(record: &[u8], refusal: usize) -> bool
+fn refusal_differs(record: &[u8], refusal: u8) -> bool
     ensures { DiffersUnless result (RefusedSo «record».now refusal) }
 {
-    match Problem::read(record) {
-        Ok(_) => true,
-        Err(refused) => usize::from(refused.number()) != refusal,
-    }
+    replay::answer_differs(Problem::read(record).map(|_| ()), Err(refusal))
 }
 
 // Whether a record is refused, or its problem differs from the one at the cursor.
@@ -136,8 +134,7 @@ impl Entries for Records {
 
     fn run(&self, mut cursor: Cursor<'_>) -> Option<Run> {
         let bytes = cursor.counted()?;
-        let refusal = usize::from(cursor.byte()?);
-        if refusal != 0 {
+        if let Err(refusal) = cursor.refusal()? {
             return Some(Run::of(refusal_differs(bytes, refusal), cursor.at));
         }
         let problem = cursor;
@@ -151,13 +148,11 @@ impl Entries for Records {
     }
 }
 
+// One line in each program that replays a list: `replay::replay` does it, and the entries and their words are the program's own.
 fn main(rt: HostRuntime) -> io::Result<()> {
-    replay::replay::<Records, _, _>(rt.reader(), &mut io::writer(&rt), " records, ", "")?;
+    replay::replay::<Records, _, _>(rt.reader(), &mut io::writer(&rt), " records, ", None)?;
     // A record that is far too long.
-    let refusal = match Problem::read(&[0; 131072]) {
-        Ok(_) => 0,
-        Err(refused) => refused.number(),
-    };
+    let refusal = Problem::read(&[0; 131072]).err().map_or(0, Refusal::number);
     println!(rt; "131072 zeros: refused {refusal}")?;
     Ok(())
 }

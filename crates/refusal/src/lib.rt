@@ -126,7 +126,7 @@ impl fmt::Display for Refusal {
     }
 }
 
-/// What an exported call returns: a count, or the negated number of a refusal.
+/// What an exported call returns: a count, or the negated number of a refusal. It is no `From`, which could not ask that an `i32` holds the count.
 pub fn returned(answer: Result<usize, Refusal>) -> i32
     requires { ForOk answer (λ n. n < 2 ^ 31) }
     ensures { result ≡ returned_of answer }

@@ -1,17 +1,13 @@
 -- Laws of what comparisons answer.
 -- Assumes nothing.
 use Prim.Native.Nat.{ℕ}
-use mathlib.Core.Bool.{Bool, true, false, not, ◌||◌, true≢false}
+use mathlib.Core.Bool.{Bool, true, false, not, true≢false}
 use mathlib.Core.Path.{◌≡◌, sym, ◌∙◌}
 use lib.Dec.{eqb}
 use borrow.Author.Tests.{eqb-true, eqb-false, not-true, not-false}
 use Rattle.replay.specs.Comparisons.{DiffersUnless}
 
 module _ {P : Type 0} where
-  -- what holds doesn't differ
-  pub holds : P → DiffersUnless false P
-  holds p = (λ _. p, λ t. absurd (true≢false (sym t)))
-
   -- what doesn't hold differs
   pub fails : (P → ⊥) → DiffersUnless true P
   fails n = (λ f. absurd (true≢false f), λ _. n)
@@ -19,15 +15,6 @@ module _ {P : Type 0} where
   -- the same for an answer that was found true
   pub fails_so : (t : Bool) → t ≡ true → (P → ⊥) → DiffersUnless t P
   fails_so t e n = (λ f. absurd (true≢false (sym e ∙ f)), λ _. n)
-
-  module _ (t u : Bool) (w : DiffersUnless (t || u) P) where
-    -- a first test that finds a difference decides
-    pub first_decides : t ≡ true → DiffersUnless t P
-    first_decides e = rw e (rw e at w)
-
-    -- one that finds none leaves it to the second
-    pub second_decides : t ≡ false → DiffersUnless u P
-    second_decides e = rw e at w
 
 module _ {P Q : Type 0} where
   -- facts that hold together differ together

@@ -1,6 +1,6 @@
 -- What is counted of a list and of its entries.
 -- Assumes nothing.
-use Rattle.std.specs.Prelude.{ℕ, ◌+◌, ◌-◌, ◌≤◌, ◌<◌, Bool, true, false, cond, List, Option, Some, None, unwrap_or, length, eqb, ltb, leb}
+use Rattle.std.specs.Prelude.{ℕ, ◌+◌, ◌-◌, ◌≤◌, ◌<◌, Bool, true, false, cond, List, Option, Some, None, unwrap_or, length, ltb, leb}
 use Rattle.replay.specs.Lists.{data_start}
 use Rattle.replay.specs.declared.Run.{Run}
 use Rattle.replay.specs.declared.Tally.{Tally}
@@ -33,11 +33,14 @@ also_of r other = record { parts = r.parts; differ = sum_of r.differ (cond other
 abbrev pub empty_tally : ℕ → Bool → Tally
 empty_tally place sound = record { entries = 0; parts = 0; differ = 0; at = place; whole = sound }
 
--- of a list with so many bytes of data before its entries: damaged where it has no head, or ends inside those bytes
+-- of a list of this length whose data begins at a place, with so many bytes of it before the entries: damaged where there is no such place, or the list ends inside those bytes
+abbrev pub tally_from : ℕ → ℕ → Option ℕ → Tally
+tally_from size bytes None = empty_tally size false
+tally_from size bytes (Some start) = cond (ltb (size - start) bytes) (empty_tally size false) (empty_tally (start + bytes) true)
+
+-- of a list with so many bytes of data before its entries
 abbrev pub tally_of : List ℕ → ℕ → Tally
-tally_of l bytes =
-    cond (eqb (data_start l) 0) (empty_tally (length l) false)
-    (cond (ltb (length l - data_start l) bytes) (empty_tally (length l) false) (empty_tally (data_start l + bytes) true))
+tally_of l bytes = tally_from (length l) bytes (data_start l)
 
 -- with what an entry counted, the next one at a place
 abbrev pub counted : Tally → Run → ℕ → Bool → Tally

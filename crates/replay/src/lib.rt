@@ -4,12 +4,16 @@
 // A list has a head of lines that begin with `#`, an empty line, and then entries to its end. A u16 has its high byte first.
 #![tactic(auto)]
 
-ghost use Rattle.std.specs.Prelude.{◌+◌, ◌≤◌, ◌<◌, ◌≡◌, ℕ, List, Option, Some, cond, length, get_or, take, drop, OnOk, IfOk, IfSome, IfNone, ⊤};
+ghost use Rattle.std.specs.Prelude.{◌+◌, ◌≤◌, ◌<◌, ◌≡◌, ℕ, List, Option, Some, option_map, cond, length, get_or, take, drop, OnOk, IfOk, IfSome, IfNone, ⊤};
+ghost use Rattle.std.specs.Bool.{Decides};
 ghost use Rattle.std.specs.Io.KnownBytes.{Appends};
+ghost use Rattle.refusal.specs.Refusals.{outcome_of};
+ghost use Rattle.replay.specs.Comparisons.{DiffersUnless, outcome_said, said_by};
 ghost use Rattle.replay.specs.Tallies.{sum_of, broken_run, run_of, then_of, also_of, tally_of, with_of, Through};
 ghost use Rattle.replay.specs.Lists.{area_of, number_at, data_start, byte_in, number_in, differs};
 ghost use Rattle.replay.specs.Printed.{tally_text};
 
+use refusal::Refusal;
 use std::io::{Read, Write};
 use std::{fmt, io};
 
@@ -31,33 +35,26 @@ pub struct Tally {
     pub whole: bool,
 }
 
-// A tally, with a word for its entries and, where it is not empty, one for their parts.
+// A tally, with a word for its entries and, where their parts are told too, one for these.
 #[derive(Drop)]
 pub struct Report<'a> {
     pub tally: Tally,
     pub entries: &'a str,
-    pub parts: &'a str,
+    pub parts: Option<&'a str>,
 }
 
-// What stands in every place of a fresh buffer: a number that is no literal.
+// What stands in every place of a fresh buffer: a number that is the literal of no cell.
 pub const NO_LITERAL: u16 = 65535;
 
-// H × W, and 0 where a size is above 32.
+// H × W, none where a size is above 32.
 #[tactic(auto, using(std::proofs::lemmas::Bool::Decides::nat_tests), unfolding(crate::specs::Lists::area_of))]
-pub fn area(height: usize, width: usize) -> usize
-    ensures { (result ≡ area_of height width) × (result ≤ 1024) }
+pub fn area(height: usize, width: usize) -> Option<usize>
+    ensures { (result ≡ area_of height width) × IfSome result (λ n. n ≤ 1024) }
 {
     if 32 < height || 32 < width {
-        return 0;
+        return None;
     }
-    height * width
-}
-
-// The byte at `at`, 0 behind the end.
-pub fn byte_at(list: &[u8], at: usize) -> usize
-    ensures { (result ≡ get_or list.now at 0) × (result < 256) }
-{
-    list.get(at).map_or(0, |&byte| usize::from(byte))
+    Some(height * width)
 }
 
 // The u16 at `at`, with 0 for each byte behind the end.
@@ -72,24 +69,27 @@ pub fn number_at(list: &[u8], at: usize) -> usize
     usize::from(u16::from_be_bytes([high, low]))
 }
 
-// Where the data begins: behind the head and its empty line, 0 where there is no such head.
-pub fn data_start(list: &[u8]) -> usize
-    ensures { (result ≡ data_start list.now) × (result ≤ length list.now) }
+// Where the data begins: behind the head and its empty line, none where there is no such head.
+pub fn data_start(list: &[u8]) -> Option<usize>
+    ensures { (result ≡ data_start list.now) × IfSome result (λ start. start ≤ length list.now) }
 {
-    if byte_at(list, 0) != 35 {
-        return 0;
+    let Some(b'#') = list.first() else {
+        return None;
+    };
+    // Behind each other line of the head comes one that begins as it does.
+    let end = (1..list.len()).find(|&i| list[i - 1] == b'\n' && list[i] != b'#')?;
+    if list[end] == b'\n' {
+        Some(end + 1)
+    } else {
+        None
     }
-    for i in 1..list.len() {
-        if list[i - 1] == 10 {
-            if list[i] == 10 {
-                return i + 1;
-            }
-            if list[i] != 35 {
-                return 0;
-            }
-        }
-    }
-    0
+}
+
+// Whether a call answers something else than what a list says of it: a value, or the number of its refusal.
+pub fn answer_differs<T: PartialEq + Drop>(answer: Result<T, Refusal>, said: Result<T, u8>) -> bool
+    ensures { ((a b : T) → Decides (T.eq a b) (a ≡ b)) → DiffersUnless result (outcome_of answer ≡ outcome_said said) }
+{
+    answer.map_err(Refusal::number) != said
 }
 
 impl Run {
@@ -144,11 +144,9 @@ impl Tally {
     pub fn of(list: &[u8], before: usize) -> Tally
         ensures { result ≡ tally_of list.now before }
     {
-        let start = data_start(list);
-        let (at, whole) = if start == 0 || list.len() - start < before {
-            (list.len(), false)
-        } else {
-            (start + before, true)
+        let (at, whole) = match data_start(list) {
+            Some(start) if before <= list.len() - start => (start + before, true),
+            _ => (list.len(), false),
         };
         Tally {
             entries: 0,
@@ -180,13 +178,13 @@ impl Tally {
 }
 
 impl fmt::Display for Report<'_> {
-    ghost output = { λ r. Some (tally_text r.tally r.entries.now r.parts.now) };
+    ghost output = { λ r. Some (tally_text r.tally r.entries.now (option_map (λ word. word.now) r.parts)) };
 
     fn fmt<W: fmt::Write>(&self, f: &mut fmt::Formatter<W>) -> fmt::Result {
         let tally = self.tally;
         write!(f, "{}{}", tally.entries, self.entries)?;
-        if !self.parts.is_empty() {
-            write!(f, "{}{}", tally.parts, self.parts)?;
+        if let Some(parts) = self.parts {
+            write!(f, "{}{parts}", tally.parts)?;
         }
         writeln!(f, "{} differ", tally.differ)?;
         if !tally.whole {
@@ -226,6 +224,18 @@ impl<'a> Cursor<'a> {
         Some(bytes[0])
     }
 
+    // What the next byte says of a call: the number of its refusal, and 0 where it is not refused; none at the end.
+    pub fn refusal(&mut self) -> Option<Result<(), u8>>
+        ensures same { self.new.list.now ≡ self.old.list.now }
+        ensures taken { IfSome result (λ said. (said ≡ said_by (get_or self.old.list.now self.old.at 0)) × (self.new.at ≡ self.old.at + 1)) }
+        ensures short { IfNone result ((length self.old.list.now < self.old.at + 1) × (self.new.at ≡ self.old.at)) }
+    {
+        match self.byte()? {
+            0 => Some(Ok(())),
+            number => Some(Err(number)),
+        }
+    }
+
     // The next u16, none where the list ends before it or inside it.
     pub fn number(&mut self) -> Option<usize>
         ensures same { self.new.list.now ≡ self.old.list.now }
@@ -261,7 +271,8 @@ impl<'a> Cursor<'a> {
     pub fn byte_at(self, offset: usize) -> usize
         ensures { (result ≡ get_or self.entry.list.now (self.entry.at + offset) 0) × (result < 256) }
     {
-        byte_at(&self.list[self.at..], offset)
+        let rest = &self.list[self.at..];
+        rest.get(offset).map_or(0, |&byte| usize::from(byte))
     }
 
     // The u16 this many places on, with 0 for each byte behind the end.
@@ -287,7 +298,8 @@ impl<'a> Cursor<'a> {
     pub fn bytes_differ(self, n: usize, bytes: &[u8], from: usize, other: u8) -> bool
         ensures { result ≡ differs bytes.now (byte_in self.entry.list.now self.entry.at n from other) 0 }
     {
-        (0..bytes.len()).any(|i| usize::from(bytes[i]) != self.byte_in(n, from, other, i))
+        bytes.iter().enumerate().any(|(i, &byte)| usize::from(byte)
+            != self.byte_in(n, from, other, i))
     }
 
     // Whether an array with a place for each cell differs from the next n bytes of the list, with this byte behind them.
@@ -314,7 +326,8 @@ impl<'a> Cursor<'a> {
     pub fn numbers_differ(self, n: usize, numbers: &[u16], behind: u16) -> bool
         ensures { result ≡ differs numbers.now (number_in self.entry.list.now self.entry.at n behind) 0 }
     {
-        (0..numbers.len()).any(|i| usize::from(numbers[i]) != self.number_in(n, behind, i))
+        numbers.iter().enumerate().any(|(i, &number)| usize::from(number)
+            != self.number_in(n, behind, i))
     }
 
     // The same for an array with a place for each cell, and 1024, which stands for none, behind its names.
@@ -341,10 +354,11 @@ pub trait Entries: Drop {
 
     ghost BEFORE: { ℕ };
 
-    // So many bytes of a list's data come before its entries.
+    // So many bytes of a list's data come before its entries. Each impl gives it, the five too that give 0: `rattle check` states no constant that has a
+    // value in its trait and a ghost member of its name.
     const BEFORE: usize;
 
-    // What the data of a list says before its entries.
+    // What the data of a list says before its entries. It has no body here: one would ask each type for a `Default`, also those that read something.
     fn of(data: &[u8]) -> Self;
 
     // Goes through the entry at the cursor.
@@ -367,22 +381,23 @@ fn go_through<E: Entries>(entries: &E, list: &[u8]) -> Tally
     tally
 }
 
-// Replays the list on the input: goes through its entries, and prints what was counted, with a word for them and, where it is not empty, one
-// for their parts.
+// Replays the list on the input: goes through its entries, and prints what was counted, with a word for them and, where their parts are told
+// too, one for these.
 pub fn replay<E: Entries, R: Read + Drop, W: Write>(
     input: R,
     output: &mut W,
     entries: &str,
-    parts: &str,
+    parts: Option<&str>,
 ) -> io::Result<()>
     ensures { OnOk result (IfSome (R.remaining input) (λ bytes. (found : E) × (tally : Tally)
         × Through (E.counts found (take 524288 bytes)) (length (take 524288 bytes)) (tally_of (take 524288 bytes) E.BEFORE) tally
-        × Appends (W.contents output.old) (W.contents output.new) (tally_text tally entries.now parts.now))) }
+        × Appends (W.contents output.old) (W.contents output.new) (tally_text tally entries.now (option_map (λ word. word.now) parts.entry)))) }
 {
     // Room for the longest list.
     let mut room = [0; 524288];
     let list = text::read_into(input, &mut room)?;
-    let found = E::of(&list[data_start(list)..]);
+    let start = data_start(list).unwrap_or(list.len());
+    let found = E::of(&list[start..]);
     let report = Report {
         tally: go_through(&found, list),
         entries,

@@ -33,7 +33,7 @@ module _ (groups squares out : List ℕ) where
 
   -- none is written yet
   pub pairs_none : out ≡ pairs_by groups squares 0 ++ drop (2 * 0) out
-  unfolding pairs_by upto range flat_map
+  unfolding pairs_by upto range
   pairs_none = refl
 
   -- the next cell's

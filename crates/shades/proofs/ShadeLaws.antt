@@ -77,12 +77,10 @@ shade_two g cells i = go (square cells i)
 -- lists of two, one after another
 module _ (F : ℕ → List ℕ) (two : (i : ℕ) → length (F i) ≡ 2) where
   pub twos_length : (l : List ℕ) → length (flat_map F l) ≡ 2 * length l
-  unfolding flat_map
   twos_length [] = refl
   twos_length (x ∷ l) = length-append (F x) (flat_map F l) ∙ omega (arith, two x, twos_length l)
 
   pub twos_at : (l : List ℕ) (k : ℕ) → k < length l → take 2 (drop (2 * k) (flat_map F l)) ≡ F (get_or l k 0)
-  unfolding flat_map
   twos_at [] k h = absurd (omega arith)
   twos_at (x ∷ l) zero h = take_at (F x) (flat_map F l) 2 (two x)
   twos_at (x ∷ l) (suc k) h =

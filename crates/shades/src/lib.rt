@@ -9,13 +9,11 @@ ghost use Rattle.shades.specs.Inside.{pairs_by};
 
 use board::Board;
 use grid::Grid;
-use groups::{Groups, Members};
+use groups::{Groups, Members, NO_GROUP};
 use refusal::Refusal;
 
-// The number that stands for no group.
-const NO_GROUP: u16 = 1024;
-
-// Writes the two numbers of each cell below n, from the name of its block and the counts of squares by name.
+// Writes the two numbers of each cell below n, from the name of its block and the counts of squares by name. By index: of pairs that are written through
+// `chunks_exact_mut` a proof does not know what they hold.
 #[tactic(auto, using(crate::proofs::PairLaws::pairs_next, crate::proofs::PairLaws::pairs_none))]
 fn write_pairs(groups: &[u16; 1024], squares: &[u16; 1024], n: usize, shades: &mut [u16; 2048])
     requires { n ≤ 1024 }
@@ -49,11 +47,7 @@ pub fn shades(board: Board) -> Result<[u16; 2048], Refusal>
     if !board.is_formed() {
         return Err(Refusal::Board);
     }
-    let grid = Grid {
-        height: board.problem.height,
-        width: board.problem.width,
-    };
     let mut shades = [0; 2048];
-    shade_cells(grid, &board.cells, &mut shades);
+    shade_cells(board.problem.grid(), &board.cells, &mut shades);
     Ok(shades)
 }

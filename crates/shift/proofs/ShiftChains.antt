@@ -1,9 +1,8 @@
 -- The shift test over the chains of a block and of the floating groups near it.
 -- Assumes nothing.
-use Prim.Native.Nat.{ℕ, ◌*◌, ◌/◌, ◌%◌, ◌<◌}
-use native.Mathlib.Omega.{arith}
+use Prim.Native.Nat.{ℕ, ◌*◌, ◌/◌, ◌%◌}
 use mathlib.Core.Path.{◌≡◌, refl, sym, subst, ◌∙◌}
-use mathlib.Core.Bool.{Bool, true, false, ◌||◌}
+use mathlib.Core.Bool.{Bool, ◌||◌}
 use mathlib.Core.List.{List}
 use lib.ListN.{get_or, take}
 use Rattle.grid.specs.Lists.{any}
@@ -18,44 +17,31 @@ use Rattle.reach.specs.Inside.{reaches_at}
 use Rattle.reach.specs.Near.{NearFloats}
 use Rattle.reach.proofs.NearReach.{reached_is, reach-any}
 use Rattle.shift.specs.Fits.{shift_fits}
-use Rattle.shift.specs.Shift.{block_in, Gathered, BlockPlaces, fits_at}
-use Rattle.shift.proofs.Passed.{none_taken, some_taken}
+use Rattle.shift.specs.Shift.{block_in, BlockPlaces, fits_at}
 use Rattle.kinds.proofs.BlockArrays.{block_by}
-use Rattle.shift.proofs.Shifts.{gathered_places, fits_test, reach_inside, reach-Tells}
+use Rattle.shift.proofs.Shifts.{fits_test, reach_inside, reach-Tells}
 
 module _ (h w : ℕ) (limits : Limits h w) (lines : List (List ℕ)) (cells : List ℕ) {kinds owners near groups : List ℕ} {total : ℕ} (e f : ℕ)
     (held : Held (view (puzzle_with (sized h w) lines) cells) kinds owners) (floats : NearFloats (view (puzzle_with (sized h w) lines) cells) e near groups total)
-    (arrow : get_or kinds e 0 ≡ 1) {rows columns : List ℕ} {count : ℕ} (places : BlockPlaces w (block (view (puzzle_with (sized h w) lines) cells) f) rows columns count) where
+    (arrow : get_or kinds e 0 ≡ 1) {rows columns : List ℕ} (places : BlockPlaces w (block (view (puzzle_with (sized h w) lines) cells) f) rows columns) where
   abbrev v : View
   v = view (puzzle_with (sized h w) lines) cells
 
   -- the shift to t lies in the reach
   abbrev test : ℕ → Bool
-  test = fits_at h w rows columns count (reaches_at kinds owners near e) (f / w) (f % w)
+  test = fits_at h w rows columns (reaches_at kinds owners near e) (f / w) (f % w)
 
   test_is : (t : ℕ) → test t ≡ fits v.grid (block v f) (reach v e) f t
   unfolding view view_with row col size
-  test_is t = fits_test v.grid (block v f) (reach v e) f rows columns count (reaches_at kinds owners near e) places (reach_inside v e) (λ d l. reached_is h w limits lines cells kinds owners held e near groups total floats d l ∙ reach-Tells v e d l) t
+  test_is t = fits_test v.grid (block v f) (reach v e) f (reaches_at kinds owners near e) places (reach_inside v e) (λ d l. reached_is h w limits lines cells kinds owners held e near groups total floats d l ∙ reach-Tells v e d l) t
 
-  chains_are : (any test (cells_from owners (h * w) e 0) || any (λ m. any test (cells_from owners (h * w) m 0)) (take total groups)) ≡ shift_fits v f e
+  -- some shift to a cell of the block's chain fits, or to one of a floating group's
+  pub chains_are : (any test (cells_from owners (h * w) e 0) || any (λ m. any test (cells_from owners (h * w) m 0)) (take total groups)) ≡ shift_fits v f e
   chains_are = sym (reach-any h w limits lines cells kinds owners held e near groups total floats arrow test) ∙ any_agree test (fits v.grid (block v f) (reach v e) f) (reach v e) (λ t _. test_is t)
 
-  -- some shift to a cell of the block's chain fits
-  pub fits_own : any test (cells_from owners (h * w) e 0) ≡ true → shift_fits v f e ≡ true
-  fits_own t = sym chains_are ∙ rw t refl
-
-  module _ (none : any test (cells_from owners (h * w) e 0) ≡ false) where
-    -- some shift to a cell of a floating group's chain fits
-    pub fits_float : (k : ℕ) → k < total → any test (cells_from owners (h * w) (get_or groups k 0) 0) ≡ true → shift_fits v f e ≡ true
-    fits_float k l t = sym chains_are ∙ rw (none, some_taken (λ m. any test (cells_from owners (h * w) m 0)) groups total k l (omega (arith, floats.long, floats.few)) t) refl
-
-    -- no shift fits
-    pub fits_none : ((k : ℕ) → k < total → any test (cells_from owners (h * w) (get_or groups k 0) 0) ≡ false) → shift_fits v f e ≡ false
-    fits_none t = sym chains_are ∙ rw (none, none_taken (λ m. any test (cells_from owners (h * w) m 0)) groups total t) refl
-
 -- the gathered cells of a block are those of the board
-pub Gathered-view : (h w : ℕ) (lines : List (List ℕ)) (cells : List ℕ) {kinds owners : List ℕ} → Held (view (puzzle_with (sized h w) lines) cells) kinds owners
-    → (f : ℕ) {r c r' c' : List ℕ} {k : ℕ} → Gathered w (block_in kinds owners (h * w) f) r c r' c' k → BlockPlaces w (block (view (puzzle_with (sized h w) lines) cells) f) r' c' k
+pub gathered_view : (h w : ℕ) (lines : List (List ℕ)) (cells : List ℕ) {kinds owners : List ℕ} → Held (view (puzzle_with (sized h w) lines) cells) kinds owners
+    → (f : ℕ) {rows columns : List ℕ} → BlockPlaces w (block_in kinds owners (h * w) f) rows columns → BlockPlaces w (block (view (puzzle_with (sized h w) lines) cells) f) rows columns
 unfolding block_in size view view_with
-Gathered-view h w lines cells {kinds} {owners} held f {r' = r'} {c' = c'} {k = k} s =
-    subst (λ (b : List ℕ). BlockPlaces w b r' c' k) (block_by (view (puzzle_with (sized h w) lines) cells) f kinds owners (h * w) held refl) (gathered_places s)
+gathered_view h w lines cells {kinds} {owners} held f {rows} {columns} s =
+    subst (λ (b : List ℕ). BlockPlaces w b rows columns) (block_by (view (puzzle_with (sized h w) lines) cells) f kinds owners (h * w) held refl) s

@@ -1,6 +1,6 @@
 -- The shift test of reason 3 on arrays: a block's cells by their rows and columns, a reach by a test of a cell.
 -- Assumes nothing.
-use Rattle.std.specs.Prelude.{ℕ, ◌/◌, ◌%◌, ◌≤◌, ◌<◌, ◌≡◌, Bool, false, List, ◌++◌, map, ℤ, pos, ◌-ℤ◌, length, get_or, take, drop, Option, Some, None}
+use Rattle.std.specs.Prelude.{ℕ, ◌/◌, ◌%◌, ◌<◌, ◌≡◌, Bool, false, List, map, zip, ℤ, pos, ◌-ℤ◌, length, get_or, Option, Some, None}
 use Rattle.grid.specs.Lists.{upto, all, filter}
 use Rattle.kinds.specs.declared.BoardInfo.{BoardInfo}
 use Rattle.kinds.specs.Board.{cell_count}
@@ -15,23 +15,16 @@ block_in kinds owners n f = filter (of_block kinds owners f) (upto n)
 abbrev pub block_on : BoardInfo → ℕ → List ℕ
 block_on info = block_in info.kinds.now info.owners.now (cell_count info)
 
--- the rows and the columns of the cells b stand in the first places of two arrays, and nothing behind them changed
-pub record Gathered (w : ℕ) (b rows columns rows' columns' : List ℕ) (count : ℕ) : Type 0 where
-  pub many : count ≡ length b
-  pub rows_are : rows' ≡ map (λ i. i / w) b ++ drop count rows
-  pub columns_are : columns' ≡ map (λ i. i % w) b ++ drop count columns
+-- the rows and the columns of the cells b
+pub record BlockPlaces (w : ℕ) (b rows columns : List ℕ) : Type 0 where
+  pub rows_are : rows ≡ map (λ i. i / w) b
+  pub columns_are : columns ≡ map (λ i. i % w) b
 
--- the rows and the columns of the cells b stand in the first places of two arrays
-pub record BlockPlaces (w : ℕ) (b rows columns : List ℕ) (count : ℕ) : Type 0 where
-  pub many : count ≡ length b
-  pub rows_are : take count rows ≡ map (λ i. i / w) b
-  pub columns_are : take count columns ≡ map (λ i. i % w) b
-
--- the first `count` places of the arrays are rows and columns of a grid
-pub record Places (h w : ℕ) (rows columns : List ℕ) (count : ℕ) : Type 0 where
-  pub few : count ≤ 1024
-  pub row : (k : ℕ) → k < count → get_or rows k 0 < h
-  pub column : (k : ℕ) → k < count → get_or columns k 0 < w
+-- there are as many columns as rows, and each row and the column beside it are those of a cell of a grid
+pub record Places (h w : ℕ) (rows columns : List ℕ) : Type 0 where
+  pub both : length columns ≡ length rows
+  pub row : (k : ℕ) → k < length rows → get_or rows k 0 < h
+  pub column : (k : ℕ) → k < length rows → get_or columns k 0 < w
 
 -- a move leads to a cell that passes the test
 unfoldable pub lands_in : (ℕ → Bool) → Option ℕ → Bool
@@ -39,10 +32,9 @@ lands_in test (Some d) = test d
 lands_in test None = false
 
 -- every cell, moved by a signed row and column offset, comes to a cell that passes
-unfoldable pub all_land : ℕ → ℕ → List ℕ → List ℕ → ℕ → (ℕ → Bool) → ℤ → ℤ → Bool
-all_land h w rows columns count test dy dx =
-    all (λ k. lands_in test (shifted_of h w (get_or rows k 0) (get_or columns k 0) dy dx)) (upto count)
+unfoldable pub all_land : ℕ → ℕ → List ℕ → List ℕ → (ℕ → Bool) → ℤ → ℤ → Bool
+all_land h w rows columns test dy dx = all (λ (place : ℕ × ℕ). lands_in test (shifted_of h w place.0 place.1 dy dx)) (zip rows columns)
 
 -- the shift that takes the cell at row fy, column fx to the cell t takes every cell to one that passes
-unfoldable pub fits_at : ℕ → ℕ → List ℕ → List ℕ → ℕ → (ℕ → Bool) → ℕ → ℕ → ℕ → Bool
-fits_at h w rows columns count test fy fx t = all_land h w rows columns count test (pos (t / w) -ℤ pos fy) (pos (t % w) -ℤ pos fx)
+unfoldable pub fits_at : ℕ → ℕ → List ℕ → List ℕ → (ℕ → Bool) → ℕ → ℕ → ℕ → Bool
+fits_at h w rows columns test fy fx t = all_land h w rows columns test (pos (t / w) -ℤ pos fy) (pos (t % w) -ℤ pos fx)

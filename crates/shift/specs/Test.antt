@@ -27,11 +27,11 @@ in_reach s = reaches_at (board s).kinds.now (board s).owners.now s.near.now s.e
 
 -- the offset takes every cell of the block into the reach
 abbrev pub fits_by : ShiftTest → ℤ → ℤ → Bool
-fits_by s = shift.all_land (board s).grid.height (board s).grid.width s.block.rows.now s.block.columns.now s.block.count (in_reach s)
+fits_by s = shift.all_land (board s).grid.height (board s).grid.width s.block.rows.now s.block.columns.now (in_reach s)
 
 -- the shift that takes the block's first cell to the cell t takes every cell into the reach
 abbrev pub fits_at : ShiftTest → ℕ → Bool
-fits_at s = shift.fits_at (board s).grid.height (board s).grid.width s.block.rows.now s.block.columns.now s.block.count (in_reach s) s.row s.column
+fits_at s = shift.fits_at (board s).grid.height (board s).grid.width s.block.rows.now s.block.columns.now (in_reach s) s.row s.column
 
 -- the cells of the group named m
 abbrev pub group : ShiftTest → ℕ → List ℕ

@@ -39,7 +39,7 @@ module _ (lows highs : List ℕ) where
       subst (λ z. a ≤ z) u.2 (subst (λ (z : Range). a ≤ z.cell) (sym (at-mem w.0 u.0 w.2).0) (range-mem a k w.1).0)
 
   rises : (k a : ℕ) → Rising (sized_cells (flat_map at (range a k)))
-  unfolding flat_map range kept_at
+  unfolding range kept_at
   rises zero a = nil
   rises (suc k) a = go (eqb (get_or lows a 0) 0) (rises k (suc a))
     where

@@ -51,7 +51,7 @@ module _ (v : View) (lows highs : List ℕ) where
   filled r = square v.cells r.cell
 
   at_cell : (i : ℕ) → first_found_of (reason5_at v) (filter filled (kept_at low high i)) ≡ reason5_in v lows highs i
-  unfolding kept_at first_found_of filter reason5_in
+  unfolding kept_at first_found_of reason5_in
   at_cell i = go (eqb (low i) 0)
     where
       two : (b : Bool) → first_found_of (reason5_at v) (cond b (range_in lows highs i ∷ []) []) ≡ cond b (reason5_at v (range_in lows highs i)) none
@@ -63,7 +63,7 @@ module _ (v : View) (lows highs : List ℕ) where
       go false = two (square v.cells i)
 
   through : (l : List ℕ) → first_found_of (reason5_at v) (filter filled (flat_map (kept_at low high) l)) ≡ first_found_of (reason5_in v lows highs) l
-  unfolding flat_map first_found_of filter
+  unfolding first_found_of
   through [] = refl
   through (i ∷ l) =
       ap (first_found_of (reason5_at v)) (filter-append filled (kept_at low high i) (flat_map (kept_at low high) l))

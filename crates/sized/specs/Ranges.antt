@@ -7,7 +7,7 @@ use Rattle.kinds.specs.Kinds.{View}
 use Rattle.literals.specs.Literals.{Found}
 use Rattle.growth.specs.declared.Scene.{Scene}
 use Rattle.sized.specs.Inside.{reason5_in, Board, SizedBoard}
-use Rattle.sized.specs.declared.SizeRanges.{SizeRanges}
+use Rattle.sizes.specs.declared.SizeRanges.{SizeRanges}
 
 module _ (ranges : SizeRanges) where
   -- the sized cells with their sizes

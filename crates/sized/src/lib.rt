@@ -7,16 +7,11 @@ ghost use Rattle.growth.specs.Pairs.{HasRoom};
 ghost use Rattle.growth.specs.Scenes.{scene_board};
 ghost use Rattle.sized.specs.Sized.{reason5};
 ghost use Rattle.sized.specs.Inside.{Measured};
+ghost use Rattle.sized.specs.Ranges.{ranges_of, reason5_on, SizesWith, SizesOf};
 
 use growth::Scene;
 use reach::near::Floats;
-
-// The sizes of a board's cells: the lowest and the highest of each, 0 for none.
-#[derive(Clone, Copy)]
-pub struct SizeRanges<'a> {
-    pub lowest: &'a [u16],
-    pub highest: &'a [u16],
-}
+use sizes::SizeRanges;
 
 // A block against the sizes of its cell: it may come to lie within them, its reach is too small, or it is too large.
 #[derive(Clone, Copy, Debug, PartialEq, Eq)]
@@ -27,6 +22,7 @@ enum Measure {
 }
 
 // The size of a block's reach against the lowest size, and otherwise its own against the highest.
+#[tactic(auto, using(crate::specs::Inside::too_high, crate::specs::Inside::too_low, crate::specs::Inside::within))]
 fn measured(low: usize, high: usize, reach: usize, size: usize) -> Measure
     ensures { Measured low high reach size result }
 {
@@ -39,62 +35,60 @@ fn measured(low: usize, high: usize, reach: usize, size: usize) -> Measure
     Measure::Within
 }
 
-impl SizeRanges<'_> {
-    ghost use Rattle.sized.specs.Ranges.{ranges_of, reason5_on, SizesWith, SizesOf};
+// Reason 5 for cell i: none where it has no sizes or is not square.
+fn check_size(
+    sizes: &SizeRanges<'_>,
+    scene: &Scene<'_>,
+    i: usize,
+    floats: &mut Floats<'_>,
+    buffer: &mut [u16],
+) -> Option<usize>
+    requires board { SizesOf sizes.now scene.now }
+    requires cell { i < length sizes.now.lowest.now }
+    requires room { HasRoom scene.now.linked.info buffer.old }
+    ensures { (lines : List (List ℕ)) → SizesWith sizes.now scene.now lines
+        → FoundAs (reason5_on sizes.now (scene_board scene.now lines) i) buffer.old buffer.new result }
+{
+    let info = &scene.linked.info;
+    let low = usize::from(sizes.lowest[i]);
+    if low == 0 {
+        return None;
+    }
+    if info.cells[i] != grid::SQUARE {
+        return None;
+    }
+    let high = usize::from(sizes.highest[i]);
+    let block = info.owners[i];
+    let reach = scene.count_reach(block, floats);
+    let size = scene.block_size(block);
+    match measured(low, high, reach, size) {
+        Measure::Low => Some(growth::reason_for_cell(info, i, block, buffer)),
+        Measure::High => {
+            let n = info.grid.size();
+            Some(growth::reason_for_arrow_block(info.kinds, info.owners, n, block, buffer))
+        }
+        Measure::Within => None,
+    }
+}
 
-    // Reason 5 for cell i: none where it has no sizes or is not square.
-    fn check_size(
-        &self,
-        scene: &Scene<'_>,
-        i: usize,
-        floats: &mut Floats<'_>,
-        buffer: &mut [u16],
-    ) -> Option<usize>
-        requires board { SizesOf self.now scene.now }
-        requires cell { i < length self.now.lowest.now }
-        requires room { HasRoom scene.now.linked.info buffer.old }
-        ensures { (lines : List (List ℕ)) → SizesWith self.now scene.now lines
-            → FoundAs (reason5_on self.now (scene_board scene.now lines) i) buffer.old buffer.new result }
-    {
-        let info = &scene.linked.info;
-        let low = self.lowest[i] as usize;
-        if low == 0 {
-            return None;
-        }
-        if info.cells[i] != grid::SQUARE {
-            return None;
-        }
-        let high = self.highest[i] as usize;
-        let block = info.owners[i];
-        let reach = scene.count_reach(block, floats);
-        let size = scene.block_size(block);
-        match measured(low, high, reach, size) {
-            Measure::Low => Some(growth::reason_for_cell(info, i, block, buffer)),
-            Measure::High => {
-                let n = info.grid.size();
-                Some(growth::reason_for_arrow_block(info.kinds, info.owners, n, block, buffer))
-            }
-            Measure::Within => None,
+// Reason 5 for the cells by index. A board without sizes lends none, and pays for none.
+pub fn check_sizes(
+    sizes: &SizeRanges<'_>,
+    scene: &Scene<'_>,
+    floats: &mut Floats<'_>,
+    buffer: &mut [u16],
+) -> Option<usize>
+    requires board { SizesOf sizes.now scene.now }
+    requires room { HasRoom scene.now.linked.info buffer.old }
+    ensures { (lines : List (List ℕ)) → SizesWith sizes.now scene.now lines
+        → FoundAs (reason5 (scene_board scene.now lines) (ranges_of sizes.now)) buffer.old buffer.new result }
+{
+    // Over a range: its numbers are the cells, which the reason names, and `lowest` and `highest` are read at them as the states and the owners are. No `find_map`: as in
+    // `pairs::search_arrows`, its closure would be lent what is worked in.
+    for i in 0..sizes.lowest.len() {
+        if let Some(literals) = check_size(sizes, scene, i, floats, buffer) {
+            return Some(literals);
         }
     }
-
-    // Reason 5 for the cells by index. A board without sizes lends none, and pays for none.
-    pub fn check_sizes(
-        &self,
-        scene: &Scene<'_>,
-        floats: &mut Floats<'_>,
-        buffer: &mut [u16],
-    ) -> Option<usize>
-        requires board { SizesOf self.now scene.now }
-        requires room { HasRoom scene.now.linked.info buffer.old }
-        ensures { (lines : List (List ℕ)) → SizesWith self.now scene.now lines
-            → FoundAs (reason5 (scene_board scene.now lines) (ranges_of self.now)) buffer.old buffer.new result }
-    {
-        for i in 0..self.lowest.len() {
-            if let Some(literals) = self.check_size(scene, i, floats, buffer) {
-                return Some(literals);
-            }
-        }
-        None
-    }
+    None
 }

@@ -6,6 +6,7 @@ use mathlib.Core.Path.{◌≡◌, sym, ap, ◌∙◌}
 use mathlib.Core.Bool.{false}
 use mathlib.Core.List.{List}
 use lib.ListN.{length, get_or, take}
+use Rattle.std.specs.List.{All}
 use Rattle.grid.specs.Lists.{last, member}
 use Rattle.grid.specs.Marks.{Marks}
 use Rattle.grid.proofs.ListLaws.{So-false, member-mem, at_mem}
@@ -19,8 +20,7 @@ use Rattle.record.specs.Problem.{arrow_cells, problem_of}
 use Rattle.record.proofs.RecordLaws.{Valid-size}
 use Rattle.record.proofs.LinesLaws.{Lines-of}
 use Rattle.form.proofs.ProblemForm.{few_cells, ends_taken, last_end, line_taken, line_below, valid_Formed}
-use Rattle.groups.specs.Arrays.{Line}
-use Rattle.groups.proofs.MarkLaws.{on_arrow_lem}
+use Rattle.groups.proofs.MarkLaws.{on_arrow_lem, line_cells}
 use Rattle.sizes.specs.Inside.{Drawn, MarkedAll}
 
 -- the arrays of a valid puzzle's problem
@@ -50,21 +50,24 @@ module _ (p : Puzzle) {arrows ends : List ℕ} {count : ℕ} (d : Drawn p arrows
     unfolding problem_of
     line_is = rw (t, d.line, d.cuts, d.number) (line_taken p d.valid)
 
-    pub drawn_Line : Line arrows total
+    pub drawn_fits : total ≤ 1024
+    drawn_fits = omega (arith, total_is, few_cells p d.valid)
+
+    -- each of them can be marked
+    pub drawn_cells : All (λ i. i < 1024) (take total arrows)
     unfolding problem_of
-    drawn_Line = record {
-      long = ap length d.line ∙ (valid_Formed p d.valid).arrows_long;
-      within = omega (arith, total_is, few_cells p d.valid);
-      cells = λ k h.
-          let l : k < length (arrow_cells p.arrows) = omega (arith, total_is) in
-          omega (
-            arith,
-            ap (λ (a : List ℕ). get_or a k 0) d.line,
-            array_in 0 (arrow_cells p.arrows) 0 k l,
-            line_below p d.valid (get_or (arrow_cells p.arrows) k 0) (at_mem (arrow_cells p.arrows) k l),
-            Valid-size d.valid,
-          );
-    }
+    drawn_cells = line_cells arrows total low
+      where
+        low : (k : ℕ) → k < total → get_or arrows k 0 < 1024
+        low k h =
+            let l : k < length (arrow_cells p.arrows) = omega (arith, total_is) in
+            omega (
+              arith,
+              ap (λ (a : List ℕ). get_or a k 0) d.line,
+              array_in 0 (arrow_cells p.arrows) 0 k l,
+              line_below p d.valid (get_or (arrow_cells p.arrows) k 0) (at_mem (arrow_cells p.arrows) k l),
+              Valid-size d.valid,
+            )
 
     -- the marks of that line
     pub drawn_Marks : {M : List ℕ} → Marks M (λ i. member i (take total arrows)) → MarkedAll M (on_arrow p.arrows)

@@ -12,9 +12,10 @@ use lib.Dec.{eqb, leb}
 use lib.ListN.{length, get_or}
 use lib.Seq.{ext_get_or}
 use borrow.Author.Tests.{eqb-true, eqb-false, eq-eqb, ne_eqb, leb-true, le-leb}
+use Rattle.std.proofs.lemmas.Bool.{and_from}
 use Rattle.grid.specs.Lists.{all, upto}
 use Rattle.grid.specs.Grid.{size}
-use Rattle.grid.proofs.ListLaws.{and-true, true-and, all-mem, mem-all, at_mem, mem_at, mem-upto, upto-mem, flat_map-mem, mem-flat_map}
+use Rattle.grid.proofs.ListLaws.{and-true, all-mem, mem-all, at_mem, mem_at, mem-upto, upto-mem, flat_map-mem, mem-flat_map}
 use Rattle.grid.proofs.AppendLaws.{same_test}
 use Rattle.record.specs.Record.{Puzzle}
 use Rattle.record.specs.Valid.{ValidArrows}
@@ -48,7 +49,7 @@ module _ (arrows : List (List ℕ)) (lows highs : List ℕ) where
   is_cell : (i : ℕ) → Sized i → sized_cell (on_arrow arrows) lows highs i ≡ true
   unfolding sized_cell
   is_cell i (inl (z, y)) = rw (eq-eqb (get_or lows i 0) 0 z) (eq-eqb (get_or highs i 0) 0 y)
-  is_cell i (inr w) = rw (ne_eqb (get_or lows i 0) 0 (λ z. omega (arith, w.least))) (true-and (le-leb (get_or lows i 0) (get_or highs i 0) w.order) (So-arrow arrows i w.on))
+  is_cell i (inr w) = rw (ne_eqb (get_or lows i 0) 0 (λ z. omega (arith, w.least))) (and_from _ _ (le-leb (get_or lows i 0) (get_or highs i 0) w.order) (So-arrow arrows i w.on))
 
   -- the parts of the test of all cells
   pub sizes_is : sizes_formed (on_arrow arrows) lows highs ≡ true → SizeArrays arrows lows highs
@@ -65,7 +66,7 @@ module _ (arrows : List (List ℕ)) (lows highs : List ℕ) where
   pub is_sizes : SizeArrays arrows lows highs → sizes_formed (on_arrow arrows) lows highs ≡ true
   unfolding sizes_formed long
   is_sizes s =
-      true-and (true-and (eq-eqb (length lows) 1024 s.lowest_long) (eq-eqb (length highs) 1024 s.highest_long))
+      and_from _ _ (and_from _ _ (eq-eqb (length lows) 1024 s.lowest_long) (eq-eqb (length highs) 1024 s.highest_long))
       (mem-all (sized_cell (on_arrow arrows) lows highs) (upto 1024) (λ i m. is_cell i (s.each i (upto-mem 1024 m))))
 
 -- ---- the code's way

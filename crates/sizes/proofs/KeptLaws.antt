@@ -91,7 +91,7 @@ high = size_at (λ (r : Range). r.highest)
 -- the ranges from a to a + k
 kept_from : (k a : ℕ) (rs : List Range) → Rising (sized_cells rs) → ((r : Range) → Memᴰ r rs → (1 ≤ r.lowest) × (a ≤ r.cell) × (r.cell < a + k))
     → flat_map (kept_at (low rs) (high rs)) (range a k) ≡ rs
-unfolding flat_map range size_at kept_at
+unfolding range size_at kept_at
 kept_from zero a [] up h = refl
 kept_from zero a (r ∷ rs) up h = absurd (let w = h r (Memᴰ.head refl) in omega (arith, w.1, w.2))
 kept_from (suc k) a [] up h =

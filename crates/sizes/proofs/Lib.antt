@@ -3,3 +3,4 @@ pub mod FormLaws
 pub mod DrawnLaws
 pub mod ReadLaws
 pub mod NumbersLaws
+pub mod Zipped

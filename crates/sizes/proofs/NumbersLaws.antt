@@ -5,6 +5,7 @@ use native.Mathlib.Omega.{arith}
 use mathlib.Core.Path.{◌≡◌, refl, ◌∙◌}
 use mathlib.Core.List.{List, [], ◌∷◌}
 use lib.ListN.{length, get_or}
+use Rattle.std.specs.Int.{w16, from_be_bytes}
 use Rattle.record.specs.Record.{Outcome, ok, refused, ◌>>=◌}
 use Rattle.sizes.specs.Bytes.{numbers_in}
 use Rattle.sizes.specs.Inside.{HasNumber, number_at}
@@ -50,3 +51,10 @@ number_bytes (x ∷ y ∷ l) (suc k) h =
     there : get_or l (2 * k) 0 * 256 + get_or l (2 * k + 1) 0 ≡ number_at (numbers_in l) k → (i j : ℕ) → i ≡ suc (suc (2 * k)) → j ≡ suc (suc (2 * k + 1))
         → get_or (x ∷ y ∷ l) i 0 * 256 + get_or (x ∷ y ∷ l) j 0 ≡ number_at (numbers_in l >>= λ ns. ok ((x * 256 + y) ∷ ns)) (suc k)
     there e i j p q = rw (p, q) (e ∙ same (numbers_in l) h)
+
+-- it is read from them, which both are there
+pub number_inside : (l : List ℕ) (k : ℕ) → HasNumber (numbers_in l) k → 2 * k + 1 < length l
+number_inside l k h = (number_bytes l k h).0
+
+pub number_read : (l : List ℕ) (k : ℕ) → HasNumber (numbers_in l) k → from_be_bytes w16 (get_or l (2 * k) 0 ∷ get_or l (2 * k + 1) 0 ∷ []) ≡ number_at (numbers_in l) k
+number_read l k h = (number_bytes l k h).1

@@ -24,7 +24,6 @@ use Rattle.sizes.specs.Form.{sized_cell}
 use Rattle.record.specs.Arrows.{on_arrow}
 use Rattle.record.specs.Leaf.{Range, range_at, range_test, ranges_from, sizes_of}
 use Rattle.sizes.specs.Kept.{lowest_of, highest_of}
-use Rattle.sizes.specs.Bytes.{numbers_in, sizes_in}
 use Rattle.sizes.specs.Inside.{MarkedAll, ranges_said, sizes_said}
 use Rattle.sizes.proofs.KeptLaws.{array_put}
 
@@ -81,6 +80,9 @@ module _ (marks : List ℕ) (from cell least most : ℕ) where
       go : Dec (cell < length marks) → get_or marks cell 0 ≡ 1 → cell < length marks
       go (yes h) e = h
       go (no h) e = absurd (omega (arith, e, get_or_past marks cell 0 (omega (arith, h))))
+
+-- for the test of one range, a law for each way out
+pub ruleset range_tests = (test_off, test_unmarked, test_below, test_zero, test_down, test_passed)
 
 -- ---- the ranges so far
 
@@ -219,18 +221,13 @@ unfolding ranges_said sizes_said sizes_of ◌>>=◌
 sizes_marked p m (refused k) = refl
 sizes_marked {marks} p m (ok ns) = ranges_same (marked marks) (on_arrow p.arrows) (marked_on m) 0 ns
 
--- the sizes in bytes
-pub sizes_bytes : (p : Puzzle) (bytes : List ℕ) → sizes_said p (numbers_in bytes) ≡ sizes_in p bytes
-unfolding sizes_said sizes_in
-sizes_bytes p bytes = refl
-
+-- the sizes in numbers
 pub sizes_words : (p : Puzzle) (ns : List ℕ) → sizes_said p (ok ns) ≡ sizes_of p ns
 unfolding sizes_said ◌>>=◌
 sizes_words p ns = refl
 
 -- tests that agree on every cell
 all_same : (t u : ℕ → Bool) → ((i : ℕ) → t i ≡ u i) → (l : List ℕ) → all t l ≡ all u l
-unfolding all
 all_same t u e [] = refl
 all_same t u e (i ∷ l) = rw (e i, all_same t u e l) refl
 

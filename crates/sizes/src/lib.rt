@@ -66,20 +66,27 @@ impl TryFrom<u8> for Edition {
     }
 }
 
-// A leaf as it is lent to what searches it: its problem, its edition, and the lowest and the highest size of each cell, 0 for none. A leaf without sizes
-// lends empty slices.
+// The lowest and the highest size of each of the first cells, 0 at one that has none: two slices, since they are lent by a board, whose arrays come apart for C.
+#[derive(Clone, Copy)]
+pub struct SizeRanges<'a> {
+    pub lowest: &'a [u16],
+    pub highest: &'a [u16],
+}
+
+// A leaf as it is lent to what searches it: its problem, its edition and its sizes. A leaf without sizes lends empty slices. That the problem is formed is no fact
+// of it: the search for a reason asks for less, and who needs it says so in a clause.
 #[derive(Clone, Copy)]
 pub struct LentLeaf<'a> {
     pub problem: &'a Problem,
+    // A number and no `Edition`: the search for a reason takes every number but 0, and plays all but 1 as 2, so that the enum would ask more of callers.
     pub edition: u8,
-    pub lowest: &'a [u16],
-    pub highest: &'a [u16],
+    pub sizes: SizeRanges<'a>,
     pub ghost tall: { problem.now.height ≤ 32 },
     pub ghost wide: { problem.now.width ≤ 32 },
     pub ghost arrows: { ArrowArrays (problem.now.height * problem.now.width) problem.now.arrows problem.now.ends problem.now.count
         (last 0 (take problem.now.count problem.now.ends)) },
     pub ghost played: { edition ≡ 0 → ⊥ },
-    pub ghost sized: { SizesOn (problem.now.height * problem.now.width) (lines_of problem.now.arrows problem.now.ends problem.now.count) lowest.now highest.now },
+    pub ghost sized: { SizesOn (problem.now.height * problem.now.width) (lines_of problem.now.arrows problem.now.ends problem.now.count) sizes.lowest.now sizes.highest.now },
 }
 
 impl LentLeaf<'_> {
@@ -87,10 +94,7 @@ impl LentLeaf<'_> {
     pub fn grid(&self) -> Grid
         ensures { (result.height ≡ self.now.problem.now.height) × (result.width ≡ self.now.problem.now.width) }
     {
-        Grid {
-            height: self.problem.height,
-            width: self.problem.width,
-        }
+        self.problem.grid()
     }
 }
 
@@ -137,20 +141,21 @@ impl Numbers for Bytes<'_> {
         Ok(self.0.len() / 2)
     }
 
+    #[tactic(auto, using(crate::proofs::NumbersLaws::number_inside, crate::proofs::NumbersLaws::number_read))]
     fn number(&self, k: usize) -> u16 {
-        u16::from(self.0[2 * k]) * 256 + u16::from(self.0[2 * k + 1])
+        u16::from_be_bytes([self.0[2 * k], self.0[2 * k + 1]])
     }
 }
 
 // A range to be put beside a cell.
 #[derive(Clone, Copy)]
-struct SizeRange {
+struct CellRange {
     cell: usize,
     least: u16,
     most: u16,
 }
 
-// The lowest and the highest size of each cell, 0 at one that has none.
+// The lowest and the highest size of each cell, 0 at one that has none, as the two arrays of a board have them for C.
 #[derive(Clone, Copy, Debug, PartialEq, Eq)]
 pub struct CellSizes {
     pub lowest: [u16; 1024],
@@ -179,8 +184,7 @@ impl CellSizes {
         if numbers.count()? == 0 {
             return Ok(CellSizes::none());
         }
-        let mut marks = [0; 1024];
-        groups::mark_arrow_cells(&problem.arrows, problem.arrow_total(), &mut marks);
+        let marks = groups::mark_arrow_cells(&problem.arrows[..problem.arrow_total()]);
         CellSizes::read_ranges(numbers, &marks)
     }
 
@@ -191,8 +195,9 @@ impl CellSizes {
         let count = numbers.count()?;
         let mut sizes = CellSizes::none();
         let mut from = 0;
+        // By index: `Numbers` tells its numbers one by one, and has no slice of which `chunks` could be taken.
         for k in 0..count / 3 {
-            let range = SizeRange {
+            let range = CellRange {
                 cell: usize::from(numbers.number(3 * k)),
                 least: numbers.number(3 * k + 1),
                 most: numbers.number(3 * k + 2),
@@ -207,17 +212,17 @@ impl CellSizes {
     }
 
     // Puts one range beside its cell, if it may stand: it sits on an arrow, its cell is `from` or more, it does not start at 0 and is not upside down.
-    #[tactic(auto, using(crate::proofs::ReadLaws::test_off, crate::proofs::ReadLaws::test_unmarked, crate::proofs::ReadLaws::test_below, crate::proofs::ReadLaws::test_zero, crate::proofs::ReadLaws::test_down, crate::proofs::ReadLaws::test_passed))]
+    #[tactic(auto, using(crate::proofs::ReadLaws::range_tests))]
     fn take_range(
         &mut self,
         marks: &[u8; 1024],
         from: usize,
-        range: SizeRange,
+        range: CellRange,
     ) -> Result<(), Refusal>
         ensures { Agrees (unless (range_test (marked marks.now) from (range_at range.cell range.least range.most)) 22)
             (λ _ _. (self.new.lowest ≡ set self.old.lowest range.cell range.least) × (self.new.highest ≡ set self.old.highest range.cell range.most)) result }
     {
-        let SizeRange { cell, least, most } = range;
+        let CellRange { cell, least, most } = range;
         if 1024 <= cell {
             return Err(Refusal::Sizes);
         }
@@ -255,7 +260,7 @@ fn sized(mark: u8, low: u16, high: u16) -> bool
 }
 
 // Whether the arrays keep sizes that may stand on a puzzle. Where no cell has a lowest size, as on a leaf without sizes, its arrows are not asked for.
-// They come apart, since the fields of a board are so for C, and are passed over to the end, which is done many places at a time.
+// They come apart, as the fields of a board do for C. By `fold`, as `form::filled`.
 pub fn may_stand(problem: &Problem, lowest: &[u16; 1024], highest: &[u16; 1024]) -> bool
     requires drawn { (p : Puzzle) × Drawn p problem.now.arrows problem.now.ends problem.now.count }
     ensures { (p : Puzzle) → Drawn p problem.now.arrows problem.now.ends problem.now.count
@@ -264,13 +269,12 @@ pub fn may_stand(problem: &Problem, lowest: &[u16; 1024], highest: &[u16; 1024])
     if form::zeros(lowest, 0) {
         return form::zeros(highest, 0);
     }
-    let mut marks = [0; 1024];
-    groups::mark_arrow_cells(&problem.arrows, problem.arrow_total(), &mut marks);
-    let mut good = true;
-    for i in 0..1024 {
-        if !sized(marks[i], lowest[i], highest[i]) {
-            good = false;
-        }
-    }
-    good
+    let marks = groups::mark_arrow_cells(&problem.arrows[..problem.arrow_total()]);
+    marks
+        .iter()
+        .zip(lowest)
+        .zip(highest)
+        .fold(true, |good, ((&mark, &low), &high)| {
+            good & sized(mark, low, high)
+        })
 }

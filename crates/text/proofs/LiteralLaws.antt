@@ -55,7 +55,7 @@ lines_of literals = S.flat_map line_of literals
 
 -- those of all in a list of bytes
 pub all_lines : (n : ℕ) (found : List ℕ) → length found / 2 ≡ n → lines_of (first_chunks 2 n found) ≡ flat_map literal_line (literals_in found)
-unfolding literals_in flat_map
+unfolding literals_in
 all_lines zero [] h = refl
 all_lines zero (a ∷ []) h = refl
 all_lines zero (a ∷ b ∷ found) h = absurd (omega arith)

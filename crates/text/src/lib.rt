@@ -114,6 +114,7 @@ impl Text<'_> {
     }
 
     // Writes the line of the literal in two bytes, most significant first: its index, then its value.
+    // By numbers, and no `literals::Literal`: the index of one may have five digits, and here four at most are printed.
     fn push_literal(&mut self, bytes: &[u8; 2])
         requires { self.old.len + 7 ≤ length self.old.out.now }
         ensures written { Pushed self.old self.new (literal_line (literal_in (get_or bytes.now 0 0) (get_or bytes.now 1 0))) }
@@ -160,6 +161,7 @@ impl Text<'_> {
 }
 
 // What the number says that the host call returned: how many literals it found, or the number of a refusal.
+// By arms, and not by `map_err`: what is told of a refusal rests on the number's being negative, which is known in the arm and not in a closure.
 pub fn read_code(code: i32) -> Result<usize, usize>
     ensures { result ≡ told_by code }
 {

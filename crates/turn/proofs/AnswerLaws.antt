@@ -1,6 +1,6 @@
 -- Steps in turn, and the answers of `turn`.
 -- Assumes nothing.
-use Prim.Native.Nat.{ℕ, zero, suc, ◌+◌, ◌≤◌, ◌<◌}
+use Prim.Native.Nat.{ℕ, ◌+◌, ◌≤◌, ◌<◌}
 use native.Mathlib.Omega.{arith}
 use native.Mathlib.Numerals.{add-one}
 use mathlib.Core.Path.{◌≡◌, refl, sym, ap, subst, ◌∙◌}
@@ -13,11 +13,10 @@ use Rattle.grid.proofs.ListLaws.{So-false, mem_at}
 use Rattle.fields.specs.Fields.{ok, refused, ◌>>=◌, unless}
 use Rattle.record.specs.Record.{Puzzle, read_record, Bytes}
 use Rattle.record.specs.Valid.{Valid}
-use Rattle.turn.specs.Turn.{stay, quarter, flip_if, carried, turned_by, turn_record}
+use Rattle.turn.specs.Turn.{stay, flip_if, carried, turned_by, turn_record}
 use Rattle.turn.specs.Inside.{step_of, spun}
 use Rattle.turn.specs.declared.Move.TheVariants.{Quarter, Flip}
-use Rattle.turn.proofs.TurnLaws.{quarter-Turns, flip_if-Turns}
-use Rattle.turn.proofs.PuzzleLaws.{Valid-by, carried_at, carried-length}
+use Rattle.turn.proofs.PuzzleLaws.{carried_at, carried-length}
 
 -- staying changes nothing
 lines_same : (as' : List (List ℕ)) → map (map (λ i. i)) as' ≡ as'
@@ -43,21 +42,13 @@ unfolding flip_if
 flip_left k p v h = rw (So-false (leb 4 k) (λ t. let z = leb-true 4 k t in omega arith)) (sym (stay_same p v))
 
 -- quarter turns one by one
-pub spun_Valid : (r : ℕ) (p : Puzzle) → Valid p → Valid (spun r p)
-unfolding spun
-spun_Valid zero p v = v
-spun_Valid (suc r) p v = Valid-by (spun r p) (spun_Valid r p v) (quarter (spun r p).grid) (quarter-Turns (spun r p).grid)
-
 pub spun_none : (p : Puzzle) → p ≡ spun 0 p
 unfolding spun
 spun_none p = refl
 
-pub spun_more : (r : ℕ) (p : Puzzle) → turned_by (step_of Quarter (spun r p).grid) (spun r p) ≡ spun (r + 1) p
+pub spun_more : (r : ℕ) (p q : Puzzle) → q ≡ spun r p → turned_by (step_of Quarter q.grid) q ≡ spun (r + 1) p
 unfolding spun
-spun_more r p = ap (λ (k : ℕ). spun k p) (sym (add-one r))
-
-pub flipped_Valid : (k : ℕ) (p : Puzzle) → Valid p → Valid (turned_by (flip_if (leb 4 k) p.grid) p)
-flipped_Valid k p v = Valid-by p v (flip_if (leb 4 k) p.grid) (flip_if-Turns (leb 4 k) p.grid)
+spun_more r p q e = rw e (ap (λ (k : ℕ). spun k p) (sym (add-one r)))
 
 -- the answers
 module _ (k n : ℕ) (s : List ℕ) where

@@ -4,6 +4,7 @@ use Prim.Native.Nat.{ℕ, ◌+◌, ◌*◌, ◌≤◌, ◌<◌}
 use native.Mathlib.Omega.{arith}
 use native.Mathlib.Nat.{mul_comm}
 use mathlib.Core.Path.{◌≡◌, refl, sym, ap, subst, ◌∙◌}
+use mathlib.Core.Bool.{true}
 use mathlib.Core.List.{List, [], ◌∷◌, ◌++◌, map, map-append}
 use lib.ListN.{length, get_or, set, take, replicate, length-map}
 use Rattle.std.proofs.lemmas.List.{take_more, length-take-le}
@@ -14,15 +15,18 @@ use Rattle.grid.proofs.ArrayLaws.{array_in, array_more, array_take}
 use Rattle.grid.proofs.FilledLaws.{filled_same}
 use Rattle.record.specs.Record.{Puzzle}
 use Rattle.record.specs.Valid.{Valid}
-use Rattle.record.specs.Problem.{arrow_cells, problem_of, total_of}
+use Rattle.record.specs.Problem.{arrow_cells, problem_of, puzzle_of, total_of}
 use Rattle.record.specs.declared.Problem.{Problem}
 use Rattle.record.proofs.RecordLaws.{Valid-size}
+use Rattle.form.specs.Form.{problem_formed}
+use Rattle.form.proofs.AcceptedLaws.{valid_formed, valid_kept}
 use Rattle.writer.proofs.ArrayLaws.{ends_map, cells_map, total_is}
 use Rattle.turn.specs.Turn.{Turn, carried, turned_by}
 use Rattle.turn.specs.Inside.{step_of}
 use Rattle.turn.specs.declared.Move.{Move}
 use Rattle.turn.specs.declared.Move.TheVariants.{Quarter, Flip}
 use Rattle.turn.proofs.TurnLaws.{Turns, flip-Turns, quarter-Turns, Sides-size}
+use Rattle.turn.proofs.PuzzleLaws.{Valid-by}
 
 -- each step is a turn
 step_Turns : (b : Move) (g : Grid) → Turns g (step_of b g)
@@ -71,6 +75,17 @@ module _ (p : Puzzle) (v : Valid p) (b : Move) where
       let to : ℕ → ℕ = (step_of b p.grid).to in
       rw (s.sides, s.codes, s.line, s.all ∙ total_is p v, codes_are, array_take 0 (arrow_cells p.arrows), ends_map to 0 p.arrows, cells_map to p.arrows, length-map p.arrows (map to)) refl
 
-  pub stepped : (q : Problem) → q ≡ problem_of p → {moved : Grid} {total : ℕ} {cells arrows : List ℕ} → Stepped b q moved total cells arrows → after_step q moved cells arrows ≡ problem_of (turned_by (step_of b p.grid) p)
+  stepped : (q : Problem) → q ≡ problem_of p → {moved : Grid} {total : ℕ} {cells arrows : List ℕ} → Stepped b q moved total cells arrows → after_step q moved cells arrows ≡ problem_of (turned_by (step_of b p.grid) p)
   stepped q e {moved} {total} {cells} {arrows} =
       subst (λ x. Stepped b x moved total cells arrows → after_step x moved cells arrows ≡ problem_of (turned_by (step_of b p.grid) p)) (sym e) stepped_of
+
+  turned_Valid : Valid (turned_by (step_of b p.grid) p)
+  turned_Valid = Valid-by p v (step_of b p.grid) (step_Turns b p.grid)
+
+  -- what a step makes of the arrays of p is accepted, and keeps the turned puzzle
+  module _ {q : Problem} (e : q ≡ problem_of p) {moved : Grid} {total : ℕ} {cells arrows : List ℕ} (s : Stepped b q moved total cells arrows) where
+    pub step_formed : problem_formed (after_step q moved cells arrows) ≡ true
+    step_formed = valid_formed (turned_by (step_of b p.grid) p) turned_Valid (stepped q e s)
+
+    pub step_kept : puzzle_of (after_step q moved cells arrows) ≡ turned_by (step_of b p.grid) p
+    step_kept = valid_kept (turned_by (step_of b p.grid) p) turned_Valid (stepped q e s)

@@ -4,13 +4,12 @@
 ghost use Rattle.std.specs.Prelude.{◌≡◌, map, ℕ, ◌+◌, ◌-◌, ◌*◌, ◌≤◌, ◌<◌, leb, length, get_or};
 ghost use Rattle.grid.specs.Lists.{array_of};
 ghost use Rattle.grid.specs.Side.{sized};
-ghost use Rattle.record.specs.Record.{Puzzle};
 ghost use Rattle.record.specs.Valid.{Valid};
-ghost use Rattle.record.specs.Problem.{problem_of};
 ghost use Rattle.exported.specs.Written.{written, output_with, Writes};
 ghost use Rattle.turn.specs.Turn.{turned_by, carried, flip_if, turned, turn_record};
 ghost use Rattle.turn.specs.Inside.{step_of, spun};
 
+use form::accepted::Accepted;
 use grid::Grid;
 use record::Problem;
 use refusal::Refusal;
@@ -65,8 +64,8 @@ impl Move {
         requires { i < grid.height * grid.width }
         ensures { (result ≡ (step_of self (sized grid.height grid.width)).to i) × (result < 1024) }
     {
-        let y = i / grid.width;
-        let x = i % grid.width;
+        let y = grid.row(i);
+        let x = grid.column(i);
         match self {
             Move::Quarter => cell_at(swapped(grid), x, mirrored(y, grid.height)),
             Move::Flip => cell_at(grid, y, mirrored(x, grid.width)),
@@ -81,14 +80,16 @@ impl Move {
     {
         match self {
             Move::Quarter => {
-                let y = mirrored(j % grid.height, grid.height);
-                cell_at(grid, y, j / grid.height)
+                let turned = swapped(grid);
+                let y = mirrored(turned.column(j), grid.height);
+                cell_at(grid, y, turned.row(j))
             }
-            Move::Flip => cell_at(grid, j / grid.width, mirrored(j % grid.width, grid.width)),
+            Move::Flip => cell_at(grid, grid.row(j), mirrored(grid.column(j), grid.width)),
         }
     }
 
-    // The codes of the cells, each at its new place.
+    // The codes of the cells, each at its new place. By index, as `line` below: of places that are written through `iter_mut().enumerate()` a proof does not
+    // know what they hold.
     #[tactic(auto, using(grid::proofs::FilledLaws::filled_more))]
     fn codes(self, grid: Grid, cells: &[u8; 1024]) -> [u8; 1024]
         ensures { result ≡ array_of 0 (carried (step_of self (sized grid.height grid.width)) cells.now) }
@@ -113,62 +114,58 @@ impl Move {
         moved
     }
 
-    // The problem, moved.
-    fn step(self, problem: &Problem) -> Problem
-        requires { (p : Puzzle) × Valid p × (problem.now ≡ problem_of p) }
-        ensures { (p : Puzzle) → Valid p → problem.now ≡ problem_of p → result ≡ problem_of (turned_by (step_of self p.grid) p) }
+    // The puzzle, moved.
+    fn step(self, puzzle: &Accepted) -> Accepted
+        ensures { result ≡ turned_by (step_of self puzzle.now.grid) puzzle.now }
     {
-        let grid = Grid {
-            height: problem.height,
-            width: problem.width,
-        };
+        let problem = &puzzle.problem;
+        let grid = problem.grid();
         let moved = self.to_grid(grid);
         let total = problem.arrow_total();
         let cells = self.codes(grid, &problem.cells);
         let arrows = self.line(grid, &problem.arrows[..total]);
-        Problem {
-            height: moved.height,
-            width: moved.width,
-            cells,
-            arrows,
-            ends: problem.ends,
-            count: problem.count,
+        Accepted {
+            problem: Problem {
+                height: moved.height,
+                width: moved.width,
+                cells,
+                arrows,
+                ends: problem.ends,
+                count: problem.count,
+            },
         }
     }
 }
 
-// The problem, flipped where k is 4 or more.
+// The puzzle, flipped where k is 4 or more.
 #[tactic(auto, using(crate::proofs::AnswerLaws::flip_taken, crate::proofs::AnswerLaws::flip_left))]
-fn flipped(problem: Problem, k: u32) -> Problem
-    requires { (p : Puzzle) × Valid p × (problem ≡ problem_of p) }
-    ensures { (p : Puzzle) → Valid p → problem ≡ problem_of p → result ≡ problem_of (turned_by (flip_if (leb 4 k) p.grid) p) }
+fn flipped(puzzle: Accepted, k: u32) -> Accepted
+    ensures { Valid puzzle → result ≡ turned_by (flip_if (leb 4 k) puzzle.grid) puzzle }
 {
     if 4 <= k {
-        return Move::Flip.step(&problem);
+        return Move::Flip.step(&puzzle);
     }
-    problem
+    puzzle
 }
 
-// The problem after some quarter turns.
-#[tactic(auto, using(crate::proofs::AnswerLaws::spun_none, crate::proofs::AnswerLaws::spun_more, crate::proofs::AnswerLaws::spun_Valid))]
-fn spin(problem: Problem, times: u32) -> Problem
-    requires { (p : Puzzle) × Valid p × (problem ≡ problem_of p) }
-    ensures { (p : Puzzle) → Valid p → problem ≡ problem_of p → result ≡ problem_of (spun times p) }
+// The puzzle after some quarter turns.
+#[tactic(auto, using(crate::proofs::AnswerLaws::spun_none, crate::proofs::AnswerLaws::spun_more))]
+fn spin(puzzle: Accepted, times: u32) -> Accepted
+    ensures { result ≡ spun times puzzle }
 {
-    let mut spun = problem;
+    let mut spun = puzzle;
     for _ in 0..times {
         spun = Move::Quarter.step(&spun);
     }
     spun
 }
 
-// The problem, turned by k.
-#[tactic(auto, using(crate::proofs::StepLaws::turned_steps, crate::proofs::AnswerLaws::flipped_Valid))]
-fn turn_problem(problem: Problem, k: u32) -> Problem
-    requires { (p : Puzzle) × Valid p × (problem ≡ problem_of p) }
-    ensures { (p : Puzzle) → Valid p → problem ≡ problem_of p → result ≡ problem_of (turned k p) }
+// The puzzle, turned by k.
+#[tactic(auto, using(crate::proofs::StepLaws::turned_steps))]
+fn turn_puzzle(puzzle: Accepted, k: u32) -> Accepted
+    ensures { Valid puzzle → result ≡ turned k puzzle }
 {
-    let first = flipped(problem, k);
+    let first = flipped(puzzle, k);
     spin(first, k % 4)
 }
 
@@ -176,15 +173,15 @@ fn turn_problem(problem: Problem, k: u32) -> Problem
 fn write_turned(record: &[u8], k: u32, output: &mut [u8]) -> Result<usize, Refusal>
     ensures { Writes (turn_record k (length output.old) «record».now) result output.old output.new }
 {
-    let problem = Problem::read(record)?;
+    let puzzle = Accepted::read(record)?;
     if 7 < k {
         return Err(Refusal::Turning);
     }
     if output.len() < record.len() {
         return Err(Refusal::RecordOutputShort);
     }
-    let turned = turn_problem(problem, k);
-    Ok(writer::write(turned, output))
+    let turned = turn_puzzle(puzzle, k);
+    Ok(writer::write(&turned, output))
 }
 
 // Turns a record by k, from 0 to 7, into a lent output: flipped left and right first if k is 4 or more, then k modulo 4 quarter turns

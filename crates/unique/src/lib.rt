@@ -6,12 +6,11 @@ ghost use Rattle.std.specs.Result.{ForOk};
 ghost use Rattle.refusal.specs.Refusals.{returned_of};
 ghost use Rattle.sizes.specs.LeafOf.{leaf_of};
 ghost use Rattle.reasons.specs.Lent.{HasRoom};
-ghost use Rattle.certificate.specs.Certificate.{words_of};
 ghost use Rattle.certificate.specs.Inside.{refusal_number};
 ghost use Rattle.unique.specs.Unique.{base_cell, base_of, refuted, step_of, steps_of, check_on, host_unique, unique_returned};
 
 use calls::Question;
-use certificate::Closing;
+use certificate::{Certificate, Closing};
 use record::{BLACK, GIVEN};
 use refusal::Refusal;
 use sizes::LentLeaf;
@@ -28,8 +27,7 @@ fn base_cell(code: u8) -> u8
     }
 }
 
-// The cells that the leaf decides. No zip: of the cells that it lends to be written a proof knows nothing afterwards.
-#[tactic(auto, using(grid::proofs::FilledLaws::filled_none, grid::proofs::FilledLaws::filled_more))]
+// The cells that the leaf decides. By index: of cells that are written through `iter_mut().zip(..)` a proof does not know what they hold.
 fn base_cells(leaf: &LentLeaf<'_>) -> [u8; 1024]
     ensures { result ≡ base_of (leaf_of leaf.now) }
 {
@@ -55,15 +53,15 @@ fn is_refuted(leaf: &LentLeaf<'_>, cells: &[u8; 1024], buffer: &mut [u16]) -> bo
 // Checks the step at a place: it closes, or it is refused.
 fn check_step(
     leaf: &LentLeaf<'_>,
-    certificate: &[u8],
+    certificate: &Certificate<'_>,
     at: usize,
     buffer: &mut [u16],
 ) -> Result<(), Refusal>
     requires { HasRoom leaf.now buffer.old }
-    ensures { refusal_number result ≡ step_of (leaf_of leaf.now) (words_of certificate.now) at }
+    ensures { refusal_number result ≡ step_of (leaf_of leaf.now) certificate.now at }
 {
     let mut cells = base_cells(leaf);
-    match certificate::take_step(certificate, at, leaf.grid().size(), &mut cells)? {
+    match certificate.take_step(at, leaf.grid().size(), &mut cells)? {
         Closing::Contradiction => Ok(()),
         Closing::Undecided => {
             if is_refuted(leaf, &cells, buffer) {
@@ -76,19 +74,19 @@ fn check_step(
 
 // Checks the steps from behind the claimed solution on: they come to the step of no literals, which ends the words, or one is refused. All of them find in
 // one buffer.
-fn check_steps(leaf: &LentLeaf<'_>, certificate: &[u8]) -> Result<(), Refusal>
-    ensures { refusal_number result ≡ steps_of (leaf_of leaf.now) (words_of certificate.now) }
+fn check_steps(leaf: &LentLeaf<'_>, certificate: &Certificate<'_>) -> Result<(), Refusal>
+    ensures { refusal_number result ≡ steps_of (leaf_of leaf.now) certificate.now }
 {
-    let count = certificate.len() / 3;
+    let count = certificate.len();
     let mut buffer = reasons::no_literals();
     let mut at = leaf.grid().size() + 2;
     // No index: where the next step stands, each step tells.
     while at < count {
         check_step(leaf, certificate, at, &mut buffer)?;
         // A step that closes is whole.
-        let next = certificate::step_end(certificate, at).unwrap();
+        let next = certificate.step_end(at).unwrap();
         // The step of no literals.
-        if certificate::word_at(certificate, at) == certificate::TAG {
+        if certificate.word(at) == certificate::TAG {
             if next == count {
                 return Ok(());
             }
@@ -110,19 +108,19 @@ impl Question for CheckCertificate<'_> {
         (returned_of answer ≡ unique_returned (check_on check.certificate.now l)) × (after ≡ before) };
 
     fn ask(&self, leaf: &LentLeaf<'_>, _output: &mut [u8]) -> Result<usize, Refusal> {
-        let certificate = self.certificate;
+        let certificate = Certificate::new(self.certificate);
         let n = leaf.grid().size();
-        if !certificate::is_whole_words(certificate) {
+        if !certificate::is_whole_words(self.certificate) {
             return Err(Refusal::CertificateLength);
         }
-        if !certificate::is_headed(certificate, n) {
+        if !certificate.is_headed(n) {
             return Err(Refusal::NoSolutionStep);
         }
-        let solution = certificate::claimed_cells(certificate, n);
+        let solution = certificate.claimed_cells(n);
         if !finished::is_finished(leaf, &solution) {
             return Err(Refusal::SolutionUnfinished);
         }
-        check_steps(leaf, certificate)?;
+        check_steps(leaf, &certificate)?;
         Ok(1)
     }
 }

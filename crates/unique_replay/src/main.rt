@@ -57,6 +57,7 @@ impl Entries for Certificates {
     }
 }
 
+// One line in each program that replays a list: `replay::replay` does the rest, and the entries and their words are the program's own.
 fn main(rt: HostRuntime) -> io::Result<()> {
-    replay::replay::<Certificates, _, _>(rt.reader(), &mut io::writer(&rt), " certificates, ", "")
+    replay::replay::<Certificates, _, _>(rt.reader(), &mut io::writer(&rt), " certificates, ", None)
 }

@@ -1,4 +1,4 @@
--- The literals of reason 1: the neighbours one after another, the last cell that passes, and what they are of a potential group.
+-- The literals of reason 1: the last cell that passes, and what they are of a potential group.
 -- Assumes nothing.
 use Prim.Native.Nat.{ℕ, ◌+◌, ◌≤◌, ◌<◌}
 use native.Mathlib.Omega.{arith}
@@ -6,32 +6,20 @@ use mathlib.Core.Path.{◌≡◌, refl, sym, ap, ◌∙◌}
 use mathlib.Core.Bool.{Bool, true, false, ◌&&◌}
 use mathlib.Core.List.{List, [], ◌∷◌, ◌++◌, append-nil, Memᴰ}
 use lib.Dec.{eqb}
-use lib.ListN.{length, get_or, set, take}
+use lib.ListN.{get_or, take}
 use lib.Seq.{get_or-take}
 use Rattle.grid.specs.Lists.{upto, any, filter, last, member}
 use Rattle.grid.specs.Grid.{Grid, size, cells_of, neighbours, touches}
 use Rattle.grid.proofs.ListLaws.{filter-mem, upto-mem}
 use Rattle.grid.proofs.GridLaws.{beside, on_grid}
-use Rattle.grid.proofs.AppendLaws.{any-append, last_more, any_agree, filter-upto, upto_more, filter_more, filter-filter, member-filter}
-use Rattle.grid.specs.Cells.{empty, potential, square, word}
+use Rattle.grid.proofs.AppendLaws.{last_more, any_agree, filter-upto, upto_more, filter_more, filter-filter, member-filter}
+use Rattle.grid.specs.Cells.{empty, potential, square}
 use Rattle.groups.specs.Groups.{labels, group}
 use Rattle.groups.specs.Arrays.{label_array}
 use Rattle.groups.proofs.LabelLaws.{label_test, label_group}
 use Rattle.literals.specs.Literals.{each}
 use Rattle.literals.specs.Inside.{Wrote}
 use Rattle.units.specs.Arrays.{boundary_of}
-use Rattle.literals.proofs.BufferLaws.{Wrote-more}
-
--- ---- no neighbour passes: one after another
-
-module _ (t : ℕ → Bool) where
-  pub none_yet : any t [] ≡ false
-  unfolding any
-  none_yet = refl
-
-  pub none_more : (l : List ℕ) (j : ℕ) → any t l ≡ false → t j ≡ false → any t (l ++ (j ∷ [])) ≡ false
-  unfolding any
-  none_more l j e f = any-append t l (j ∷ []) ∙ rw (e, f) refl
 
 -- ---- the last cell that passes: a loop from behind
 
@@ -76,9 +64,8 @@ module _ (g : Grid) (cells groups : List ℕ) (f : ℕ) (a : groups ≡ label_ar
       ∙ filter-upto _ _ (size g) (λ i l. rw (a, get_or-take (size g) cells i 0 l) refl))
 
   -- all of reason 1
-  pub boundary_are : {before after : List ℕ} {count x : ℕ} → Wrote (each 0 (filter (λ i. eqb (get_or cells i 0) 0 && any (λ j. eqb (get_or groups j 0) f) (neighbours g i)) (upto (size g)))) before after count
-      → count < length before → x ≡ last 0 (filter (λ i. eqb (get_or groups i 0) f && eqb (get_or cells i 0) 1) (upto (size g)))
-      → Wrote (boundary_of g (take (size g) cells) f) before (set after count (word (x, 1))) (count + 1)
+  pub boundary_are : {before after : List ℕ} {count x : ℕ}
+      → Wrote (each 0 (filter (λ i. eqb (get_or cells i 0) 0 && any (λ j. eqb (get_or groups j 0) f) (neighbours g i)) (upto (size g))) ++ ((x, 1) ∷ [])) before after count
+      → x ≡ last 0 (filter (λ i. eqb (get_or groups i 0) f && eqb (get_or cells i 0) 1) (upto (size g))) → Wrote (boundary_of g (take (size g) cells) f) before after count
   unfolding each
-  boundary_are {before} {after} {count} {x} w l e =
-      rw (e, squares_are) (Wrote-more (rw empties_are at w) (last 0 (filter (square (take (size g) cells)) (group g (potential (take (size g) cells)) (labels g (potential (take (size g) cells))) f)), 1) l)
+  boundary_are w e = rw (e, squares_are, empties_are) at w

@@ -1,3 +1,4 @@
 pub mod Names
 pub mod Boundary
 pub mod Checks
+pub mod Sides

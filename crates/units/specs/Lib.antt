@@ -1,3 +1,5 @@
 pub mod Units
 pub mod Chosen
 pub mod Arrays
+pub mod Lent
+pub mod Inside

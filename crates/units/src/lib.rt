@@ -1,19 +1,18 @@
 // Reason 1: a potential group with a square and no arrow cell.
 #![tactic(auto)]
 
-ghost use Rattle.std.specs.Prelude.{◌≡◌, ℕ, ◌+◌, ◌*◌, ◌<◌, ◌≤◌, length, get_or, take, List, ◌&&◌, eqb, find, All};
-ghost use Rattle.grid.specs.Lists.{any, filter, last, upto};
-ghost use Rattle.grid.specs.Grid.{neighbours};
-ghost use Rattle.grid.specs.Side.{sized};
-ghost use Rattle.grid.specs.Cells.{potential};
-ghost use Rattle.groups.specs.Arrays.{label_array, Names};
-ghost use Rattle.units.specs.Units.{reason1};
+ghost use Rattle.std.specs.Prelude.{◌≡◌, ℕ, ◌<◌, length, List, find, All};
+ghost use Rattle.std.specs.Option.{unwrap_or};
+ghost use Rattle.groups.specs.Arrays.{Names};
 ghost use Rattle.literals.specs.Inside.{Wrote, FoundAs};
-ghost use Rattle.units.specs.Arrays.{PotentialTable, stranded, boundary_of};
-ghost use Rattle.kinds.specs.Inside.{puzzle_with};
+ghost use Rattle.units.specs.Units.{reason1};
+ghost use Rattle.units.specs.Arrays.{stranded};
+ghost use Rattle.units.specs.Inside.{HasPotentials};
+ghost use Rattle.units.specs.Lent.{cells_in, puzzle_on, states_on, HasRoom};
 
 use grid::Grid;
 use groups::Groups;
+use literals::{Literal, Literals};
 
 // One of the potential groups of a board, by its name: its first cell.
 #[derive(Clone, Copy)]
@@ -25,75 +24,74 @@ struct PotentialGroup<'a> {
 }
 
 impl PotentialGroup<'_> {
-    // Whether cell i touches the group.
-    #[tactic(auto, using(grid::proofs::AroundLaws::side_cell, grid::proofs::SideLaws::cell_small))]
-    fn touches(&self, i: usize) -> bool
-        requires { i < self.now.grid.height * self.now.grid.width }
-        ensures { result ≡ any (λ j. eqb (get_or self.now.labels.now j 0) self.now.name) (neighbours (sized self.now.grid.height self.now.grid.width) i) }
+    ghost use Rattle.units.specs.Inside.{has_square, last_square, touched_toward, touched, on_boundary, boundary, HasLabels};
+
+    // Whether the neighbour of cell i in direction k, if there is one, is in the group.
+    #[tactic(auto, using(crate::proofs::Sides::toward_some, crate::proofs::Sides::toward_none))]
+    fn touches_toward(&self, i: usize, k: usize) -> bool
+        requires { (i < cells_in self.now.grid) × (k < 4) }
+        ensures { result ≡ touched_toward self.now i k }
     {
-        let y = i / self.grid.width;
-        let x = i % self.grid.width;
-        for k in 0..4 {
-            if let Some(j) = self.grid.toward(y, x, k)
-                && self.labels[j] == self.name
-            {
-                return true;
-            }
+        match self.grid.toward(i, k) {
+            Some(j) => self.labels[j] == self.name,
+            None => false,
         }
-        false
+    }
+
+    // Whether cell i touches the group.
+    fn touches(&self, i: usize) -> bool
+        requires { i < cells_in self.now.grid }
+        ensures { result ≡ touched self.now i }
+    {
+        (0..4).any(|k| self.touches_toward(i, k))
     }
 
     // Whether cell i is empty and touches the group.
     fn on_boundary(&self, i: usize) -> bool
-        requires { i < self.now.grid.height * self.now.grid.width }
-        ensures { result ≡ (eqb (get_or self.now.cells.now i 0) 0
-            && any (λ j. eqb (get_or self.now.labels.now j 0) self.now.name) (neighbours (sized self.now.grid.height self.now.grid.width) i)) }
+        requires { i < cells_in self.now.grid }
+        ensures { result ≡ on_boundary self.now i }
     {
-        if self.cells[i] != grid::EMPTY {
-            return false;
-        }
-        self.touches(i)
+        self.cells[i] == grid::EMPTY && self.touches(i)
     }
 
     // Whether cell i is a square of the group.
     fn has_square(&self, i: usize) -> bool
         requires { i < 1024 }
-        ensures { result ≡ (eqb (get_or self.now.labels.now i 0) self.now.name && eqb (get_or self.now.cells.now i 0) 1) }
+        ensures { result ≡ has_square self.now i }
     {
-        if self.labels[i] != self.name {
-            return false;
-        }
-        self.cells[i] == grid::SQUARE
+        self.labels[i] == self.name && self.cells[i] == grid::SQUARE
     }
 
-    // The last square of the group, 0 if there is none.
-    fn last_square(&self) -> usize
-        ensures { result ≡ last 0 (filter (λ i. eqb (get_or self.now.labels.now i 0) self.now.name && eqb (get_or self.now.cells.now i 0) 1)
-            (upto (self.now.grid.height * self.now.grid.width))) }
+    // The last square of the group, if there is one.
+    fn last_square(&self) -> Option<usize>
+        ensures { unwrap_or result 0 ≡ last_square self.now }
     {
-        for i in (0..self.grid.size()).rev() {
-            if self.has_square(i) {
-                return i;
-            }
-        }
-        0
+        (0..self.grid.size()).rev().find(|&i| self.has_square(i))
     }
 
     // The literals of reason 1: the empty cells that touch the group, and then its last square.
     fn reason_for_boundary(&self, buffer: &mut [u16]) -> usize
-        requires { self.now.grid.height * self.now.grid.width < length buffer.old }
-        ensures { self.now.labels.now ≡ label_array (sized self.now.grid.height self.now.grid.width)
-            (potential (take (self.now.grid.height * self.now.grid.width) self.now.cells.now))
-            → self.now.name < 1024
-            → Wrote (boundary_of (sized self.now.grid.height self.now.grid.width)
-            (take (self.now.grid.height * self.now.grid.width) self.now.cells.now) self.now.name) buffer.old buffer.new result }
+        requires { cells_in self.now.grid < length buffer.old }
+        ensures { HasLabels self.now → self.now.name < 1024 → Wrote (boundary self.now) buffer.old buffer.new result }
     {
-        let mut count = 0;
+        let mut boundary = Literals {
+            out: buffer,
+            count: 0,
+        };
         for i in 0..self.grid.size() {
-            count = literals::push(buffer, count, i, 0, self.on_boundary(i));
+            if self.on_boundary(i) {
+                boundary.push(Literal {
+                    index: i as u16,
+                    value: 0,
+                });
+            }
         }
-        buffer[count] = literals::literal(self.last_square(), 1);
-        count + 1
+        let last = self.last_square().unwrap_or(0);
+        boundary.push(Literal {
+            index: last as u16,
+            value: 1,
+        });
+        boundary.count
     }
 }
 
@@ -114,11 +112,9 @@ pub fn check_potential_groups(
     buffer: &mut [u16],
 ) -> Option<usize>
     requires names { Names groups.now.firsts groups.now.count }
-    requires room { 3 * (grid.height * grid.width) + 1 ≤ length buffer.old }
-    ensures { (lines : List (List ℕ))
-        → PotentialTable (puzzle_with (sized grid.height grid.width) lines) (take (grid.height * grid.width) cells.now)
-        groups.now.labels groups.now.firsts groups.now.squares groups.now.arrowed groups.now.count
-        → FoundAs (reason1 (puzzle_with (sized grid.height grid.width) lines) (take (grid.height * grid.width) cells.now)) buffer.old buffer.new result }
+    requires room { HasRoom grid buffer.old }
+    ensures { (lines : List (List ℕ)) → HasPotentials grid lines cells.now groups.now
+        → FoundAs (reason1 (puzzle_on grid lines) (states_on grid cells.now)) buffer.old buffer.new result }
 {
     let f = find_stranded(
         &groups.firsts[..groups.count],
@@ -131,6 +127,5 @@ pub fn check_potential_groups(
         labels: &groups.labels,
         name: f,
     };
-    let count = group.reason_for_boundary(buffer);
-    Some(count)
+    Some(group.reason_for_boundary(buffer))
 }

@@ -43,7 +43,7 @@ module _ {g : Grid} {m : Turn} (t : Turns g m) where
       rw (index_same d.0 i (b d (Memᴰ.head refl)) l, value_same ds (λ e k. b e (Memᴰ.tail k)) i l) refl
 
   decided_same : (ds : List Literal) → Low ds → (i : ℕ) → i < size g → decided (map (decision_to m) ds) (m.to i) ≡ decided ds i
-  unfolding decided any
+  unfolding decided
   decided_same [] b i l = refl
   decided_same (d ∷ ds) b i l =
       rw (index_same d.0 i (b d (Memᴰ.head refl)) l, decided_same ds (λ e k. b e (Memᴰ.tail k)) i l) refl

@@ -40,7 +40,6 @@ by_cell_same g sizes low r = (
 
 -- no ranges
 none_listed : (l : List ℕ) → flat_map (λ c. filter (beside c) []) l ≡ []
-unfolding flat_map filter
 none_listed [] = refl
 none_listed (c ∷ l) = none_listed l
 
@@ -56,7 +55,6 @@ data AtMostOne (c : ℕ) : List Range → Type 0 where
   single : (r : Range) → r.cell ≡ c → AtMostOne c (r ∷ [])
 
 none_beside : (c : ℕ) (sizes : List Range) → (¬ Memᴰ c (sized_cells sizes)) → filter (beside c) sizes ≡ []
-unfolding filter
 none_beside c [] n = refl
 none_beside c (r ∷ sizes) n = go (eqb r.cell c) refl (none_beside c sizes (λ m. n (Memᴰ.tail m)))
   where
@@ -65,7 +63,6 @@ none_beside c (r ∷ sizes) n = go (eqb r.cell c) refl (none_beside c sizes (λ 
     go false e ih = ih
 
 one_beside : (c : ℕ) (sizes : List Range) → Distinct (sized_cells sizes) → AtMostOne c (filter (beside c) sizes)
-unfolding filter
 one_beside c [] d = nothing
 one_beside c (r ∷ sizes) (n, d) = go (eqb r.cell c) refl (one_beside c sizes d)
   where
@@ -77,7 +74,7 @@ one_beside c (r ∷ sizes) (n, d) = go (eqb r.cell c) refl (one_beside c sizes d
 
 -- the ranges beside the cells from a on
 from_Rising : (sizes : List Range) → Distinct (sized_cells sizes) → (a k : ℕ) → Rising (sized_cells (flat_map (λ c. filter (beside c) sizes) (range a k)))
-unfolding range flat_map
+unfolding range
 from_Rising sizes d a zero = nil
 from_Rising sizes d a (suc k) = go (filter (beside a) sizes) (one_beside a sizes d) (from_Rising sizes d (suc a) k)
   where

@@ -100,7 +100,7 @@ module _ (k : ℕ) (l : Leaf) (v : ValidLeaf l) where
 
 -- no sizes are turned to none
 pub no_sizes_turned : (k e : ℕ) (p : Puzzle) → turned_numbers k (in_edition e p) ≡ []
-unfolding numbers_of flat_map
+unfolding numbers_of
 no_sizes_turned k e p = ap numbers_of (by_cell_none (turning k p.grid).grid)
 
 pub whichever_way_up : WhicheverWayUp

@@ -50,12 +50,10 @@ put_more x (suc k) {s} {t} {u} n a b =
 
 -- one piece more
 pub Appends-more : {A : Type 0} (f : A → List ℕ) (l : List A) (x : A) {j k : ℕ} {s t u : BitWriter} → Appends j (flat_map f l) s t → Appends k (f x) t u → Appends (j + k) (flat_map f (l ++ (x ∷ []))) s u
-unfolding flat_map
 Appends-more f l x a b = Appends-is refl (sym (flat_map-append f l (x ∷ []) ∙ ap (λ m. flat_map f l ++ m) (append-nil (f x)))) (Appends-then a b)
 
 -- none of the codes, and one more
 pub cells_none : (codes : List ℕ) (s : BitWriter) → Appends 0 (flat_map (λ c. bits_of c 2) (take 0 codes)) s s
-unfolding flat_map
 cells_none codes s = Appends-none s
 
 pub cells_more : (codes : List ℕ) (i : ℕ) {s t u : BitWriter} → i < length codes → Appends (2 * i) (flat_map (λ c. bits_of c 2) (take i codes)) s t → Appends 2 (bits_of (get_or codes i 0) 2) t u
@@ -105,7 +103,7 @@ start_of ends zero = refl
 start_of ends (suc k) = refl
 
 pub arrows_none : (g : Grid) (line ends : List ℕ) (s : BitWriter) → Appends 0 (flat_map (arrow_bits g) (arrows_from line 0 (take 0 ends))) s s
-unfolding flat_map arrows_from
+unfolding arrows_from
 arrows_none g line ends s = Appends-none s
 
 pub arrows_more : (g : Grid) (line ends : List ℕ) (k from to : ℕ) {j m : ℕ} {s t u : BitWriter} → k < length ends → from ≡ start_at ends k → to ≡ get_or ends k 0

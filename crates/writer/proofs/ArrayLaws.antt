@@ -28,7 +28,7 @@ ends_map f at [] = refl
 ends_map f at (a ∷ as') = rw (length-map a f, ends_map f (at + length a) as')
 
 pub cells_map : (f : ℕ → ℕ) (as' : List (List ℕ)) → arrow_cells (map (map f) as') ≡ map f (arrow_cells as')
-unfolding arrow_cells flat_map
+unfolding arrow_cells
 cells_map f [] = refl
 cells_map f (a ∷ as') = rw (cells_map f as') (sym (map-append f a (arrow_cells as')))
 

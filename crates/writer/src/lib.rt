@@ -4,24 +4,14 @@
 ghost use Rattle.std.specs.Prelude.{◌≡◌, [], ◌∷◌, ◌+◌, ◌-◌, ◌*◌, ◌^◌, ◌≤◌, ◌<◌, length, get_or, drop};
 ghost use Rattle.grid.specs.Lists.{flat_map};
 ghost use Rattle.grid.specs.Side.{sized};
-ghost use Rattle.record.specs.Record.{Puzzle};
-ghost use Rattle.record.specs.Valid.{Valid};
-ghost use Rattle.record.specs.Problem.{problem_of, puzzle_of, total_of, grid_of};
+ghost use Rattle.record.specs.Problem.{puzzle_of, total_of, grid_of};
 ghost use Rattle.record.specs.Write.{write_record, bits_of, direction as direction_of, step_bits, arrow_bits, record_bits};
 ghost use Rattle.record.specs.Lines.{Lines};
 ghost use Rattle.writer.specs.Wrote.{put_byte, Appends, Room, IsArrow, arrows_size, fields_size, Ready, Recorded};
 
+use form::accepted::Accepted;
 use grid::Grid;
 use record::Problem;
-
-// The codes of a step's directions.
-const UP: usize = 0;
-
-const DOWN: usize = 1;
-
-const LEFT: usize = 2;
-
-const RIGHT: usize = 3;
 
 // What bit r of a byte counts, the first being bit 0.
 fn weight(r: usize) -> usize
@@ -49,18 +39,19 @@ fn direction(grid: Grid, i: usize, j: usize) -> usize
     ensures { result ≡ direction_of (sized grid.height grid.width) i j }
 {
     if j + grid.width == i {
-        return UP;
+        return grid::UP;
     }
     if j == i + grid.width {
-        return DOWN;
+        return grid::DOWN;
     }
     if j + 1 == i && i % grid.width != 0 {
-        return LEFT;
+        return grid::LEFT;
     }
-    RIGHT
+    grid::RIGHT
 }
 
-// A record that is being written: `at` bits so far, with zeros behind them in their last byte.
+// A record that is being written: `at` bits so far, with zeros behind them in their last byte. Apart from `text::Text`, which puts whole bytes behind
+// one another: here each bit changes a byte that stands there already.
 #[derive(Drop)]
 struct BitWriter<'a> {
     out: &'a mut [u8],
@@ -131,15 +122,9 @@ impl BitWriter<'_> {
         requires { Lines problem.now.height problem.now.width problem.now.arrows problem.now.ends problem.now.count × Room self.old (arrows_size problem.now) }
         ensures { Appends (arrows_size problem.now) (flat_map (arrow_bits (grid_of problem.now)) (puzzle_of problem.now).arrows) self.old self.new }
     {
-        let grid = Grid {
-            height: problem.height,
-            width: problem.width,
-        };
-        let mut from = 0;
-        for &end in &problem.ends[..problem.count] {
-            let to = usize::from(end);
-            self.write_arrow(grid, &problem.arrows[from..to]);
-            from = to;
+        let grid = problem.grid();
+        for k in 0..problem.count {
+            self.write_arrow(grid, problem.arrow(k));
         }
     }
 
@@ -148,21 +133,20 @@ impl BitWriter<'_> {
         requires { Ready problem.now self.old }
         ensures { Appends (fields_size problem.now) (record_bits (puzzle_of problem.now)) self.old self.new }
     {
-        let cells = &problem.cells[..problem.height * problem.width];
         self.put(problem.height - 1, 5);
         self.put(problem.width - 1, 5);
         self.put(problem.count, 11);
-        self.write_cells(cells);
+        self.write_cells(&problem.cells[..problem.size()]);
         self.write_arrows(problem);
     }
 }
 
 // Writes the record of a puzzle to the front of a slice that has room for it, and returns its length.
-pub fn write(problem: Problem, out: &mut [u8]) -> usize
-    requires { (p : Puzzle) × Valid p × (problem ≡ problem_of p) × (length (write_record p) ≤ length out.old) }
-    ensures { (p : Puzzle) → Valid p → problem ≡ problem_of p → Recorded p out.old out.new result }
+pub fn write(puzzle: &Accepted, out: &mut [u8]) -> usize
+    requires { length (write_record puzzle.now) ≤ length out.old }
+    ensures { Recorded puzzle.now out.old out.new result }
 {
     let mut writer = BitWriter { out, at: 0 };
-    writer.write_fields(&problem);
+    writer.write_fields(&puzzle.problem);
     writer.at.div_ceil(8)
 }

@@ -19,13 +19,12 @@ returns-in_err-sizes-clause-told g c =
     told_fault (g.Q.Question.told c.args.question.now) c.args.output.now c.from_residual.result c.in_err-sizes.field-0.0 c.from_residual.ensures.1
     (sizes_refused (edition_number c.args.edition) c.args.sizes.now p (c.in_err-sizes.ensures p (formed_Drawn c.args.problem.now c.requires.formed)))
 
-pub invariant_of-leaf : goal.invariant_of-leaf
+pub ask_on-requires-clause-sized : goal.ask_on-requires-clause-sized
 unfolding sizes_in sizes_said
-invariant_of-leaf g c =
+ask_on-requires-clause-sized g c =
     let q = c.args.problem.now in
     let f = c.requires.formed in
-    let k : SizesKept q f c.args.sizes.now c.in_ok-sizes.sizes.lowest c.in_ok-sizes.sizes.highest = sizes_kept q f c.args.sizes.now c.in_ok-sizes.sizes.lowest c.in_ok-sizes.sizes.highest (c.in_ok-sizes.ensures (puzzle_of q) (formed_Drawn q f)) in
-    record { tall = (formed_small q f).0; wide = (formed_small q f).1; arrows = formed_arrays q f; played = λ z. edition_not_0 c.args.edition (sym c.number.ensures ∙ z); sized = kept_on q f k }
+    kept_on q f (sizes_kept q f c.args.sizes.now c.in_ok-sizes.sizes.lowest c.in_ok-sizes.sizes.highest (c.in_ok-sizes.ensures (puzzle_of q) (formed_Drawn q f)))
 
 pub returns-clause-told : goal.returns-clause-told
 unfolding sizes_in sizes_said
@@ -33,5 +32,5 @@ returns-clause-told g c =
     let q = c.args.problem.now in
     let f = c.requires.formed in
     let k : SizesKept q f c.args.sizes.now c.in_ok-sizes.sizes.lowest c.in_ok-sizes.sizes.highest = sizes_kept q f c.args.sizes.now c.in_ok-sizes.sizes.lowest c.in_ok-sizes.sizes.highest (c.in_ok-sizes.ensures (puzzle_of q) (formed_Drawn q f)) in
-    told_ok (g.Q.Question.told c.args.question.now) c.args.output.now c.ask.new.output c.ask.result (sizes_ok (edition_number c.args.edition) c.args.sizes.now (puzzle_of q) k.are)
-    (rw (kept_all q f k, c.number.ensures) at c.ask.ensures.told)
+    told_ok (g.Q.Question.told c.args.question.now) c.args.output.now c.ask_on.new.output c.ask_on.result (sizes_ok (edition_number c.args.edition) c.args.sizes.now (puzzle_of q) k.are)
+    (rw (kept_all q f k) at c.ask_on.ensures.told)

@@ -16,6 +16,8 @@ use Rattle.board.specs.Form.{well_formed}
 use Rattle.board.specs.Decide.{with_decisions, placed_from}
 use Rattle.board.specs.Inside.{fresh_of, Stands}
 use Rattle.board.specs.declared.Board.{Board}
+use Rattle.std.specs.Prelude.{Ok, Err}
+use Rattle.fields.proofs.OutcomeLaws.{agrees_fault}
 use Rattle.calls.proofs.Steps.{fresh_well, decides, first_leaf, fresh_first, plain, plain_Valid}
 use Rattle.calls.proofs.decide_in_order.Goals as goal
 
@@ -23,26 +25,29 @@ use Rattle.calls.proofs.decide_in_order.Goals as goal
 abbrev fresh : Puzzle → Board
 fresh p = fresh_of (problem_of p) 1 (lowest_of []) (highest_of [])
 
--- it is well formed
-well : (p : Puzzle) → Valid p → {cells : List ℕ} → cells ≡ replicate 1024 2 → well_formed (with_decisions (fresh p) cells (replicate 1024 0) 0) ≡ true
-well p v e = rw e (fresh_well (in_edition 1 p) (first_leaf p v) (fresh_first p v))
-
--- with the states that it is lent
-same : (p : Puzzle) {cells : List ℕ} → cells ≡ replicate 1024 2 → with_decisions (fresh p) cells (replicate 1024 0) 0 ≡ fresh p
-same p e = rw e refl
+-- a fresh board has a well formed one's arrays
+well : (p : Puzzle) → Valid p → well_formed (with_decisions (fresh p) (replicate 1024 2) (replicate 1024 0) 0) ≡ true
+well p v = fresh_well (in_edition 1 p) (first_leaf p v) (fresh_first p v)
 
 pub place_all-requires : goal.place_all-requires
 unfolding grid_of problem_of plain size
 place_all-requires c =
     let g = sized c.args.grid.height c.args.grid.width in
-    record { given = record { board = fresh (plain g); area = sym c.size.ensures.value; well = well (plain g) (plain_Valid g c.requires.some (c.args.grid.tall, c.args.grid.wide)) c.requires.fresh } }
+    record { given = record { board = fresh (plain g); area = sym c.size.ensures.value; well = well (plain g) (plain_Valid g c.requires (c.args.grid.tall, c.args.grid.wide)) } }
+
+pub returns-in_err-place_all : goal.returns-in_err-place_all
+unfolding grid_of problem_of plain size
+returns-in_err-place_all c =
+    let g = sized c.args.grid.height c.args.grid.width in
+    let p = plain g in
+    let v = plain_Valid g c.requires (c.args.grid.tall, c.args.grid.wide) in
+    agrees_fault _ c.from_residual.result c.in_err-place_all.field-0.0 c.from_residual.ensures.1
+    (decides (in_edition 1 p) (first_leaf p v) (fresh_first p v) c.args.decisions.now c.place_all.new.cells c.place_all.new.order c.place_all.new.decided (Err c.in_err-place_all.field-0.0) (c.in_err-place_all.ensures (fresh p) (sym c.size.ensures.value) (well p v)))
 
 pub returns : goal.returns
 unfolding grid_of problem_of plain size
 returns c =
     let g = sized c.args.grid.height c.args.grid.width in
     let p = plain g in
-    let v = plain_Valid g c.requires.some (c.args.grid.tall, c.args.grid.wide) in
-    let s = c.place_all.ensures (fresh p) (sym c.size.ensures.value) (well p v c.requires.fresh) in
-    decides (in_edition 1 p) (first_leaf p v) (fresh_first p v) c.args.decisions.now c.place_all.new.cells c.place_all.new.order c.place_all.new.decided c.place_all.result
-    (subst (λ (b : Board). Stands (fresh p) c.place_all.new.cells c.place_all.new.order c.place_all.new.decided (placed_from b c.args.decisions.now) c.place_all.result) (same p c.requires.fresh) s)
+    let v = plain_Valid g c.requires (c.args.grid.tall, c.args.grid.wide) in
+    decides (in_edition 1 p) (first_leaf p v) (fresh_first p v) c.args.decisions.now c.place_all.new.cells c.place_all.new.order c.place_all.new.decided (Ok tt) (c.in_ok-place_all.ensures (fresh p) (sym c.size.ensures.value) (well p v))

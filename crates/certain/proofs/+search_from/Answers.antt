@@ -36,9 +36,6 @@ module _ (leaf : LentLeaf) (formed : problem_formed leaf.problem.now ≡ true) (
     spot : (i < cells_of leaf) × (get_or states i 0 ≡ 2)
     spot = undecided_there (cells_of leaf) left (leaf_of leaf) states before long some size_is there
 
-    placed : i < 1024
-    placed = let q = leaf.problem.now in omega (arith, spot.0, few q (Formed-is q formed))
-
     less : (v : ℕ) → v ≤ 1 → how_many 2 (set states i v) < how_many 2 states
     less v low = omega (arith, fewer_set states i v spot.1 (λ e. omega (arith, e, low)) (omega (arith, low)))
 
@@ -47,31 +44,11 @@ returns-then-left-eq0 t c =
     let a = c.args in
     way_none (cells_of a.leaf.now) a.left (leaf_of a.leaf.now) a.cells.now a.facts.now c.told-facts c.if-left-eq0.true
 
-pub bounds-cells-i : goal.bounds-cells-i
-bounds-cells-i t c =
-    let a = c.args in
-    placed a.leaf.now c.requires.formed a.cells.now c.requires.states a.facts.now c.told-facts a.left (omega (arith, c.if-left-eq0.false)) c.in-Some.i c.in-Some.is c.step.ensures
-
-pub bounds-cells-i-in-None : goal.bounds-cells-i-in-None
-bounds-cells-i-in-None t c =
-    let a = c.args in
-    placed a.leaf.now c.requires.formed a.cells.now c.requires.states a.facts.now c.told-facts a.left (omega (arith, c.if-left-eq0.false)) c.in-Some.i c.in-Some.is c.step.ensures
-
-pub bounds-cells-i-in-Some-first : goal.bounds-cells-i-in-Some-first
-bounds-cells-i-in-Some-first t c =
-    let a = c.args in
-    placed a.leaf.now c.requires.formed a.cells.now c.requires.states a.facts.now c.told-facts a.left (omega (arith, c.if-left-eq0.false)) c.in-Some.i c.in-Some.is c.step.ensures
-
-pub bounds-cells-i-in-Some-first-2 : goal.bounds-cells-i-in-Some-first-2
-bounds-cells-i-in-Some-first-2 t c =
-    let a = c.args in
-    placed a.leaf.now c.requires.formed a.cells.now c.requires.states a.facts.now c.told-facts a.left (omega (arith, c.if-left-eq0.false)) c.in-Some.i c.in-Some.is c.step.ensures
-
 pub search_from-first-requires : goal.search_from-first-requires
 search_from-first-requires t c =
     let a = c.args in
     let some : 0 < a.left = omega (arith, c.if-left-eq0.false) in (
-      omega (arith, c.decreases, less a.leaf.now c.requires.formed a.cells.now c.requires.states a.facts.now c.told-facts a.left some c.in-Some.i c.in-Some.is c.step.ensures 1 (omega arith)),
+      omega (arith, c.decreases, less a.leaf.now c.requires.formed a.cells.now c.requires.states a.facts.now c.told-facts a.left some c.in-Some.i c.in-Some.is c.step.ensures.met 1 (omega arith)),
       (c.requires.formed, States-set c.in-Some.i 1 c.requires.states (omega arith)),
     )
 
@@ -81,7 +58,7 @@ search_from-second-requires t c =
     let i = c.in-Some.i in
     let some : 0 < a.left = omega (arith, c.if-left-eq0.false) in
     let e : set c.search_from-first.new.cells i 0 ≡ set a.cells.now i 0 = ap (λ (z : List ℕ). set z i 0) c.search_from-first.ensures.same ∙ set-set a.cells.now i 1 0 in
-    let fall : how_many 2 (set c.search_from-first.new.cells i 0) < how_many 2 a.cells.now = rw e (less a.leaf.now c.requires.formed a.cells.now c.requires.states a.facts.now c.told-facts a.left some i c.in-Some.is c.step.ensures 0 (omega arith)) in (
+    let fall : how_many 2 (set c.search_from-first.new.cells i 0) < how_many 2 a.cells.now = rw e (less a.leaf.now c.requires.formed a.cells.now c.requires.states a.facts.now c.told-facts a.left some i c.in-Some.is c.step.ensures.met 0 (omega arith)) in (
       omega (arith, c.decreases, fall),
       (c.requires.formed, rw e (States-set i 0 c.requires.states (omega arith))),
     )
@@ -90,14 +67,14 @@ pub returns-in_default : goal.returns-in_default
 returns-in_default t c =
     let a = c.args in
     let some : 0 < a.left = omega (arith, c.if-left-eq0.false) in
-    way_back (cells_of a.leaf.now) a.left (leaf_of a.leaf.now) a.cells.now a.facts.now c.told-facts some (size_is a.leaf.now c.requires.formed a.cells.now c.requires.states) c.in_default.ensures
+    way_back (cells_of a.leaf.now) a.left (leaf_of a.leaf.now) a.cells.now a.facts.now c.told-facts some (size_is a.leaf.now c.requires.formed a.cells.now c.requires.states) c.in_default.ensures.met
 
 pub returns-in-None : goal.returns-in-None
 returns-in-None t c =
     let a = c.args in
     let some : 0 < a.left = omega (arith, c.if-left-eq0.false) in
     way_exhausted (cells_of a.leaf.now) a.left (leaf_of a.leaf.now) a.cells.now a.facts.now c.told-facts some (size_is a.leaf.now c.requires.formed a.cells.now c.requires.states)
-    (there a.leaf.now c.requires.formed a.cells.now c.requires.states a.facts.now c.told-facts a.left some c.in-Some.i c.in-Some.is c.step.ensures)
+    (there a.leaf.now c.requires.formed a.cells.now c.requires.states a.facts.now c.told-facts a.left some c.in-Some.i c.in-Some.is c.step.ensures.met)
     (omega arith) (ap left_number c.in-None.is) c.search_from-first.ensures
 
 pub returns-in-Some-first : goal.returns-in-Some-first
@@ -105,5 +82,5 @@ returns-in-Some-first t c =
     let a = c.args in
     let some : 0 < a.left = omega (arith, c.if-left-eq0.false) in
     way_both (cells_of a.leaf.now) a.left (leaf_of a.leaf.now) a.cells.now a.facts.now c.told-facts some (size_is a.leaf.now c.requires.formed a.cells.now c.requires.states)
-    (there a.leaf.now c.requires.formed a.cells.now c.requires.states a.facts.now c.told-facts a.left some c.in-Some.i c.in-Some.is c.step.ensures)
+    (there a.leaf.now c.requires.formed a.cells.now c.requires.states a.facts.now c.told-facts a.left some c.in-Some.i c.in-Some.is c.step.ensures.met)
     (rw c.in-Some-first.is at c.search_from-first.ensures) c.search_from-second.ensures

@@ -16,16 +16,13 @@ use Rattle.certain.proofs.certain_cells.Goals.{then-facts-eq-UNKNOWN, else-facts
 -- the sizes that the leaf lends may stand
 good : (leaf : LentLeaf) → GoodSizes (puzzle_of leaf.problem.now) (leaf_of leaf).sizes
 unfolding puzzle_of
-good leaf = let q = leaf.problem.now in kept_good (puzzle_of q) (q.height * q.width) leaf.lowest.now leaf.highest.now leaf.sized
+good leaf = let q = leaf.problem.now in kept_good (puzzle_of q) (q.height * q.width) leaf.sizes.lowest.now leaf.sizes.highest.now leaf.sized
 
 pub returns-in-None-clause-facts : goal.returns-in-None-clause-facts
 returns-in-None-clause-facts c =
     let leaf = c.args.leaf.now in
     let q = leaf.problem.now in
     answer_spent q (Formed-is q c.requires.formed) leaf.edition (good leaf) c.requires.states c.args.budget c.search_from.ensures (ap left_number c.in-None.is) refl
-
-pub returns-in-None-clause-cells : goal.returns-in-None-clause-cells
-returns-in-None-clause-cells c = c.search_from.ensures.same
 
 pub overflow_sub-result : goal.overflow_sub-result
 overflow_sub-result c =

@@ -16,4 +16,4 @@ abbrev pub Untouched : List ℕ → List ℕ → Type 0
 Untouched marks l = any (λ j. eqb (get_or marks j 0) 1) l ≡ false
 
 abbrev pub invariant-loop-k : goal.invariant-loop-k
-invariant-loop-k l = Untouched l.marks (gathered (sized l.grid.height l.grid.width) l.i l.k)
+invariant-loop-k l = Untouched l.marks (gathered (sized l.info.grid.height l.info.grid.width) l.i l.k)

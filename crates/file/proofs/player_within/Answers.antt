@@ -6,7 +6,7 @@ use Rattle.fields.proofs.OutcomeLaws.{outcome_fault}
 use Rattle.record.proofs.HeadLaws.{head_Valid, head_length}
 use Rattle.writer.proofs.ArrayLaws.{parts}
 use Rattle.file.specs.Answers.{player_of}
-use Rattle.file.proofs.AnswerLaws.{player_no, head_fault, head_ok, player_unread, length_found, cells_few, behind, player_11, player_20, player_done}
+use Rattle.file.proofs.AnswerLaws.{player_no, head_fault, head_ok, player_unread, length_found, behind, player_11, player_20, player_done}
 use Rattle.file.proofs.player_within.Goals as goal
 
 pub returns-in_err-problem : goal.returns-in_err-problem
@@ -26,28 +26,27 @@ record_length-length-requires c =
     let b = parts h.0.puzzle (head_Valid c.args.file.now h.1) c.in_ok-problem.problem h.2 in
     (b.tall, b.wide, b.few, b.short)
 
-pub overflow_mul-problem : goal.overflow_mul-problem
-overflow_mul-problem c =
+pub size-requires : goal.size-requires
+size-requires c =
     let h = head_ok c.args.file.now c.in_ok-problem.ensures in
-    omega (arith, cells_few c.args.file.now h.1 c.in_ok-problem.problem h.2)
+    let b = parts h.0.puzzle (head_Valid c.args.file.now h.1) c.in_ok-problem.problem h.2 in
+    (b.tall, b.wide)
 
-pub is_tail-requires : goal.is_tail-requires
-is_tail-requires c =
+pub invariant_of-tail : goal.invariant_of-tail
+invariant_of-tail c =
     let h = head_ok c.args.file.now c.in_ok-problem.ensures in
-    (omega (arith, length_found c.args.file.now h.1 c.in_ok-problem.problem h.2 c.record_length-length.result c.record_length-length.ensures, head_length c.args.file.now h.1), cells_few c.args.file.now h.1 c.in_ok-problem.problem h.2)
+    record {
+      near = omega (arith, length_found c.args.file.now h.1 c.in_ok-problem.problem h.2 c.record_length-length.result c.record_length-length.ensures, head_length c.args.file.now h.1);
+      few = c.size.ensures.small;
+    }
 
 -- 20
-pub returns-then-not-is_tail : goal.returns-then-not-is_tail
-returns-then-not-is_tail c =
-    let b = behind c.args.file.now c.in_ok-problem.ensures c.record_length-length.ensures c.is_tail.ensures in
-    sym (ap player_of (player_20 c.args.file.now b.reads c.args.room c.if-room-lt1.false (sym b.tailed ∙ c.if-not-is_tail.true)) ∙ player_no)
-
-pub read_grade-requires : goal.read_grade-requires
-read_grade-requires c =
-    let b = behind c.args.file.now c.in_ok-problem.ensures c.record_length-length.ensures c.is_tail.ensures in
-    omega (arith, b.bytes, head_length c.args.file.now b.reads)
+pub returns-then-not-is_whole : goal.returns-then-not-is_whole
+returns-then-not-is_whole c =
+    let b = behind c.args.file.now c.in_ok-problem.ensures c.record_length-length.ensures (rw c.size.ensures.value at c.is_whole.ensures) in
+    sym (ap player_of (player_20 c.args.file.now b.reads c.args.room c.if-room-lt1.false (sym b.tailed ∙ c.if-not-is_whole.true)) ∙ player_no)
 
 pub returns : goal.returns
 returns c =
-    let b = behind c.args.file.now c.in_ok-problem.ensures c.record_length-length.ensures c.is_tail.ensures in
-    player_done c.args.file.now b.reads c.args.room c.if-room-lt1.false (sym b.tailed ∙ c.if-not-is_tail.false) c.record_length-length.result c.read_grade.result b.bytes c.read_grade.ensures
+    let b = behind c.args.file.now c.in_ok-problem.ensures c.record_length-length.ensures (rw c.size.ensures.value at c.is_whole.ensures) in
+    player_done c.args.file.now b.reads c.args.room c.if-room-lt1.false (sym b.tailed ∙ c.if-not-is_whole.false) c.record_length-length.result c.grade.result b.bytes c.grade.ensures

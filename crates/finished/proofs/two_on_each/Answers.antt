@@ -1,42 +1,57 @@
--- `finished::two_on_each` meets its contract: `good` says of the arrows passed that two cells or more of each count.
+-- `finished::two_on_each` meets its contract: what holds of the arrows from here on holds of all.
 -- Assumes nothing.
-use Prim.Native.Nat.{◌<◌}
+use Prim.Native.Nat.{ℕ, zero, suc, ◌+◌, ◌-◌, ◌≤◌, ◌<◌}
+use native.Mathlib.Numerals.{add-one}
 use native.Mathlib.Omega.{arith}
-use mathlib.Core.Path.{◌≡◌, ◌∙◌}
+use mathlib.Core.Path.{◌≡◌, refl, sym, ◌∙◌}
+use mathlib.Core.Bool.{true}
+use mathlib.Core.List.{List}
 use lib.ListN.{length, get_or, take}
 use lib.Seq.{length-take-le, get_or-take}
-use Rattle.grid.proofs.ArrowSquares.{ahead, has_two, lacks_two}
-use Rattle.grid.proofs.SliceLaws.{slice_taken}
+use borrow.Author.Tests.{le-leb, lt-leb}
+use Rattle.record.specs.Lines.{start_at}
+use Rattle.record.specs.declared.Problem.{Problem}
+use Rattle.record.proofs.LinesLaws.{start_first, start_next}
 use Rattle.form.proofs.Steps.{arrows_on, arrows_fail, arrows_end}
 use Rattle.finished.specs.Counting.{two_of}
 use Rattle.finished.proofs.two_on_each.Goals as goal
-use Rattle.finished.proofs.two_on_each.Goals.{else-count_on-lt2, then-count_on-lt2}
 
-pub loop-end-preserved : goal.loop-end-preserved
-loop-end-preserved g c =
+-- an arrow starts no later than it ends
+start_low : (ends : List ℕ) (n k : ℕ) → k < n → ((a : ℕ) → a + 1 < n → get_or ends a 0 ≤ get_or ends (a + 1) 0) → start_at ends k ≤ get_or ends k 0
+unfolding start_at
+start_low ends n zero l rise = omega arith
+start_low ends n (suc k) l rise = rw add-one at (rise k (omega arith))
+
+-- the next end, among those of the problem and in the array
+end : (q : Problem) (k : ℕ) → k < q.count → get_or (take q.count q.ends) k 0 ≡ get_or q.ends k 0
+end q k h = get_or-take q.count q.ends k 0 h
+
+pub loop-k-init : goal.loop-k-init
+loop-k-init g c = λ test h. rw (start_first c.args.problem.now.ends) refl
+
+pub arrow-requires : goal.arrow-requires
+arrow-requires g c =
     let q = c.args.problem.now in
-    let a = c.loop-end.end-index in
     let d = c.requires.drawn.1 in
-    let m = q.count in
-    let seen : length (take m q.ends) ≡ m = length-take-le m q.ends (omega (arith, d.ends_long)) in
-    let within : a < q.count = omega (arith, seen, c.loop-end-test.true) in
-    let lt : a < length (take q.count q.ends) = omega (arith, within, length-take-le q.count q.ends d.ends_long) in
-    let end : get_or (take q.count q.ends) a 0 ≡ get_or q.ends a 0 = get_or-take q.count q.ends a 0 within in
-    let to : c.from-to.result ≡ get_or q.ends a 0 = c.from-to.ensures ∙ get_or-take m q.ends a 0 (omega (arith, seen, c.loop-end-test.true)) in (
-      λ test h.
-          let counted : c.count_on.result ≡ ahead test q.arrows (get_or q.ends a 0) c.loop-end.from = rw (to, slice_taken q.arrows c.loop-end.from (get_or q.ends a 0)) at c.count_on.ensures test h in
-          elim c.if-count_on-lt2.branch [
-            | then-count_on-lt2 w ↦ rw w.good-is
-                (arrows_fail (two_of test) q.arrows (take q.count q.ends) c.loop-end.good c.loop-end.from a lt (c.loop-end.invariant.0 test h) (lacks_two test q.arrows q.ends q.count c.loop-end.from a within counted w.if-count_on-lt2.true))
-            | else-count_on-lt2 w ↦ rw (w.good-is, w.from-is, to, ← end)
-                (arrows_on (two_of test) q.arrows (take q.count q.ends) c.loop-end.good c.loop-end.from a lt (c.loop-end.invariant.0 test h) (has_two test q.arrows q.ends q.count c.loop-end.from a within counted w.if-count_on-lt2.false))
-          ],
-      λ m. omega (arith, to, d.ends_rise a m),
-      omega (arith, to, d.ends_low a within),
-    )
+    (c.loop-k-test.true, d.many, start_low q.ends q.count c.loop-k.k c.loop-k-test.true d.ends_rise, d.ends_low c.loop-k.k c.loop-k-test.true)
+
+pub returns-then-count_on-lt2 : goal.returns-then-count_on-lt2
+returns-then-count_on-lt2 g c = λ test h.
+    let q = c.args.problem.now in
+    let k = c.loop-k.k in
+    sym (arrows_fail (two_of test) q.arrows (take q.count q.ends) true (start_at q.ends k) k (omega (arith, length-take-le q.count q.ends c.requires.drawn.1.ends_long, c.loop-k-test.true)) (c.loop-k.invariant test h)
+    (rw (end q k c.loop-k-test.true, ← c.arrow.ensures, ← (c.count_on.ensures test h)) (sym (lt-leb 2 c.count_on.result c.if-count_on-lt2.true))))
+
+pub loop-k-preserved : goal.loop-k-preserved
+loop-k-preserved g c = λ test h.
+    let q = c.args.problem.now in
+    let k = c.loop-k.k in
+    let e : start_at q.ends (k + 1) ≡ get_or (take q.count q.ends) k 0 = start_next q.ends k ∙ sym (end q k c.loop-k-test.true) in
+    rw e
+    (arrows_on (two_of test) q.arrows (take q.count q.ends) true (start_at q.ends k) k (omega (arith, length-take-le q.count q.ends c.requires.drawn.1.ends_long, c.loop-k-test.true)) (c.loop-k.invariant test h)
+    (rw (end q k c.loop-k-test.true, ← c.arrow.ensures, ← (c.count_on.ensures test h)) (sym (le-leb 2 c.count_on.result c.if-count_on-lt2.false))))
 
 pub returns : goal.returns
 returns g c = λ test h.
     let q = c.args.problem.now in
-    let cuts-length : length (take q.count q.ends) ≡ q.count = length-take-le q.count q.ends c.requires.drawn.1.ends_long in
-    arrows_end (two_of test) q.arrows (take q.count q.ends) c.loop-end.good c.loop-end.from c.loop-end.end-index (omega (arith, cuts-length)) (c.loop-end.invariant.0 test h)
+    arrows_end (two_of test) q.arrows (take q.count q.ends) true (start_at q.ends c.loop-k.k) c.loop-k.k (omega (arith, length-take-le q.count q.ends c.requires.drawn.1.ends_long, c.loop-k-test.false)) (c.loop-k.invariant test h)

@@ -1,15 +1,15 @@
--- `form::rising` meets its contract: what is left says of the last end what the whole says of 0.
+-- `form::rising` meets its contract: the fold keeps the last end, and whether the ends so far rise.
 -- Assumes nothing.
-use native.Mathlib.Omega.{arith}
-use Rattle.form.proofs.Passes.{rise_on, rise_fail, rise_end}
+use mathlib.Core.Path.{ap, ◌∙◌}
+use mathlib.Core.Bool.{Bool, true}
+use Prim.Native.Nat.{ℕ}
+use Rattle.std.proofs.Common.{rules}
+use Rattle.std.proofs.lemmas.Iterator.{YieldsList-from_slice}
+use Rattle.std.proofs.lemmas.Iterator.Consumers.{fold_from_yields_List}
+use Rattle.form.proofs.Passes.{next_end, folded_rising}
 use Rattle.form.proofs.rising.Goals as goal
-use Rattle.form.proofs.rising.Goals.{else-end-last, then-end-last}
-
-pub loop-end-preserved : goal.loop-end-preserved
-loop-end-preserved c =
-    let ends = c.args.ends.now in
-    let k = c.loop-end.end-index in
-    elim c.if-end-last.branch [ then-end-last w ↦ rw w.rise-is (rise_fail ends c.loop-end.rise c.loop-end.last k c.loop-end-test.true c.loop-end.invariant w.if-end-last.true) | else-end-last w ↦ let e = rise_on ends c.loop-end.rise c.loop-end.last k c.loop-end-test.true c.loop-end.invariant (omega (arith, w.if-end-last.false)) in cc ]
 
 pub returns : goal.returns
-returns c = rise_end c.args.ends.now c.loop-end.rise c.loop-end.last c.loop-end.end-index (omega arith) c.loop-end.invariant
+returns c =
+    ap (λ (s : Bool × ℕ). s.0) (fold_from_yields_List _ next_end (true, 0) c.fold-rise.result c.fold-rise.ensures.ran (YieldsList-from_slice c.args.ends.now c.iter.ensures.rest) (λ a x b q k. search rules))
+    ∙ folded_rising c.args.ends.now true 0

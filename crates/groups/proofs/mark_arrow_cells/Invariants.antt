@@ -5,5 +5,5 @@ use Rattle.grid.specs.Lists.{member}
 use Rattle.grid.specs.Marks.{Marks}
 use Rattle.groups.proofs.mark_arrow_cells.Given as goal
 
-abbrev pub invariant-loop-k : goal.invariant-loop-k
-invariant-loop-k l = Marks l.marks (λ i. member i (take l.k l.arrows))
+abbrev pub invariant-loop-i : goal.invariant-loop-i
+invariant-loop-i l = Marks l.marks (λ i. member i (take l.i-index l.arrows))

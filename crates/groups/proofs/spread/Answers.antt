@@ -4,7 +4,7 @@ use mathlib.Core.Path.{◌≡◌, sym, ◌∙◌}
 use mathlib.Core.Bool.{true}
 use native.Mathlib.Omega.{arith}
 use Rattle.groups.specs.Flood.{beyond, within}
-use Rattle.groups.proofs.FloodLaws.{Offers-none, Offers-more, beside_small, top, Spread-does}
+use Rattle.groups.proofs.FloodLaws.{Offers-none, Offers-more, Spread-does}
 use Rattle.groups.proofs.spread.Goals as goal
 use Rattle.groups.proofs.spread.Goals.{in-Some, in_default}
 
@@ -13,15 +13,15 @@ loop-k-init c = λ p. Offers-none (omega (arith, c.requires.room))
 
 pub offer-waiting-requires : goal.offer-waiting-requires
 offer-waiting-requires c = record {
-  cell = beside_small c.loop-k.k (top c.args.grid.tall c.args.grid.wide c.requires c.from-i.ensures) c.in-Some.ensures;
+  cell = c.in-Some.ensures.small;
   seed = c.requires.seed;
   room = (c.loop-k.invariant (λ _. true)).room;
 }
 
 pub loop-k-preserved : goal.loop-k-preserved
 loop-k-preserved c = λ p. Offers-more c.requires.seed (c.loop-k.invariant p) (elim c.match-toward.branch [
-  | in-Some v ↦ within _ (sym v.in-Some.is ∙ c.toward.ensures) (rw (v.labels-is, v.stack-is, v.waiting-is) v.offer-waiting.ensures)
-  | in_default v ↦ beyond (sym v.in_default.is ∙ c.toward.ensures) v.labels-is v.stack-is v.waiting-is
+  | in-Some v ↦ within _ (sym v.in-Some.is ∙ c.toward.ensures.neighbour) (rw (v.labels-is, v.stack-is, v.waiting-is) v.offer-waiting.ensures)
+  | in_default v ↦ beyond (sym v.in_default.is ∙ c.toward.ensures.neighbour) v.labels-is v.stack-is v.waiting-is
 ])
 
 pub returns : goal.returns

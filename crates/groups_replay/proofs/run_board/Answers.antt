@@ -24,7 +24,7 @@ returns c =
     let lent = c.in_ok-leaf.leaf in
     let n = lent.problem.now.height * lent.problem.now.width in
     let same = c.grid-grid.ensures in
-    let marks = rw c.arrow_total.ensures at c.mark_arrow_cells.ensures in (
+    let marks = rw c.arrow_total.ensures at c.mark_arrow_cells-onarrow.ensures in (
       rw (c.size-n.ensures.value, same.0, same.1, told.2) at c.if-list-at.false,
       rw told.2 at (board_told lent.problem.now lent.arrows lent.tall lent.wide a.rounds (take n a.board.now.cells) marks n a.cursor.list.now a.cursor.at
           c.potential_groups_differ-differs.result (rw (same.0, same.1) at c.potential_groups_differ-differs.ensures)

@@ -1,6 +1,6 @@
 -- `join::write_joined` meets its contract: 18, 19, 15 and the joined record, each by its own law.
 -- Assumes nothing.
-use Prim.Native.Nat.{ℕ, ◌+◌, ◌*◌, ◌≤◌}
+use Prim.Native.Nat.{◌+◌, ◌*◌, ◌≤◌}
 use native.Mathlib.Omega.{arith}
 use mathlib.Core.Path.{◌≡◌, sym, ◌∙◌}
 use lib.ListN.{length}
@@ -12,6 +12,7 @@ use Rattle.record.specs.declared.Problem.{Problem}
 use Rattle.record.specs.Write.{write_record}
 use Rattle.record.proofs.Accepted.{record_length}
 use Rattle.fields.specs.Fields.{bytes_for}
+use Rattle.form.proofs.AcceptedLaws.{Kept, kept, valid_formed, valid_kept}
 use Rattle.writer.proofs.ArrayLaws.{parts, length_in}
 use Rattle.writer.proofs.BridgeLaws.{written_length}
 use Rattle.exported.proofs.WrittenLaws.{Writes-refused, Writes-ok}
@@ -21,75 +22,93 @@ use Rattle.join.proofs.BesideLaws.{same_height, same_width, level_of, wide_of}
 use Rattle.join.proofs.AnswerLaws.{join_18, join_19, join_15, join_done}
 use Rattle.join.proofs.write_joined.Goals as goal
 
--- two problems that can be joined, and the length of their record
-record Whole (p q : Puzzle) (whole : Problem) (long : ℕ) : Type 0 where
+-- two puzzles that can be joined: the joined one and the length of its record
+record Whole (p q : Puzzle) : Type 0 where
   level : p.grid.height ≡ q.grid.height
   wide : (joined_grid p q).width ≤ 32
   good : Valid (joined p q)
-  length_is : long ≡ length (write_record (joined p q))
   small : length (write_record (joined p q)) ≤ 4096
 
-whole_is : (p q : Puzzle) (v : Valid p) (w : Valid q) (l r : Problem) (e : l ≡ problem_of p) (f : r ≡ problem_of q) → l.height ≡ r.height → l.width + 1 + r.width ≤ 32
-    → (z : Problem) → z ≡ problem_of (joined p q) → Whole p q z (bytes_for (21 + 2 * (z.height * z.width) + 18 * z.count + 2 * total_of z))
-whole_is p q v w l r e f h k z d =
-    let level = level_of p q v w l r e f h in
-    let wide = wide_of p q v w l r e f k in
-    let good : Valid (joined p q) = joined-Valid p q level v w wide in
+whole_is : {p q : Puzzle} {l r : Problem} → Kept p l → Kept q r → l.height ≡ r.height → l.width + 1 + r.width ≤ 32 → Whole p q
+whole_is {p} {q} left right h k =
+    let level = level_of left right h in
+    let wide = wide_of left right k in
     record {
       level = level;
       wide = wide;
-      good = good;
-      length_is = length_in (joined p q) good z d ∙ sym (written_length (joined p q) good);
-      small = omega (arith, record_length (write_record (joined p q)) (joined_read p q level v w wide));
+      good = joined-Valid p q level left.valid right.valid wide;
+      small = omega (arith, record_length (write_record (joined p q)) (joined_read p q level left.valid right.valid wide));
     }
 
+length_is : {p : Puzzle} {z : Problem} → Valid p → z ≡ problem_of p → bytes_for (21 + 2 * (z.height * z.width) + 18 * z.count + 2 * total_of z) ≡ length (write_record p)
+length_is {p} {z} v e = length_in p v z e ∙ sym (written_length p v)
+
 pub overflow_add-width : goal.overflow_add-width
-overflow_add-width c = omega (arith, (parts c.requires.0.0 c.requires.0.1 c.args.left.now c.requires.0.2).wide)
+overflow_add-width c =
+    let k = kept c.left.inside.problem c.left.invariant c.left.view_is in
+    omega (arith, (parts c.args.left.now k.valid c.left.inside.problem k.arrays).wide)
 
 pub overflow_add-width-2 : goal.overflow_add-width-2
-overflow_add-width-2 c = omega (arith, (parts c.requires.0.0 c.requires.0.1 c.args.left.now c.requires.0.2).wide, (parts c.requires.1.0 c.requires.1.1 c.args.right.now c.requires.1.2).wide)
+overflow_add-width-2 c =
+    let k = kept c.left.inside.problem c.left.invariant c.left.view_is in
+    let m = kept c.right.inside.problem c.right.invariant c.right.view_is in
+    omega (arith, (parts c.args.left.now k.valid c.left.inside.problem k.arrays).wide, (parts c.args.right.now m.valid c.right.inside.problem m.arrays).wide)
 
 -- 18
 pub returns-then-left-right : goal.returns-then-left-right
-returns-then-left-right c = λ p q v w e f.
+returns-then-left-right c =
+    let k = kept c.left.inside.problem c.left.invariant c.left.view_is in
+    let m = kept c.right.inside.problem c.right.invariant c.right.view_is in
     Writes-refused _ c.args.output.now UnequalHeights
-    (join_18 (length c.args.output.now) p q (λ h. c.if-left-right.true (same_height p c.args.left.now e ∙ h ∙ sym (same_height q c.args.right.now f))))
+    (join_18 (length c.args.output.now) c.args.left.now c.args.right.now
+    (λ h. c.if-left-right.true (same_height c.args.left.now c.left.inside.problem k.arrays ∙ h ∙ sym (same_height c.args.right.now c.right.inside.problem m.arrays))))
 
 -- 19
 pub returns-then-width-gt32 : goal.returns-then-width-gt32
-returns-then-width-gt32 c = λ p q v w e f.
+returns-then-width-gt32 c =
+    let k = kept c.left.inside.problem c.left.invariant c.left.view_is in
+    let m = kept c.right.inside.problem c.right.invariant c.right.view_is in
     Writes-refused _ c.args.output.now TooWide
-    (join_19 (length c.args.output.now) p q (level_of p q v w c.args.left.now c.args.right.now e f c.if-left-right.false) (omega (arith, c.if-width-gt32.true, same_width p c.args.left.now e, same_width q c.args.right.now f)))
+    (join_19 (length c.args.output.now) c.args.left.now c.args.right.now (level_of k m c.if-left-right.false)
+    (omega (arith, c.if-width-gt32.true, same_width c.args.left.now c.left.inside.problem k.arrays, same_width c.args.right.now c.right.inside.problem m.arrays)))
+
+pub put_beside-requires-clause-level : goal.put_beside-requires-clause-level
+put_beside-requires-clause-level c =
+    level_of (kept c.left.inside.problem c.left.invariant c.left.view_is) (kept c.right.inside.problem c.right.invariant c.right.view_is) c.if-left-right.false
+
+pub put_beside-requires-clause-wide : goal.put_beside-requires-clause-wide
+put_beside-requires-clause-wide c =
+    wide_of (kept c.left.inside.problem c.left.invariant c.left.view_is) (kept c.right.inside.problem c.right.invariant c.right.view_is) (omega (arith, c.if-width-gt32.false))
 
 pub record_length-length-requires : goal.record_length-length-requires
 record_length-length-requires c =
-    let (p, v, e) = c.requires.0 in
-    let (q, w, f) = c.requires.1 in
-    let d = c.put_beside-whole.ensures p q v w e f in
-    let z = whole_is p q v w c.args.left.now c.args.right.now e f c.if-left-right.false (omega (arith, c.if-width-gt32.false)) c.put_beside-whole.result d in
-    let b = parts (joined p q) z.good c.put_beside-whole.result d in
+    let z = whole_is (kept c.left.inside.problem c.left.invariant c.left.view_is) (kept c.right.inside.problem c.right.invariant c.right.view_is) c.if-left-right.false (omega (arith, c.if-width-gt32.false)) in
+    let b = parts (joined c.args.left.now c.args.right.now) z.good c.put_beside.result c.put_beside.ensures in
     (b.tall, b.wide, b.few, b.short)
 
 -- 15
 pub returns-then-output-length : goal.returns-then-output-length
-returns-then-output-length c = λ p q v w e f.
-    let z = whole_is p q v w c.args.left.now c.args.right.now e f c.if-left-right.false (omega (arith, c.if-width-gt32.false)) c.put_beside-whole.result (c.put_beside-whole.ensures p q v w e f) in
+returns-then-output-length c =
+    let z = whole_is (kept c.left.inside.problem c.left.invariant c.left.view_is) (kept c.right.inside.problem c.right.invariant c.right.view_is) c.if-left-right.false (omega (arith, c.if-width-gt32.false)) in
     Writes-refused _ c.args.output.now RecordOutputShort
-    (join_15 (length c.args.output.now) p q z.level z.wide (omega (arith, c.if-output-length.true, c.record_length-length.ensures, z.length_is)))
+    (join_15 (length c.args.output.now) c.args.left.now c.args.right.now z.level z.wide (omega (arith, c.if-output-length.true, c.record_length-length.ensures, length_is z.good c.put_beside.ensures)))
+
+pub invariant_of-whole : goal.invariant_of-whole
+invariant_of-whole c =
+    let z = whole_is (kept c.left.inside.problem c.left.invariant c.left.view_is) (kept c.right.inside.problem c.right.invariant c.right.view_is) c.if-left-right.false (omega (arith, c.if-width-gt32.false)) in
+    valid_formed (joined c.args.left.now c.args.right.now) z.good c.put_beside.ensures
 
 pub write-requires : goal.write-requires
 write-requires c =
-    let (p, v, e) = c.requires.0 in
-    let (q, w, f) = c.requires.1 in
-    let d = c.put_beside-whole.ensures p q v w e f in
-    let z = whole_is p q v w c.args.left.now c.args.right.now e f c.if-left-right.false (omega (arith, c.if-width-gt32.false)) c.put_beside-whole.result d in
-    (joined p q, z.good, d, omega (arith, c.if-output-length.false, c.record_length-length.ensures, z.length_is))
+    let z = whole_is (kept c.left.inside.problem c.left.invariant c.left.view_is) (kept c.right.inside.problem c.right.invariant c.right.view_is) c.if-left-right.false (omega (arith, c.if-width-gt32.false)) in
+    rw (valid_kept (joined c.args.left.now c.args.right.now) z.good c.put_beside.ensures) (omega (arith, c.if-output-length.false, c.record_length-length.ensures, length_is z.good c.put_beside.ensures))
 
 pub returns : goal.returns
-returns c = λ p q v w e f.
-    let d = c.put_beside-whole.ensures p q v w e f in
-    let z = whole_is p q v w c.args.left.now c.args.right.now e f c.if-left-right.false (omega (arith, c.if-width-gt32.false)) c.put_beside-whole.result d in
-    let r = c.write.ensures (joined p q) z.good d in
+returns c =
+    let p = c.args.left.now in
+    let q = c.args.right.now in
+    let z = whole_is (kept c.left.inside.problem c.left.invariant c.left.view_is) (kept c.right.inside.problem c.right.invariant c.right.view_is) c.if-left-right.false (omega (arith, c.if-width-gt32.false)) in
+    let w = rw (valid_kept (joined p q) z.good c.put_beside.ensures) at c.write.ensures in
     Writes-ok _ c.args.output.now (write_record (joined p q)) c.write.new.out c.write.result
-    (join_done (length c.args.output.now) p q z.level z.wide (omega (arith, c.if-output-length.false, c.record_length-length.ensures, z.length_is))) r.count
-    (omega (arith, r.count, z.small)) r.whole
+    (join_done (length c.args.output.now) p q z.level z.wide (omega (arith, c.if-output-length.false, c.record_length-length.ensures, length_is z.good c.put_beside.ensures))) w.count
+    (omega (arith, w.count, z.small)) w.whole

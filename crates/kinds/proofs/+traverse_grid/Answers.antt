@@ -24,9 +24,9 @@ loop-k-init t c =
 
 pub traverse_grid-requires : goal.traverse_grid-requires
 traverse_grid-requires t c =
-    let fall = fewer_set c.args.owners.now c.args.i c.args.name c.if-owners-i-ne-UNNAMED.false (λ e. omega (arith, e, c.requires.name)) (omega arith) in (
+    let fall = fewer_set c.args.owners.now c.args.i c.args.name c.if-owners-i-ne-UNLABELLED.false (λ e. omega (arith, e, c.requires.name)) (omega arith) in (
       omega (arith, fall, c.decreases, (c.loop-k.invariant (λ _. true) refl (λ _ _. refl)).fewer),
-      ((side_cell (here (goal.at.traverse_grid-requires t c).Start) c.loop-k.k c.toward.result c.toward.ensures _ c.in-Some.is).within, c.requires.name),
+      (c.in-Some.ensures.inside, c.requires.name),
     )
 
 pub loop-k-preserved : goal.loop-k-preserved
@@ -36,15 +36,15 @@ loop-k-preserved t c =
     let T = c.loop-k.invariant p o only in
     let cell = here (goal.at.loop-k-preserved t c).Start in
     elim c.match-toward.branch [
-      | in-Some v ↦ side_at cell c.loop-k.k c.toward.result c.toward.ensures (Turn (sized c.args.grid.height c.args.grid.width) p c.args.i c.args.name named c.match-toward.owners) _ v.in-Some.is
-          (rw v.owners-is (Turn-more c.requires.name o (side_Adjacent cell c.loop-k.k c.toward.result c.toward.ensures _ v.in-Some.is) (v.traverse_grid.ensures.walked p (Added-Only T.added only)) v.traverse_grid.ensures.fewer_free T))
-      | in_default v ↦ side_off cell c.loop-k.k c.toward.result c.toward.ensures (Turn (sized c.args.grid.height c.args.grid.width) p c.args.i c.args.name named c.match-toward.owners) v.in_default.is
+      | in-Some v ↦ side_at cell c.loop-k.k c.toward.result c.toward.ensures.neighbour (Turn (sized c.args.grid.height c.args.grid.width) p c.args.i c.args.name named c.match-toward.owners) _ v.in-Some.is
+          (rw v.owners-is (Turn-more c.requires.name o (side_Adjacent cell c.loop-k.k c.toward.result c.toward.ensures.neighbour _ v.in-Some.is) (v.traverse_grid.ensures.walked p (Added-Only T.added only)) v.traverse_grid.ensures.fewer_free T))
+      | in_default v ↦ side_off cell c.loop-k.k c.toward.result c.toward.ensures.neighbour (Turn (sized c.args.grid.height c.args.grid.width) p c.args.i c.args.name named c.match-toward.owners) v.in_default.is
           (rw v.owners-is T)
     ]
 
 pub returns-clause-walked : goal.returns-clause-walked
 returns-clause-walked t c =
-    let u = c.if-owners-i-ne-UNNAMED.false in
+    let u = c.if-owners-i-ne-UNLABELLED.false in
     let fall = fewer_set c.args.owners.now c.args.i c.args.name u (λ e. omega (arith, e, c.requires.name)) (omega arith) in λ p only.
     let o = only c.args.i u in
     Turn-all c.requires.name o u
@@ -53,5 +53,5 @@ returns-clause-walked t c =
 
 pub returns-clause-fewer_free : goal.returns-clause-fewer_free
 returns-clause-fewer_free t c =
-    let u = c.if-owners-i-ne-UNNAMED.false in
+    let u = c.if-owners-i-ne-UNLABELLED.false in
     let fall = fewer_set c.args.owners.now c.args.i c.args.name u (λ e. omega (arith, e, c.requires.name)) (omega arith) in omega (arith, fall, (c.loop-k.invariant (λ _. true) refl (λ _ _. refl)).fewer)

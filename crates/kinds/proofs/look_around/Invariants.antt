@@ -6,4 +6,4 @@ use Rattle.kinds.specs.Inside.{Owned, arrow_blocks_at}
 use Rattle.kinds.proofs.look_around.Given as goal
 
 abbrev pub invariant-loop-k : goal.invariant-loop-k
-invariant-loop-k l = Owned (arrow_blocks_at l.blocks.labels l.blocks.arrowed (gathered (sized l.grid.height l.grid.width) l.i l.k)) l.owner
+invariant-loop-k l = Owned (arrow_blocks_at l.blocks.labels l.blocks.arrowed (gathered (sized l.grid.height l.grid.width) l.i l.k)) l.touched

@@ -19,8 +19,8 @@ pub returns : goal.returns
 unfolding square
 returns c =
     let cells = c.args.cells.now in
-    let arrows = c.args.arrows.now in
-    next cells arrows _ _ _ c.requires.order
+    let arrows = c.args.arrow.now in
+    next cells arrows _ _ _ c.requires.from
     (first_from_Range _ _ _ _ (λ k. square cells (get_or arrows k 0) ≡ true) (λ k. square cells (get_or arrows k 0) ≡ false) c.find.ensures.ran
     (λ x q k. grind (arith, tests, get_or_read))
     (λ x q k. (search rules, grind (arith, tests, get_or_read))))

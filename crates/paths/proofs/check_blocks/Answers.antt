@@ -21,8 +21,8 @@ returns-in_err-a c = λ lines squares k.
     (crossing_none g.height g.width lines (take (g.height * g.width) c.args.cells.now)
     (c.find_crossing.ensures _ _ squares k (sized-size g.height g.width)) c.args.buffer.now c.in_err-a.was)
 
-pub reason_for_path-count-requires-clause-ends : goal.reason_for_path-count-requires-clause-ends
-reason_for_path-count-requires-clause-ends c =
+pub reason_for_path-requires-clause-ends : goal.reason_for_path-requires-clause-ends
+reason_for_path-requires-clause-ends c =
     let g = c.args.grid in
     let k = c.requires.blocked in
     crossing_ends g.height g.width k.arrows (take (g.height * g.width) c.args.cells.now) (c.find_crossing.ensures _ _ k.squares k.held (sized-size g.height g.width)) c.in_ok-a.was
@@ -31,4 +31,4 @@ pub returns : goal.returns
 returns c = λ lines squares k.
     let g = c.args.grid in
     crossing_found g.height g.width lines (take (g.height * g.width) c.args.cells.now)
-    (c.find_crossing.ensures _ _ squares k (sized-size g.height g.width)) c.in_ok-a.was c.reason_for_path-count.ensures
+    (c.find_crossing.ensures _ _ squares k (sized-size g.height g.width)) c.in_ok-a.was c.reason_for_path.ensures

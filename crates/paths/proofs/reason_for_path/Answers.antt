@@ -1,7 +1,8 @@
 -- `paths::reason_for_path` meets its contract: the way so far is written, and each parent comes earlier in the list, so that it ends at b.
 -- Assumes nothing.
 use Prim.Native.Nat.{◌*◌}
-use mathlib.Core.Path.{sym, ◌∙◌}
+use Rattle.std.proofs.Common.{rules}
+use mathlib.Core.Path.{refl, sym, ◌∙◌}
 use native.Mathlib.Omega.{arith}
 use lib.Seq.{get_or-take}
 use borrow.Author.Tests.{eqb-true}
@@ -10,8 +11,9 @@ use Rattle.grid.specs.Side.{sized}
 use Rattle.grid.specs.Cells.{square}
 use Rattle.grid.proofs.LinkLaws.{Linked-start}
 use Rattle.grid.proofs.SideLaws.{area}
+use Rattle.literals.proofs.HeldLaws.{holds_back, holds_count}
 use Rattle.paths.proofs.Breadth.{square_inside}
-use Rattle.paths.proofs.Ways.{Way-first, way_below, way_cell, way_room, way_mark, Way-more, way_done}
+use Rattle.paths.proofs.Ways.{Way-first, way_below, way_small, way_room, way_mark, Way-more, way_done}
 use Rattle.paths.proofs.reason_for_path.Goals as goal
 
 pub list_from-requires-clause-square : goal.list_from-requires-clause-square
@@ -24,56 +26,66 @@ list_from-requires-clause-square c =
 
 pub loop-cell-init : goal.loop-cell-init
 unfolding size
-loop-cell-init c = Way-first (sized c.args.grid.height c.args.grid.width) c.args.cells.now c.args.b c.args.a c.args.buffer.now c.requires.ends
+loop-cell-init c = Way-first (sized c.args.grid.height c.args.grid.width) c.args.cells.now c.args.b c.args.a c.requires.ends refl refl
 
-pub literal-requires : goal.literal-requires
+pub overflow_cast-cell : goal.overflow_cast-cell
 unfolding size
-literal-requires c =
+overflow_cast-cell c =
     let g = c.args.grid in
-    let W = c.loop-cell.invariant in
-    (omega (arith, way_cell _ _ _ W, area g.height g.width g.tall g.wide), omega arith)
+    let small = way_small _ _ _ c.loop-cell.invariant (area g.height g.width g.tall g.wide) in
+    search arith
 
-pub bounds-buffer-count : goal.bounds-buffer-count
+pub invariant_of-push : goal.invariant_of-push
 unfolding size
-bounds-buffer-count c = way_room _ _ _ c.loop-cell.invariant c.requires.room
-
-pub offset_bounds-list-cell : goal.offset_bounds-list-cell
-unfolding size
-offset_bounds-list-cell c =
+invariant_of-push c =
     let g = c.args.grid in
-    omega (arith, way_cell _ _ _ c.loop-cell.invariant, area g.height g.width g.tall g.wide)
+    let small = way_small _ _ _ c.loop-cell.invariant (area g.height g.width g.tall g.wide) in
+    record { few = omega arith; bit = omega arith }
+
+pub push-requires : goal.push-requires
+unfolding size
+push-requires c = way_room _ _ _ c.loop-cell.invariant c.requires.room
 
 pub bounds-list-cell : goal.bounds-list-cell
 unfolding size
 bounds-list-cell c =
     let g = c.args.grid in
-    omega (arith, way_cell _ _ _ c.loop-cell.invariant, area g.height g.width g.tall g.wide)
+    omega (arith, way_small _ _ _ c.loop-cell.invariant (area g.height g.width g.tall g.wide))
 
 pub loop-cell-smaller : goal.loop-cell-smaller
 unfolding size
-loop-cell-smaller c = omega (arith, way_below _ _ _ c.loop-cell.invariant)
+loop-cell-smaller c =
+    let W = c.loop-cell.invariant in
+    omega (arith, way_below _ _ _ W, holds_count _ W.holds (c.push.ensures.written _ _ W.holds))
 
 pub loop-cell-preserved : goal.loop-cell-preserved
 unfolding size
 loop-cell-preserved c =
     let g = sized c.args.grid.height c.args.grid.width in
     let W = c.loop-cell.invariant in
-    rw (c.from-cell.ensures ∙ way_mark g c.args.cells.now c.args.b W c.list_from.ensures, c.literal.ensures)
-    (Way-more g c.args.cells.now c.args.b W c.loop-cell-test.true (omega (arith, way_below g c.args.cells.now c.args.b W, c.requires.room)))
+    rw (c.from-cell.ensures ∙ way_mark g c.args.cells.now c.args.b W c.list_from.ensures) (Way-more g c.args.cells.now c.args.b W c.loop-cell-test.true (c.push.ensures.written _ _ W.holds))
 
-pub literal-requires-2 : goal.literal-requires-2
+pub overflow_cast-cell-2 : goal.overflow_cast-cell-2
 unfolding size
-literal-requires-2 c =
+overflow_cast-cell-2 c =
     let g = c.args.grid in
-    (omega (arith, way_cell _ _ _ c.loop-cell.invariant, area g.height g.width g.tall g.wide), omega arith)
+    let small = way_small _ _ _ c.loop-cell.invariant (area g.height g.width g.tall g.wide) in
+    search arith
 
-pub bounds-buffer-count-2 : goal.bounds-buffer-count-2
+pub invariant_of-push-2 : goal.invariant_of-push-2
 unfolding size
-bounds-buffer-count-2 c = way_room _ _ _ c.loop-cell.invariant c.requires.room
+invariant_of-push-2 c =
+    let g = c.args.grid in
+    let small = way_small _ _ _ c.loop-cell.invariant (area g.height g.width g.tall g.wide) in
+    record { few = omega arith; bit = omega arith }
+
+pub push-requires-2 : goal.push-requires-2
+unfolding size
+push-requires-2 c = way_room _ _ _ c.loop-cell.invariant c.requires.room
 
 pub returns : goal.returns
 unfolding size
 returns c =
     let g = sized c.args.grid.height c.args.grid.width in
     let W = c.loop-cell.invariant in
-    rw c.literal-2.ensures (way_done g c.args.cells.now c.args.b W c.loop-cell-test.false (omega (arith, way_below g c.args.cells.now c.args.b W, c.requires.room)))
+    holds_back (way_done g c.args.cells.now c.args.b W (search rules) (c.push-2.ensures.written _ _ W.holds)) (λ q. search rules)

@@ -3,9 +3,9 @@
 use native.Mathlib.Omega.{arith}
 use borrow.Author.Tests.{ne_eqb}
 use Rattle.grid.specs.Side.{sized}
-use Rattle.grid.proofs.SideLaws.{cell_small}
-use Rattle.grid.proofs.AroundLaws.{side_cell, side_at, side_off, sides_none, sides_all}
-use Rattle.reach.proofs.Counting.{cell_of, near_off, near_none, near_more, near_all}
+use Rattle.grid.proofs.SideLaws.{cell_of}
+use Rattle.grid.proofs.AroundLaws.{side_at, side_off, sides_none, sides_all}
+use Rattle.reach.proofs.Counting.{near_off, near_none, near_more, near_all}
 use Rattle.reach.proofs.mark_floats_beside.Goals as goal
 use Rattle.reach.proofs.mark_floats_beside.Invariants.{Near}
 use Rattle.reach.proofs.mark_floats_beside.Goals.{in-Some, in_default}
@@ -19,14 +19,11 @@ returns-then-info-i c = λ t q. near_off c.args.info.now.kinds.now c.args.info.n
 pub loop-k-init : goal.loop-k-init
 loop-k-init c = λ t. sides_none (Near c.args.info.now.kinds.now c.args.info.now.owners.now c.args.near.now c.args.near.now t) _ _ (λ q. near_none c.args.info.now.kinds.now c.args.info.now.owners.now c.args.f t q)
 
-pub mark_owner-requires : goal.mark_owner-requires
-mark_owner-requires c = record { cell = cell_small (side_cell (cell_of c.args.info.now.grid c.args.i c.requires.cell) c.loop-k.k c.toward.result c.toward.ensures _ c.in-Some.is) }
-
 pub loop-k-preserved : goal.loop-k-preserved
 loop-k-preserved c = λ t. elim c.match-toward.branch [
-  | in-Some v ↦ side_at (cell_of c.args.info.now.grid c.args.i c.requires.cell) c.loop-k.k c.toward.result c.toward.ensures (Near c.args.info.now.kinds.now c.args.info.now.owners.now c.args.near.now c.match-toward.near t) _ v.in-Some.is
+  | in-Some v ↦ side_at (cell_of c.args.info.now.grid c.args.i c.requires.cell) c.loop-k.k c.toward.result c.toward.ensures.neighbour (Near c.args.info.now.kinds.now c.args.info.now.owners.now c.args.near.now c.match-toward.near t) _ v.in-Some.is
       (λ q. rw v.near-is (near_more c.args.info.now.kinds.now c.args.info.now.owners.now c.args.f t _ _ (v.mark_owner.ensures _ (c.loop-k.invariant t q))))
-  | in_default v ↦ side_off (cell_of c.args.info.now.grid c.args.i c.requires.cell) c.loop-k.k c.toward.result c.toward.ensures (Near c.args.info.now.kinds.now c.args.info.now.owners.now c.args.near.now c.match-toward.near t) v.in_default.is
+  | in_default v ↦ side_off (cell_of c.args.info.now.grid c.args.i c.requires.cell) c.loop-k.k c.toward.result c.toward.ensures.neighbour (Near c.args.info.now.kinds.now c.args.info.now.owners.now c.args.near.now c.match-toward.near t) v.in_default.is
       (λ q. rw v.near-is (c.loop-k.invariant t q))
 ]
 

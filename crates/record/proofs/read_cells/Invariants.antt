@@ -4,4 +4,4 @@ use Rattle.record.proofs.CellLaws.{CellsSoFar}
 use Rattle.record.proofs.read_cells.Given as goal
 
 abbrev pub invariant-loop-i : goal.invariant-loop-i
-invariant-loop-i l = CellsSoFar l.s l.n l.i l.cells
+invariant-loop-i l = CellsSoFar l.initial.bits l.n l.i l.cells l.bits

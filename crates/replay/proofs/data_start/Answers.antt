@@ -1,47 +1,40 @@
--- `replay::data_start` meets its contract: it is the place behind the empty line that ends the head.
+-- `replay::data_start` meets its contract: the data begins behind the last line of the head, if the next line is empty.
 -- Assumes nothing.
-use Prim.Native.Nat.{◌+◌, ◌-◌, ◌<◌}
-use native.Mathlib.Omega.{arith}
-use mathlib.Core.Path.{◌≡◌, sym, ◌∙◌}
-use lib.ListN.{length, get_or}
-use Rattle.replay.specs.Lists.{data_start}
-use Rattle.replay.proofs.ListLaws.{no_head, head, empty_line, other_line, next_line, in_line, no_data}
+use Rattle.std.proofs.Common.{rules, tests, arith, get_or}
+use mathlib.Core.Path.{refl, sym, ◌∙◌}
+use borrow.Author.Tests.{eq-eqb, ne_eqb}
+use Rattle.std.proofs.lemmas.Iterator.{first_from_Range}
+use Rattle.std.proofs.lemmas.List.{get_or_read}
+use Rattle.std.specs.Prelude.{Some, None}
+use Rattle.replay.proofs.ListLaws.{no_head, Ends, no_data, data_behind}
 use Rattle.replay.proofs.data_start.Goals as goal
-use Rattle.replay.proofs.data_start.Goals.{then-list-i-eq10+else-list-i-eq10-2+else-list-i-ne35, else-list-i-eq10}
 
-pub returns-then-byte_at-ne35 : goal.returns-then-byte_at-ne35
-returns-then-byte_at-ne35 c = (no_head c.args.list.now (λ e. c.if-byte_at-ne35.true (c.byte_at.ensures.0 ∙ e)), omega arith)
+pub returns-in_default : goal.returns-in_default
+returns-in_default c = (sym (no_head c.args.list.now (λ e. grind (arith, tests, get_or_read))), tt)
 
-pub loop-i-init : goal.loop-i-init
-loop-i-init c = head c.args.list.now (sym c.byte_at.ensures.0 ∙ c.if-byte_at-ne35.false)
+pub returns-in_default-2 : goal.returns-in_default-2
+returns-in_default-2 c = (sym (no_head c.args.list.now (λ e. grind (arith, tests, get_or_read))), tt)
 
-pub returns-then-list-i-eq10-2 : goal.returns-then-list-i-eq10-2
-returns-then-list-i-eq10-2 c =
+pub returns-in_err-end : goal.returns-in_err-end
+returns-in_err-end c =
     let l = c.args.list.now in
-    let b = get_or l (c.loop-i.i - 1) 0 in
-    (empty_line l (data_start l) c.loop-i.i (omega arith) b c.loop-i.invariant c.if-list-i-eq10.true c.if-list-i-eq10-2.true, omega arith)
+    let no = first_from_Range _ _ _ None (Ends l) (λ k. Ends l k → ⊥) c.in_err-end.ensures.ran (λ x q k. grind (arith, tests, get_or_read)) (λ x q k. (search rules, grind (arith, tests, get_or_read))) in
+    rw c.from_residual.ensures (sym (no_data l (grind (arith, tests, get_or_read)) no), tt)
 
-pub returns-then-list-i-ne35 : goal.returns-then-list-i-ne35
-returns-then-list-i-ne35 c =
+pub bounds-list-end : goal.bounds-list-end
+bounds-list-end c =
     let l = c.args.list.now in
-    let b = get_or l (c.loop-i.i - 1) 0 in
-    (other_line l (data_start l) c.loop-i.i (omega arith) b c.loop-i.invariant c.if-list-i-eq10.true c.if-list-i-eq10-2.false c.if-list-i-ne35.true, omega arith)
+    let end = first_from_Range _ _ _ (Some c.in_ok-end.end) (Ends l) (λ k. Ends l k → ⊥) c.in_ok-end.ensures.ran (λ x q k. grind (arith, tests, get_or_read)) (λ x q k. (search rules, grind (arith, tests, get_or_read))) in
+    end.1
 
-pub loop-i-preserved : goal.loop-i-preserved
-loop-i-preserved c =
+pub returns-then-list-end-eq10 : goal.returns-then-list-end-eq10
+returns-then-list-end-eq10 c =
     let l = c.args.list.now in
-    let b = get_or l (c.loop-i.i - 1) 0 in
-    let lt : c.loop-i.i < length l = omega arith in
-    let e : c.loop-i.i + 1 - 1 ≡ c.loop-i.i = omega arith in
-    rw e
-    (elim c.if-list-i-eq10.branch [
-      | then-list-i-eq10+else-list-i-eq10-2+else-list-i-ne35 w ↦
-          next_line l (data_start l) c.loop-i.i lt b c.loop-i.invariant w.if-list-i-eq10.true w.if-list-i-eq10-2.false w.if-list-i-ne35.false
-      | else-list-i-eq10 w ↦ in_line l (data_start l) c.loop-i.i lt b c.loop-i.invariant w.if-list-i-eq10.false
-    ])
+    let end = first_from_Range _ _ _ (Some c.in_ok-end.end) (Ends l) (λ k. Ends l k → ⊥) c.in_ok-end.ensures.ran (λ x q k. grind (arith, tests, get_or_read)) (λ x q k. (search rules, grind (arith, tests, get_or_read))) in
+    (sym (data_behind l (grind (arith, tests, get_or_read)) c.in_ok-end.end end.0 end.1 end.3 end.2 ∙ rw (eq-eqb (get_or l c.in_ok-end.end 0) 10 c.if-list-end-eq10.true) refl), omega arith)
 
-pub returns : goal.returns
-returns c =
+pub returns-else-list-end-eq10 : goal.returns-else-list-end-eq10
+returns-else-list-end-eq10 c =
     let l = c.args.list.now in
-    let b = get_or l (c.loop-i.i - 1) 0 in
-    (no_data l (data_start l) c.loop-i.i b (omega arith) c.loop-i.invariant, omega arith)
+    let end = first_from_Range _ _ _ (Some c.in_ok-end.end) (Ends l) (λ k. Ends l k → ⊥) c.in_ok-end.ensures.ran (λ x q k. grind (arith, tests, get_or_read)) (λ x q k. (search rules, grind (arith, tests, get_or_read))) in
+    (sym (data_behind l (grind (arith, tests, get_or_read)) c.in_ok-end.end end.0 end.1 end.3 end.2 ∙ rw (ne_eqb (get_or l c.in_ok-end.end 0) 10 c.if-list-end-eq10.false) refl), tt)

@@ -9,11 +9,10 @@ use Rattle.shades.proofs.shades.Goals as goal
 pub returns-then-not-is_formed : goal.returns-then-not-is_formed
 returns-then-not-is_formed c = shades_ill c.args.board (sym c.is_formed.ensures ∙ c.if-not-is_formed.true)
 
-pub invariant_of-grid : goal.invariant_of-grid
+pub grid-requires : goal.grid-requires
 unfolding grid_of
-invariant_of-grid c =
-    let z = (Whole-is c.args.board (sym c.is_formed.ensures ∙ c.if-not-is_formed.false)).problem.sizes.high in
-    record { tall = z.0; wide = z.1 }
+grid-requires c = (Whole-is c.args.board (sym c.is_formed.ensures ∙ c.if-not-is_formed.false)).problem.sizes.high
 
 pub returns : goal.returns
-returns c = shades_well c.args.board (sym c.is_formed.ensures ∙ c.if-not-is_formed.false) c.shade_cells.ensures refl
+returns c =
+    shades_well c.args.board (sym c.is_formed.ensures ∙ c.if-not-is_formed.false) (rw (c.grid.ensures.height, c.grid.ensures.width) at c.shade_cells.ensures) refl

@@ -1,82 +1,66 @@
 -- `shift::gather_block` meets its contract: the cells of the block that were passed along its chain are gathered, and the chain goes on while one is missing.
 -- Assumes nothing.
-use Prim.Native.Nat.{ℕ, ◌<◌}
+use Prim.Native.Nat.{ℕ, ◌*◌, ◌<◌}
 use native.Mathlib.Omega.{arith}
-use mathlib.Core.Path.{sym, ap, subst, ◌∙◌}
-use mathlib.Core.List.{[], ◌∷◌, ◌++◌}
-use lib.Dec.{eqb}
-use lib.ListN.{length, get_or}
-use Rattle.grid.specs.Lists.{filter}
-use Rattle.grid.specs.Side.{InGrid}
-use Rattle.grid.proofs.SideLaws.{cell_small, some_wide}
-use Rattle.shift.specs.Shift.{Gathered}
-use Rattle.reach.proofs.ChainWalks.{Walk-start, walk_few, Walk-more, walk_less}
-use Rattle.shift.proofs.Passed.{block_of, block_more, block_few, block_goes_on, block_passed}
-use Rattle.shift.proofs.Shifts.{Gathered-none, Gathered-more}
+use mathlib.Core.List.{List}
+use lib.ListN.{length}
+use Rattle.grid.proofs.SideLaws.{cell_small}
+use Rattle.reach.proofs.ChainWalks.{Walk, Walk-start, Walk-more, walk_less}
+use Rattle.shift.proofs.Passed.{block_of, block_goes_on, block_passed, block_grows, block_stays}
+use Rattle.shift.proofs.Shifts.{Gathered, Gathered-none, Gathered-more, gathered_all}
+use Rattle.shift.proofs.gather_block.Invariants.{Amid}
 use Rattle.shift.proofs.gather_block.Goals as goal
-use Rattle.shift.proofs.gather_block.Goals.{Start, In-loop-k}
+use Rattle.shift.proofs.gather_block.Goals.{Start, then-linked-i-eq-ARROW_BLOCK, else-linked-i-eq-ARROW_BLOCK}
 
--- the block's name is a cell of the grid
-named : (c : Start) → InGrid c.args.linked.now.info.grid.height c.args.linked.now.info.grid.width c.args.f
-named c = let g = c.args.linked.now.info.grid in record { tall = g.tall; wide = g.wide; within = c.requires.name }
+-- the block's name is a place of the arrays
+small : (c : Start) → c.args.f < 1024
+small c = let g = c.args.linked.now.info.grid in cell_small (record { tall = g.tall; wide = g.wide; within = c.requires.name })
 
--- while a cell of the block is missing the chain goes on
-still : (c : In-loop-k) → c.loop-k.i < 1024
-still c =
-    let g = c.args.linked.now.info.grid in
-    let I = c.loop-k.invariant in
-    block_goes_on c.args.linked.now.chains c.args.linked.now.info.kinds.now c.args.f (cell_small (record { tall = g.tall; wide = g.wide; within = c.requires.name })) I.walk (omega (arith, c.loop-k-test.true, I.so_far.many, c.requires.all))
+-- what holds where these cells were passed and their block cells gathered
+amid : (c : Start) {passed rows columns : List ℕ} {k i : ℕ} → let info = c.args.linked.now.info in let n = info.grid.height * info.grid.width in
+    Walk info.owners.now n c.args.f passed i → Gathered info.grid.width (block_of info.kinds.now passed) c.args.rows.now c.args.columns.now rows columns k
+    → Amid info.kinds.now info.owners.now n info.grid.width c.args.f (length c.args.rows.now) c.args.rows.now c.args.columns.now rows columns k i
+amid c {passed} {k = k} {i} walk so_far = record { passed = passed; walk = walk; so_far = so_far; goes_on = goes_on }
+  where
+    kinds : List ℕ
+    kinds = c.args.linked.now.info.kinds.now
+
+    goes_on : k < length c.args.rows.now → i < 1024
+    goes_on l = block_goes_on c.args.linked.now.chains kinds c.args.f (small c) walk (omega (arith, l, so_far.many, c.requires.rows))
 
 pub loop-k-init : goal.loop-k-init
-unfolding filter
 loop-k-init c =
+    let s = (goal.at.loop-k-init c).Start in
     let l = c.args.linked.now in
-    rw (c.from-i.ensures, c.from.ensures) (record { passed = []; walk = Walk-start l.chains c.args.f (cell_small (named (goal.at.loop-k-init c).Start)); so_far = Gathered-none l.info.grid.width c.args.rows.now c.args.columns.now })
-
-pub bounds-linked-i : goal.bounds-linked-i
-bounds-linked-i c = still (goal.at.bounds-linked-i c).In-loop-k
-
-pub keep_place-k-requires : goal.keep_place-k-requires
-keep_place-k-requires c =
-    let low = still (goal.at.keep_place-k-requires c).In-loop-k in
-    let I = c.loop-k.invariant in
-    let p = named (goal.at.keep_place-k-requires c).Start in
-    (omega (arith, I.so_far.many, block_few c.args.linked.now.info.kinds.now I.passed, walk_few c.args.linked.now.chains c.args.f (cell_small p) I.walk low, low), some_wide p, low)
-
-pub offset_bounds-linked-i : goal.offset_bounds-linked-i
-offset_bounds-linked-i c = omega (arith, still (goal.at.offset_bounds-linked-i c).In-loop-k)
-
-pub bounds-linked-i-in-loop-k : goal.bounds-linked-i-in-loop-k
-bounds-linked-i-in-loop-k c = still (goal.at.bounds-linked-i-in-loop-k c).In-loop-k
+    rw (c.from-i.ensures, c.from.ensures) (amid s (Walk-start l.chains c.args.f (small s)) (Gathered-none l.info.grid.width c.args.rows.now c.args.columns.now))
 
 pub loop-k-smaller : goal.loop-k-smaller
 loop-k-smaller c =
-    let d = goal.at.loop-k-smaller c in
-    rw c.from-i-in-loop-k.ensures (walk_less c.args.linked.now.chains c.args.f (cell_small (named d.Start)) c.loop-k.invariant.walk (still d.In-loop-k))
+    let s = (goal.at.loop-k-smaller c).Start in
+    let I = c.loop-k.invariant in
+    rw c.from-i-in-loop-k.ensures (walk_less c.args.linked.now.chains c.args.f (small s) I.walk (I.goes_on (omega (arith, c.loop-k-test.true, c.loop-k.auto.rows))))
 
 pub loop-k-preserved : goal.loop-k-preserved
 loop-k-preserved c =
-    let d = goal.at.loop-k-preserved c in
-    let low = still d.In-loop-k in
-    let kept = c.keep_place-k.ensures in
-    let C = c.args.linked.now.chains in
-    let kinds = c.args.linked.now.info.kinds.now in
+    let s = (goal.at.loop-k-preserved c).Start in
+    let l = c.args.linked.now in
+    let kinds = l.info.kinds.now in
+    let w = l.info.grid.width in
     let I = c.loop-k.invariant in
-    let few = walk_few C c.args.f (cell_small (named d.Start)) I.walk low in
-    record {
-      passed = I.passed ++ (c.loop-k.i ∷ []);
-      walk = rw c.from-i-in-loop-k.ensures (Walk-more C c.args.f (cell_small (named d.Start)) I.walk low);
-      so_far = rw (block_more kinds I.passed c.loop-k.i)
-          (Gathered-more c.args.linked.now.info.grid.width (block_of kinds I.passed) c.loop-k.i I.so_far
-          (omega (arith, I.so_far.many, block_few kinds I.passed, few, low, c.told-rows))
-          (omega (arith, I.so_far.many, block_few kinds I.passed, few, low, c.told-columns))
-          (eqb (get_or kinds c.loop-k.i 0) 1) kept.0 kept.1 kept.2);
-    }
+    let walk = Walk-more l.chains c.args.f (small s) I.walk (I.goes_on (omega (arith, c.loop-k-test.true, c.loop-k.auto.rows))) in
+    elim c.if-linked-i-eq-ARROW_BLOCK.branch [
+      | then-linked-i-eq-ARROW_BLOCK b ↦
+          let grows = block_grows kinds I.passed c.loop-k.i b.if-linked-i-eq-ARROW_BLOCK.true in
+          rw (c.from-i-in-loop-k.ensures, b.rows-is, b.columns-is, b.k-is)
+          (amid s walk (rw grows (Gathered-more w (block_of kinds I.passed) c.loop-k.i I.so_far (omega (arith, c.loop-k-test.true, c.loop-k.auto.rows)) (omega (arith, c.loop-k-test.true, c.loop-k.auto.rows, c.requires.columns)))))
+      | else-linked-i-eq-ARROW_BLOCK b ↦
+          let stays = block_stays kinds I.passed c.loop-k.i b.if-linked-i-eq-ARROW_BLOCK.false in
+          rw (c.from-i-in-loop-k.ensures, b.rows-is, b.columns-is, b.k-is) (amid s walk (rw stays I.so_far))
+    ]
 
 pub returns : goal.returns
 returns c =
     let a = c.args in
-    let w = a.linked.now.info.grid.width in
     let I = c.loop-k.invariant in
-    let all = block_passed a.linked.now.chains a.linked.now.info.kinds.now a.f (cell_small (named (goal.at.returns c).Start)) I.walk (omega (arith, c.requires.all, I.so_far.many, c.loop-k-test.false)) in
-    rw all at (subst (λ (k : ℕ). Gathered w (block_of a.linked.now.info.kinds.now I.passed) a.rows.now a.columns.now c.loop-k.rows c.loop-k.columns k) (I.so_far.many ∙ ap length all ∙ sym c.requires.all) I.so_far)
+    let all = block_passed a.linked.now.chains a.linked.now.info.kinds.now a.f (small (goal.at.returns c).Start) I.walk (omega (arith, c.requires.rows, I.so_far.many, c.loop-k-test.false, c.loop-k.auto.rows)) in
+    gathered_all (rw all at I.so_far) (omega (arith, c.loop-k-test.false, c.loop-k.auto.rows)) (omega (arith, c.requires.columns, c.loop-k-test.false, c.loop-k.auto.rows))

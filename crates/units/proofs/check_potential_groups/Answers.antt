@@ -24,4 +24,4 @@ returns c = λ lines held.
     let cells = take (c.args.grid.height * c.args.grid.width) c.args.cells.now in
     let r = boundary_of g cells in
     named_found r (stranded_is (puzzle_with g lines) cells held ∙ ap (found_at r) (sym c.find_stranded.ensures)) c.in_ok-f.was
-    (c.reason_for_boundary-count.ensures held.groups_are (first_low _ c.requires.names (sym c.find_stranded.ensures ∙ c.in_ok-f.was)))
+    (c.reason_for_boundary.ensures held.groups_are (first_low _ c.requires.names (sym c.find_stranded.ensures ∙ c.in_ok-f.was)))

@@ -2,15 +2,17 @@
 -- Assumes nothing.
 use mathlib.Core.Path.{refl}
 use borrow.Author.Rules.{rules}
+use Rattle.form.proofs.AcceptedLaws.{Kept, kept}
 use Rattle.writer.proofs.BridgeLaws.{ready, fields_Recorded}
 use Rattle.writer.proofs.write.Goals as goal
 
 pub write_fields-requires : goal.write_fields-requires
 write_fields-requires c =
-    let p = c.requires in
-    ready p.0 p.1 c.args.problem p.2 refl p.3
+    let k = kept c.puzzle.inside.problem c.puzzle.invariant c.puzzle.view_is in
+    ready c.args.puzzle.now k.valid c.puzzle.inside.problem k.arrays refl c.requires
 
 pub returns : goal.returns
 returns c =
-    let p = c.requires in
-    λ q v e. fields_Recorded q v c.args.problem e refl (ready p.0 p.1 c.args.problem p.2 refl p.3) c.write_fields.ensures (search rules) c.div_ceil.ensures
+    let k = kept c.puzzle.inside.problem c.puzzle.invariant c.puzzle.view_is in
+    fields_Recorded c.args.puzzle.now k.valid c.puzzle.inside.problem k.arrays refl (ready c.args.puzzle.now k.valid c.puzzle.inside.problem k.arrays refl c.requires)
+    c.write_fields.ensures (search rules) c.div_ceil.ensures

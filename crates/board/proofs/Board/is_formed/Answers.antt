@@ -30,8 +30,8 @@ returns-then-not-may_stand c =
     let sized : c.may_stand.result ≡ sizes_good b = c.may_stand.ensures (puzzle_of b.problem) (board_Drawn b formed) ∙ sizes_cells b (search rules) (search rules) in
     board_sizes b (sym sized ∙ c.if-not-may_stand.true)
 
-pub overflow_mul-problem : goal.overflow_mul-problem
-overflow_mul-problem c =
+pub overflow_mul-n : goal.overflow_mul-n
+overflow_mul-n c =
     let formed : problem_formed c.args.self.now.problem ≡ true = sym c.is_formed.ensures ∙ c.if-not-is_formed.false in
     omega (arith, board_area c.args.self.now formed)
 

@@ -1,27 +1,37 @@
--- `board::decisions::all_right` meets its contract: `good` says of the cells passed that each has a state that is right.
+-- `board::decisions::all_right` meets its contract: the fold keeps whether each state so far is right.
 -- Assumes nothing.
-use Prim.Native.Nat.{◌<◌}
+use Prim.Native.Nat.{ℕ}
 use native.Mathlib.Omega.{arith}
-use mathlib.Core.Path.{◌≡◌, refl, sym, ◌∙◌}
-use lib.ListN.{length, get_or}
-use Rattle.grid.specs.Lists.{upto}
-use Rattle.grid.proofs.AppendLaws.{upto_at, upto-length}
+use mathlib.Core.Path.{◌≡◌, ap, ◌∙◌}
+use mathlib.Core.Bool.{Bool, true, cond, ◌&&◌}
+use lib.Dec.{eqb, leb}
+use lib.ListN.{get_or, take}
+use lib.Seq.{length-take-le, get_or-take}
+use Rattle.std.proofs.Common.{rules}
+use Rattle.std.specs.Slice.Iter.{iter_rest}
+use Rattle.std.specs.Iterator.Adapters.{zip_first, zip_second}
+use Rattle.std.proofs.lemmas.Iterator.{YieldsList-from_slice, YieldsList-from_zip}
+use Rattle.std.proofs.lemmas.Iterator.Consumers.{fold_from_yields_List}
 use Rattle.form.specs.Form.{shown}
-use Rattle.form.proofs.Passes.{pass_on, pass_fail, pass_end}
+use Rattle.sizes.proofs.Zipped.{folded_two, alike_below}
 use Rattle.board.proofs.DecisionLaws.{right_shown}
 use Rattle.board.proofs.decisions.all_right.Goals as goal
-use Rattle.board.proofs.decisions.all_right.Goals.{else-not-right, then-not-right}
 
-pub loop-i-preserved : goal.loop-i-preserved
-loop-i-preserved c =
-    let n = c.args.n in
-    let h : c.loop-i.i < n = c.loop-i-test.true in
-    let cells = c.args.cells.now in
-    let lt : c.loop-i.i < length (upto n) = omega (arith, upto-length n) in
-    λ listed m.
-    let r : c.right.result ≡ shown listed cells (get_or (upto n) c.loop-i.i 0) =
-    c.right.ensures ∙ right_shown listed cells m c.loop-i.i (omega arith) ∙ rw (upto_at n c.loop-i.i h) refl in
-    elim c.if-not-right.branch [ then-not-right w ↦ rw w.good-is (pass_fail (shown listed cells) (upto n) c.loop-i.good c.loop-i.i lt (c.loop-i.invariant listed m) (sym r ∙ w.if-not-right.true)) | else-not-right w ↦ rw w.good-is (pass_on (shown listed cells) (upto n) c.loop-i.good c.loop-i.i lt (c.loop-i.invariant listed m) (sym r ∙ w.if-not-right.false)) ]
+-- whether a state is right for a mark
+fits : ℕ × ℕ → Bool
+fits x = cond (eqb x.0 0) (eqb x.1 2) (leb x.1 1)
 
 pub returns : goal.returns
-returns c = λ listed m. pass_end (shown listed c.args.cells.now) (upto c.args.n) c.loop-i.good c.loop-i.i (omega (arith, upto-length c.args.n)) (c.loop-i.invariant listed m)
+unfolding fits
+returns c = λ listed m.
+    let n = c.args.n in
+    let marks = take n c.args.marks.now in
+    let cells = take n c.args.cells.now in
+    let e : iter_rest (zip_first c.zip.result) ≡ marks = ap iter_rest c.zip.ensures.first ∙ c.iter.ensures.rest in
+    let f : iter_rest (zip_second c.zip.result) ≡ cells = search rules in
+    fold_from_yields_List {s = c.zip.result} _ (λ b x. b && fits x) true c.fold.result c.fold.ensures.ran
+    (YieldsList-from_zip (YieldsList-from_slice marks e) (YieldsList-from_slice cells f))
+    (λ a x b q k. search rules)
+    ∙ folded_two n marks cells (length-take-le n c.args.marks.now (omega arith)) (length-take-le n c.args.cells.now (omega arith)) fits true
+    ∙ alike_below (λ i. fits (get_or marks i 0, get_or cells i 0)) (shown listed c.args.cells.now) n
+    (λ i h. rw (get_or-take n c.args.marks.now i 0 h, get_or-take n c.args.cells.now i 0 h) (right_shown listed c.args.cells.now m i (omega arith)))

@@ -13,15 +13,15 @@ use Rattle.calls.proofs.board_shades.measure.Goals as goal
 pub returns-in_err-problem : goal.returns-in_err-problem
 returns-in_err-problem c = agrees_fault _ c.from_residual.result c.in_err-problem.field-0.0 c.from_residual.ensures.1 (problem_refused (read_record c.args.«record».now) c.in_err-problem.ensures)
 
-pub invariant_of-result : goal.invariant_of-result
+pub grid-requires : goal.grid-requires
 unfolding problem_of
-invariant_of-result c =
+grid-requires c =
     let p = problem_ok (read_record c.args.«record».now) c.in_ok-problem.ensures in
     let v = (record_Valid c.args.«record».now p.1).high in
-    record { tall = rw (ap (λ (q : Problem). q.height) p.2) v.0; wide = rw (ap (λ (q : Problem). q.width) p.2) v.1 }
+    (rw (ap (λ (q : Problem). q.height) p.2) v.0, rw (ap (λ (q : Problem). q.width) p.2) v.1)
 
 pub returns : goal.returns
 unfolding problem_of
 returns c =
     let p = problem_ok (read_record c.args.«record».now) c.in_ok-problem.ensures in
-    (p.0, p.1, ap (λ (q : Problem). sized q.height q.width) p.2)
+    (p.0, p.1, rw (c.grid.ensures.height, c.grid.ensures.width) (ap (λ (q : Problem). sized q.height q.width) p.2))

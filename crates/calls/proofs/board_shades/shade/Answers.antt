@@ -23,14 +23,14 @@ returns-then-output-count c =
     Writes-refused (host_shades a.«record».now a.decisions.now (length a.output.now)) a.output.now OutputShort
     (shades_short (Measures-by c.in_ok-grid.ensures) a.decisions.now (length a.output.now) (omega (arith, c.size-count.ensures.value)))
 
-pub decide_in_order-requires-clause-some : goal.decide_in_order-requires-clause-some
-decide_in_order-requires-clause-some c = measures_some (Measures-by c.in_ok-grid.ensures)
+pub decide_in_order-requires : goal.decide_in_order-requires
+decide_in_order-requires c = measures_some (Measures-by c.in_ok-grid.ensures)
 
-pub returns-in_err-decide_in_order : goal.returns-in_err-decide_in_order
-returns-in_err-decide_in_order c =
+pub returns-in_err-cells : goal.returns-in_err-cells
+returns-in_err-cells c =
     let a = c.args in
-    Writes-fault (host_shades a.«record».now a.decisions.now (length a.output.now)) a.output.now c.from_residual-in_err-decide_in_order.result c.in_err-decide_in_order.field-0.0 c.from_residual-in_err-decide_in_order.ensures.1
-    (shades_refused (Measures-by c.in_ok-grid.ensures) a.decisions.now (length a.output.now) (omega (arith, c.size-count.ensures.value)) c.in_err-decide_in_order.ensures)
+    Writes-fault (host_shades a.«record».now a.decisions.now (length a.output.now)) a.output.now c.from_residual-in_err-cells.result c.in_err-cells.field-0.0 c.from_residual-in_err-cells.ensures.1
+    (shades_refused (Measures-by c.in_ok-grid.ensures) a.decisions.now (length a.output.now) (omega (arith, c.size-count.ensures.value)) c.in_err-cells.ensures)
 
 pub returns : goal.returns
 unfolding size
@@ -39,5 +39,5 @@ returns c =
     let g = sized c.in_ok-grid.grid.height c.in_ok-grid.grid.width in
     let n : c.size-count.result ≡ size g = c.size-count.ensures.value in
     Writes-as (host_shades a.«record».now a.decisions.now (length a.output.now)) a.output.now _ _
-    (shades_done (Measures-by c.in_ok-grid.ensures) a.decisions.now (length a.output.now) (omega (arith, c.size-count.ensures.value)) c.in_ok-decide_in_order.ensures)
-    (rw n (shades_Writes g (take (size g) c.decide_in_order.new.cells) _ _ a.output.now _ (omega (arith, n, c.size-count.ensures.small)) c.shade_cells.ensures (rw n at c.write_numbers.ensures)))
+    (shades_done (Measures-by c.in_ok-grid.ensures) a.decisions.now (length a.output.now) (omega (arith, c.size-count.ensures.value)) c.in_ok-cells.ensures)
+    (rw n (shades_Writes g (take (size g) c.in_ok-cells.cells) _ _ a.output.now _ (omega (arith, n, c.size-count.ensures.small)) c.shade_cells.ensures (rw n at c.write_numbers.ensures)))

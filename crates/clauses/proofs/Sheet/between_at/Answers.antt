@@ -9,7 +9,7 @@ use Rattle.grid.specs.Side.{sized}
 use Rattle.clauses.specs.Clauses.{between}
 use Rattle.clauses.proofs.PieceLaws.{between_bytes}
 use Rattle.clauses.proofs.PushLaws.{push_as, push_same, push_no_clause, push_more, push_first_one, push_one_more}
-use Rattle.clauses.proofs.NearLaws.{place_is, between_on, between_off}
+use Rattle.clauses.proofs.NearLaws.{between_on, between_off}
 use Rattle.clauses.proofs.Sheet.between_at.Goals as goal
 
 pub returns-then-marks-i-eq-ON_ARROW : goal.returns-then-marks-i-eq-ON_ARROW
@@ -36,5 +36,5 @@ pub returns : goal.returns
 returns c =
     let g = c.args.grid in
     let e : c.loop-a.a ≡ length c.cells-cells.result.now = omega (arith, c.loop-a.auto.a-end, c.loop-a-test.false) in
-    push_same (between_off c.args.marks.now (sized g.height g.width) c.args.i c.if-marks-i-eq-ON_ARROW.false (rw (place_is g.height g.width c.args.i) at (c.cells-cells.ensures ∙ c.gather-near.ensures)))
+    push_same (between_off c.args.marks.now (sized g.height g.width) c.args.i c.if-marks-i-eq-ON_ARROW.false (c.cells-cells.ensures ∙ c.gather-near.ensures))
     (rw e at c.loop-a.invariant)

@@ -9,7 +9,7 @@ returns-then-touches_marked c =
     let info = c.args.info.now in
     λ lent t whole o. record {
       same = c.insert.ensures.same ∙ o.same;
-      ordered = adds_itself info.cells.now info.kinds.now info.owners.now c.args.marks.now _ c.args.f c.args.i t c.if-info-i-eq-EMPTY.true
+      ordered = adds_itself info.cells.now info.kinds.now info.owners.now c.args.marks.now _ c.args.f c.args.i t c.if-info-i-eq-VACANT.true
           (sym c.touches_marked.ensures ∙ c.if-touches_marked.true) c.requires.cell o.ordered c.insert.ensures.inserted;
     }
 
@@ -18,7 +18,7 @@ returns-then-info-i-ne-UNDECIDED c =
     let info = c.args.info.now in
     λ lent t whole o. record {
       same = o.same;
-      ordered = none_added t _ (adds_decided info.cells.now info.kinds.now info.owners.now c.args.marks.now _ c.args.f c.args.i c.if-info-i-eq-EMPTY.false c.if-info-i-ne-UNDECIDED.true) o.ordered;
+      ordered = none_added t _ (adds_decided info.cells.now info.kinds.now info.owners.now c.args.marks.now _ c.args.f c.args.i c.if-info-i-eq-VACANT.false c.if-info-i-ne-UNDECIDED.true) o.ordered;
     }
 
 pub returns-then-touches_marked-2 : goal.returns-then-touches_marked-2
@@ -28,6 +28,6 @@ returns-then-touches_marked-2 c =
     let f = c.insert_disturbing_blocks.ensures lent t whole o in
     record {
       same = f.same;
-      ordered = adds_disturbing info.cells.now info.kinds.now info.owners.now c.args.marks.now _ c.args.f c.args.i t c.if-info-i-eq-EMPTY.false c.if-info-i-ne-UNDECIDED.false
+      ordered = adds_disturbing info.cells.now info.kinds.now info.owners.now c.args.marks.now _ c.args.f c.args.i t c.if-info-i-eq-VACANT.false c.if-info-i-ne-UNDECIDED.false
           (sym c.touches_marked-2.ensures ∙ c.if-touches_marked-2.true) f.ordered;
     }

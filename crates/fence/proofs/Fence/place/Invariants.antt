@@ -6,7 +6,7 @@ use Rattle.fence.specs.Inside.{key}
 use Rattle.fence.proofs.Fence.place.Given as goal
 
 abbrev pub invariant-loop-low : goal.invariant-loop-low
-invariant-loop-low l = (l.low ≤ l.high) × (l.high ≤ l.self.count) × (0 < l.low → key (get_or l.self.part.now (l.low - 1) 0) < key l.lit) × (l.high < l.self.count → key l.lit ≤ key (get_or l.self.part.now l.high 0))
+invariant-loop-low l = (l.low ≤ l.high) × (l.high ≤ l.self.count) × (0 < l.low → key (get_or l.self.part.now (l.low - 1) 0) < key l.index) × (l.high < l.self.count → key l.index ≤ key (get_or l.self.part.now l.high 0))
 
 abbrev pub decreases-loop-low : goal.decreases-loop-low
 decreases-loop-low l = l.high - l.low

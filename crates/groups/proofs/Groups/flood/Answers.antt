@@ -17,7 +17,7 @@ use Rattle.groups.specs.Flood.{unlabelled, free, Ready}
 use Rattle.groups.specs.Table.{Counting}
 use Rattle.groups.specs.declared.Groups.{Groups}
 use Rattle.groups.proofs.GroupLaws.{linked_size}
-use Rattle.groups.proofs.CountLaws.{bit_few, Offered-counts, counted, Counting-none, Counting-all, Counting-few}
+use Rattle.groups.proofs.CountLaws.{bit_few, Offered-counts, counted, Counting-none, Counting-few}
 use Rattle.groups.proofs.FloodLaws.{Offered-labelled, flood_starts}
 use Rattle.groups.proofs.Groups.flood.Goals as goal
 use Rattle.groups.proofs.Groups.flood.Goals.{Start, In-loop-count}
@@ -124,9 +124,3 @@ overflow_cast-self c = omega (arith, Counting-few c.args.s (marked c.args.cells.
 
 pub overflow_cast-self-2 : goal.overflow_cast-self-2
 overflow_cast-self-2 c = omega (arith, Counting-few c.args.s (marked c.args.onarrow.now) c.loop-count.invariant.crossings)
-
-pub returns-clause-counted : goal.returns-clause-counted
-returns-clause-counted c =
-    let A = c.loop-count.invariant in
-    let none : c.loop-count.count ≡ 0 = omega (arith, c.loop-count-test.false) in
-    written c.args.self.now c.loop-count.self c.args.s A.rest (Counting-all c.args.s (marked c.args.cells.now) none A.squares) (Counting-all c.args.s (marked c.args.onarrow.now) none A.crossings)

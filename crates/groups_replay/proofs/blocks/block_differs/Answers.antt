@@ -13,6 +13,6 @@ returns-else-reach_differs c =
     let info = a.info.now in
     let n = info.grid.height * info.grid.width in
     λ arrows held.
-    let reach = c.compute_reach-size.ensures arrows (take n info.cells.now) held in
+    let reach = c.compute_reach-reach.ensures arrows (take n info.cells.now) held in
     Block-told (board_of info arrows) a.f a.block.list.now a.block.at c.size-n.result n c.number_at.result c.size-n.ensures.value c.number_at.ensures.0 reach
     refl (c.reason_for_adjacent_floating_boundary-written.ensures arrows held reach.marked) c.reach_differs.result c.fence_differs.result c.reach_differs.ensures c.if-reach_differs.false c.fence_differs.ensures

@@ -2,44 +2,34 @@
 -- Assumes nothing.
 use mathlib.Core.Path.{◌≡◌, sym, ◌∙◌}
 use native.Mathlib.Omega.{arith}
-use native.Mathlib.Nat.{div-add-mod'}
-use lib.ListN.{get_or}
 use Rattle.grid.specs.Grid.{size}
 use Rattle.grid.specs.Side.{sized, InGrid}
 use Rattle.grid.proofs.GridLaws.{size_most}
-use Rattle.grid.proofs.SideLaws.{cell_small}
-use Rattle.grid.proofs.AroundLaws.{side_cell}
 use Rattle.paths.proofs.Listings.{Amid-none, Amid-at, Amid-off, Amid-all}
 use Rattle.paths.proofs.BreadthFirstList.list_neighbours.Goals as goal
 use Rattle.paths.proofs.BreadthFirstList.list_neighbours.Goals.{Start, in-Some, in_default}
 
--- the cell at place t
-here : (c : Start) → InGrid c.args.grid.height c.args.grid.width (get_or c.args.self.now.order c.args.t 0)
-here c = record { tall = c.args.grid.tall; wide = c.args.grid.wide; within = c.requires.1 }
+-- the listed cell
+here : (c : Start) → InGrid c.args.grid.height c.args.grid.width c.args.p
+here c = record { tall = c.args.grid.tall; wide = c.args.grid.wide; within = c.requires }
 
 pub loop-k-init : goal.loop-k-init
-loop-k-init c = Amid-none _ _ _ _ _ _
-
-pub list_cell-requires : goal.list_cell-requires
-list_cell-requires c =
-    let cell = here (goal.at.list_cell-requires c).Start in
-    (cell_small (side_cell cell c.loop-k.k c.toward.result (rw c.from-cell.ensures at c.toward.ensures) _ c.in-Some.is), cell_small cell)
+loop-k-init c = Amid-none _ _ _ _ _
 
 pub loop-k-preserved : goal.loop-k-preserved
 unfolding size
 loop-k-preserved c =
     let g = c.args.grid in
-    let p = get_or c.args.self.now.order c.args.t 0 in
-    let at = rw (div-add-mod' p g.width) at (rw c.from-cell.ensures at c.toward.ensures) in
+    let at = rw c.from-cell.ensures at c.toward.ensures.neighbour in
     elim c.match-toward.branch [
       | in-Some w ↦ rw w.self-is
-          (Amid-at _ _ _ c.loop-k.invariant c.requires.1 (size_most (sized g.height g.width) g.tall g.wide) c.loop-k.self.room c.loop-k-test.true _ (sym w.in-Some.is ∙ at) w.list_cell.ensures)
+          (Amid-at _ _ _ c.loop-k.invariant c.requires (size_most (sized g.height g.width) g.tall g.wide) c.loop-k-test.true _ (sym w.in-Some.is ∙ at) w.list_cell.ensures)
       | in_default w ↦ rw w.self-is (Amid-off _ _ _ c.loop-k.invariant (sym w.in_default.is ∙ at))
     ]
 
-pub returns-clause-list : goal.returns-clause-list
+pub returns : goal.returns
 unfolding size
-returns-clause-list c = λ cs L.
+returns c = λ cs L.
     let g = c.args.grid in
     let e : c.loop-k.k ≡ 4 = omega (arith, c.loop-k.auto.k-end, c.loop-k-test.false) in
     Amid-all (sized g.height g.width) _ _ (rw e at c.loop-k.invariant) cs L

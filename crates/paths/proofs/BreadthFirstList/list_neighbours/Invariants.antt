@@ -8,4 +8,4 @@ use Rattle.paths.proofs.BreadthFirstList.list_neighbours.Given as goal
 
 abbrev pub invariant-loop-k : goal.invariant-loop-k
 invariant-loop-k l =
-    Amid (sized l.grid.height l.grid.width) (take (l.grid.height * l.grid.width) l.cells) l.p l.initial.self.from l.initial.self.order l.initial.self.count l.self.from l.self.order l.self.count l.k
+    Amid (sized l.grid.height l.grid.width) (take (l.grid.height * l.grid.width) l.cells) l.p l.initial.self.from l.initial.self.order.items l.self.from l.self.order.items l.k

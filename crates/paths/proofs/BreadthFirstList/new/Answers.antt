@@ -7,4 +7,4 @@ use Rattle.grid.proofs.ArrayLaws.{how_many-le}
 use Rattle.paths.proofs.BreadthFirstList.new.Goals as goal
 
 pub invariant_of-result : goal.invariant_of-result
-invariant_of-result c = record { room = omega (arith, how_many-le 1024 (replicate 1024 1024), length-replicate {A = ℕ} 1024 1024) }
+invariant_of-result c = record { room = rw c.new.ensures (omega (arith, how_many-le 1024 (replicate 1024 1024), length-replicate {A = ℕ} 1024 1024)) }

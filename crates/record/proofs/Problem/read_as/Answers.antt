@@ -4,8 +4,8 @@ use Prim.Native.Nat.{◌+◌, ◌*◌, ◌≤◌, ◌<◌}
 use native.Mathlib.Omega.{arith}
 use mathlib.Core.Path.{refl, sym, ap, ◌∙◌}
 use Rattle.grid.specs.Lists.{array_of}
-use Rattle.fields.proofs.OutcomeLaws.{field-ok}
-use Rattle.record.proofs.WholeLaws.{whole_size, whole_done}
+use Rattle.fields.proofs.OutcomeLaws.{field-ok, outcome_fault}
+use Rattle.record.proofs.WholeLaws.{whole_cut, whole_cut_2, whole_cut_3, whole_size, whole_cells, whole_arrows, whole_done}
 use Rattle.record.proofs.Problem.read_as.Goals as goal
 use Rattle.record.proofs.Problem.read_as.Goals.{In_ok-count}
 
@@ -13,26 +13,61 @@ use Rattle.record.proofs.Problem.read_as.Goals.{In_ok-count}
 limits : (c : In_ok-count) → let h = c.in_ok-height.field-0 in
     let w = c.in_ok-width.field-0 in
     (h < 32) × (w < 32) × ((h + 1) * (w + 1) ≤ 1024)
-limits c = whole_size c.args.extent c.args.bytes.now c.in_ok-height.ensures c.in_ok-width.ensures
+limits c = whole_size c.args.extent _ refl c.in_ok-height.ensures.value c.in_ok-height.ensures.past c.in_ok-width.ensures.value c.in_ok-width.ensures.past
 
 pub overflow_add-height : goal.overflow_add-height
-overflow_add-height c = omega (arith, field-ok c.args.bytes.now 0 5 (sym c.in_ok-height.ensures))
+overflow_add-height c = omega (arith, field-ok _ _ 5 (sym c.in_ok-height.ensures.value))
 
 pub overflow_add-width : goal.overflow_add-width
-overflow_add-width c = omega (arith, field-ok c.args.bytes.now 5 5 (sym c.in_ok-width.ensures))
+overflow_add-width c = omega (arith, field-ok _ _ 5 (sym c.in_ok-width.ensures.value))
 
 pub invariant_of-grid : goal.invariant_of-grid
 invariant_of-grid c =
     let z = limits (goal.at.invariant_of-grid c).In_ok-count in
     record { tall = omega (arith, z.0); wide = omega (arith, z.1) }
 
+pub returns-in_err-height : goal.returns-in_err-height
+returns-in_err-height c = outcome_fault _ _ c.from_residual.ensures.1 (whole_cut c.args.extent c.args.bytes.now c.in_err-height.ensures.value)
+
+pub returns-in_err-width : goal.returns-in_err-width
+returns-in_err-width c =
+    let h = c.in_ok-height.ensures in outcome_fault _ _ c.from_residual-in_err-width.ensures.1 (whole_cut_2 c.args.extent _ refl h.value h.past c.in_err-width.ensures.value)
+
+pub returns-in_err-count : goal.returns-in_err-count
+returns-in_err-count c =
+    let h = c.in_ok-height.ensures in
+    let w = c.in_ok-width.ensures in
+    outcome_fault _ _ c.from_residual-in_err-count.ensures.1 (whole_cut_3 c.args.extent _ refl h.value h.past w.value w.past c.in_err-count.ensures.value)
+
+pub returns-in_err-cells : goal.returns-in_err-cells
+returns-in_err-cells c =
+    let h = c.in_ok-height.ensures in
+    let w = c.in_ok-width.ensures in
+    let m = c.in_ok-count.ensures in
+    outcome_fault _ _ c.from_residual-in_err-cells.ensures.1 (whole_cells c.args.extent _ refl h.value h.past w.value w.past m.value m.past (rw c.size.ensures.value at c.in_err-cells.ensures.codes))
+
 pub read_arrows-requires : goal.read_arrows-requires
-unfolding array_of
 read_arrows-requires c =
-    (omega (arith, field-ok c.args.bytes.now 10 11 (sym c.in_ok-count.ensures)), c.new-line.ensures, refl)
+    let small = c.size.ensures.small in (
+      omega (arith, c.in_ok-cells.ensures.past.on, c.in_ok-count.ensures.past.on, c.in_ok-width.ensures.past.on, c.in_ok-height.ensures.past.on, small),
+      omega (arith, field-ok _ _ 11 (sym c.in_ok-count.ensures.value)),
+      c.new-line.ensures,
+    )
+
+pub returns-in_err-ends : goal.returns-in_err-ends
+returns-in_err-ends c =
+    let h = c.in_ok-height.ensures in
+    let w = c.in_ok-width.ensures in
+    let m = c.in_ok-count.ensures in
+    let d = rw c.size.ensures.value at c.in_ok-cells.ensures.codes in
+    outcome_fault _ _ c.from_residual-in_err-ends.ensures.1
+    (whole_arrows c.args.extent _ refl h.value h.past w.value w.past m.value m.past d.1 (rw c.size.ensures.value at c.in_ok-cells.ensures.past) c.in_err-ends.ensures)
 
 pub returns : goal.returns
 returns c =
-    let d = c.in_ok-read_cells.ensures in
-    let e = c.in_ok-read_arrows.ensures in
-    whole_done c.args.extent c.args.bytes.now c.in_ok-height.ensures c.in_ok-width.ensures c.in_ok-count.ensures (rw c.size.ensures.value at d.1) d.2 e.1 (c.into_cells.ensures ∙ ap (array_of 0) e.2.0) e.2.1
+    let h = c.in_ok-height.ensures in
+    let w = c.in_ok-width.ensures in
+    let m = c.in_ok-count.ensures in
+    let d = rw c.size.ensures.value at c.in_ok-cells.ensures.codes in
+    let e = c.in_ok-ends.ensures in
+    whole_done c.args.extent _ refl h.value h.past w.value w.past m.value m.past d.1 (rw c.size.ensures.value at c.in_ok-cells.ensures.past) d.2 e.1 (c.into_cells.ensures ∙ ap (array_of 0) e.2.0) e.2.1

@@ -1,24 +1,23 @@
--- `shift::ShiftTest::fits_by` meets its contract: the cells passed all come into the reach.
+-- `shift::ShiftTest::fits_by` meets its contract: each cell of the block has a place, and all of them are tested.
 -- Assumes nothing.
-use mir.Syntax.{w32}
-use mir.ValLaws.{to_z-of_z}
-use native.Mathlib.Omega.{arith}
-use mathlib.Core.Path.{◌≡◌, sym, ◌∙◌}
-use Rattle.shift.specs.Shift.{all_land}
-use Rattle.shift.proofs.Shifts.{all-upto, not_all}
+use Rattle.std.proofs.Common.{ℕ, rules, tests}
+use Rattle.std.proofs.lemmas.Iterator.{YieldsList-from_slice, YieldsList-from_zip}
+use Rattle.std.proofs.lemmas.Iterator.Adapters.{serves_from_places}
+use Rattle.std.proofs.lemmas.Iterator.Search.{all_from_yields_List}
+use Rattle.shift.specs.Shift.{lands_in, all_land}
+use Rattle.shift.specs.Test.{shifted, in_reach}
+use Rattle.shift.proofs.Shifts.{place_in}
 use Rattle.shift.proofs.ShiftTest.fits_by.Goals as goal
-use Rattle.shift.proofs.ShiftTest.fits_by.Invariants.{test}
 
-pub returns-then-not-lands_in : goal.returns-then-not-lands_in
-unfolding all_land
-returns-then-not-lands_in c =
-    let s = c.args.self.now in
-    let out = rw (c.from-y.ensures, c.from-x.ensures, to_z-of_z w32 c.args.dy c.ranges.dy, to_z-of_z w32 c.args.dx c.ranges.dx) at c.lands_in.ensures in
-    sym (not_all (test s c.args.dy c.args.dx) s.block.count c.loop-k.k c.loop-k-test.true (sym out ∙ c.if-not-lands_in.true))
+pub all-requires-clause-callable : goal.all-requires-clause-callable
+all-requires-clause-callable c =
+    let block = c.args.self.now.block in
+    serves_from_places (YieldsList-from_zip (YieldsList-from_slice block.rows.now cc) (YieldsList-from_slice block.columns.now cc))
+    (λ x q k. search (rules, tests)) (λ x k l e. let p = place_in block.places x.0.now x.1.now k l e in search rules)
 
 pub returns : goal.returns
 unfolding all_land
 returns c =
     let s = c.args.self.now in
-    let e : c.loop-k.k ≡ s.block.count = omega (arith, c.loop-k-test.false, c.loop-k.auto.k-end) in
-    sym (all-upto (test s c.args.dy c.args.dx) s.block.count (λ j h. rw (to_z-of_z w32 c.args.dy c.ranges.dy, to_z-of_z w32 c.args.dx c.ranges.dx) at (c.loop-k.invariant j (omega arith))))
+    let test = λ (p : ℕ × ℕ). lands_in (in_reach s) (shifted s p.0 p.1 c.args.dy c.args.dx) in
+    all_from_yields_List test c.all.new.self _ _ c.all.ensures.ran (YieldsList-from_zip (YieldsList-from_slice s.block.rows.now cc) (YieldsList-from_slice s.block.columns.now cc)) (λ x b q k. search (rules, tests))

@@ -10,7 +10,6 @@ use Rattle.shift.specs.Test.{fits_at, group}
 use Rattle.shift.proofs.ShiftTest.fits_chain.Goals as goal
 
 pub loop-t-init : goal.loop-t-init
-unfolding any
 loop-t-init c = rw (c.from-t.ensures, c.from.ensures) (record { passed = []; walk = Walk-start c.args.self.now.block.linked.chains c.args.m c.requires.name; none = refl })
 
 pub fits_at-requires : goal.fits_at-requires

@@ -3,7 +3,7 @@
 use native.Mathlib.Omega.{arith}
 use mathlib.Core.List.{[]}
 use Rattle.fields.proofs.OutcomeLaws.{agrees_fault}
-use Rattle.sizes.proofs.DrawnLaws.{drawn_few, drawn_Line, drawn_Marks}
+use Rattle.sizes.proofs.DrawnLaws.{drawn_few, drawn_fits, drawn_cells, drawn_Marks}
 use Rattle.sizes.proofs.ReadLaws.{sizes_refused, sizes_none, sizes_marked}
 use Rattle.sizes.proofs.CellSizes.read.Goals as goal
 
@@ -18,8 +18,11 @@ returns-then-branch-eq0 g c = λ p k.
 pub arrow_total-requires : goal.arrow_total-requires
 arrow_total-requires g c = (drawn_few c.requires.drawn.0 c.requires.drawn.1).0
 
-pub mark_arrow_cells-requires : goal.mark_arrow_cells-requires
-mark_arrow_cells-requires g c = record { line = drawn_Line c.requires.drawn.0 c.requires.drawn.1 c.arrow_total.result c.arrow_total.ensures }
+pub shared_ref_as_front-mark_arrow_cells : goal.shared_ref_as_front-mark_arrow_cells
+shared_ref_as_front-mark_arrow_cells g c = drawn_fits c.requires.drawn.0 c.requires.drawn.1 c.arrow_total.result c.arrow_total.ensures
+
+pub mark_arrow_cells-marks-requires : goal.mark_arrow_cells-marks-requires
+mark_arrow_cells-marks-requires g c = record { cells = drawn_cells c.requires.drawn.0 c.requires.drawn.1 c.arrow_total.result c.arrow_total.ensures }
 
 pub returns : goal.returns
-returns g c = λ p k. rw (← sizes_marked p (drawn_Marks p k c.arrow_total.result c.arrow_total.ensures c.mark_arrow_cells.ensures) (g.N.Numbers.numbers c.args.numbers.now)) c.read_ranges.ensures
+returns g c = λ p k. rw (← sizes_marked p (drawn_Marks p k c.arrow_total.result c.arrow_total.ensures c.mark_arrow_cells-marks.ensures) (g.N.Numbers.numbers c.args.numbers.now)) c.read_ranges.ensures

@@ -6,11 +6,6 @@ use lib.Seq.{length-take-le}
 use Rattle.text.proofs.ToldLaws.{refused_told, none_told, lines_room, reason_told, count_few, long_told}
 use Rattle.text.proofs.Text.push_told.Goals as goal
 
-pub push_line-requires-in-Ok : goal.push_line-requires-in-Ok
-push_line-requires-in-Ok c =
-    let few = count_few c.args.found.now c.in-Ok.count c.in-Ok.is c.requires.count in
-    (omega (arith, c.requires.room), omega (arith, few.0))
-
 pub push_literals-requires : goal.push_literals-requires
 push_literals-requires c =
     let few = count_few c.args.found.now c.in-Ok.count c.in-Ok.is c.requires.count in

@@ -1,29 +1,13 @@
--- `units::PotentialGroup::last_square` meets its contract: no cell from i on is a square of the group, so that the last below i is the last of all.
+-- `units::PotentialGroup::last_square` meets its contract: the cells from behind, and the first of them that passes.
 -- Assumes nothing.
-use mathlib.Core.Path.{◌≡◌, refl, sym, ◌∙◌}
-use Prim.Native.Nat.{◌+◌, ◌-◌}
-use native.Mathlib.Omega.{arith}
-use Rattle.grid.specs.Lists.{filter, last, range, upto}
-use Rattle.units.proofs.Boundary.{last_hit, last_miss}
+use Rattle.std.proofs.Common.{rules, tests, true, false, ◌≡◌, ◌*◌}
+use Rattle.std.proofs.lemmas.Iterator.{first_from_find}
+use Rattle.units.specs.Inside.{has_square}
+use Rattle.units.proofs.Sides.{last_found, YieldsList-from_rev}
 use Rattle.units.proofs.PotentialGroup.last_square.Goals as goal
-use Rattle.units.proofs.PotentialGroup.last_square.Invariants.{test}
-
-pub returns-then-has_square : goal.returns-then-has_square
-returns-then-has_square c =
-    let s = c.args.self.now in
-    let t = test s.cells.now s.labels.now s.name in
-    let e : c.loop-i.i - 1 + 1 ≡ c.loop-i.i = omega (arith, c.loop-i-test.true) in
-    sym (c.loop-i.invariant ∙ (rw e at (last_hit t (c.loop-i.i - 1) (sym c.has_square.ensures ∙ c.if-has_square.true))))
-
-pub loop-i-preserved : goal.loop-i-preserved
-loop-i-preserved c =
-    let s = c.args.self.now in
-    let t = test s.cells.now s.labels.now s.name in
-    let e : c.loop-i.i - 1 + 1 ≡ c.loop-i.i = omega (arith, c.loop-i-test.true) in
-    c.loop-i.invariant ∙ (rw e at (last_miss t (c.loop-i.i - 1) (sym c.has_square.ensures ∙ c.if-has_square.false)))
 
 pub returns : goal.returns
-unfolding filter last range upto
 returns c =
-    let e : c.loop-i.i ≡ 0 = omega (arith, c.loop-i-test.false) in
-    sym (c.loop-i.invariant ∙ rw e refl)
+    let s = c.args.self.now in
+    last_found (has_square s) (s.grid.height * s.grid.width) _
+    (first_from_find _ _ _ (λ k. has_square s k ≡ true) (λ k. has_square s k ≡ false) c.find.ensures.ran (YieldsList-from_rev (s.grid.height * s.grid.width) (search rules)) (λ x q k. search (rules, tests)) (λ x q k. search (rules, tests)))

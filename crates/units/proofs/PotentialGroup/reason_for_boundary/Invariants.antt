@@ -9,7 +9,7 @@ use Rattle.grid.specs.Lists.{any, filter, upto}
 use Rattle.grid.specs.Grid.{Grid, neighbours}
 use Rattle.grid.specs.Side.{sized}
 use Rattle.literals.specs.Literals.{each}
-use Rattle.literals.specs.Inside.{Wrote}
+use Rattle.literals.specs.Held.{Holds}
 use Rattle.units.proofs.PotentialGroup.reason_for_boundary.Given as goal
 
 -- cell i is empty and touches the group named f
@@ -18,4 +18,4 @@ test cells labels g f i = eqb (get_or cells i 0) 0 && any (λ j. eqb (get_or lab
 
 -- the empty cells below i that touch the group are written
 abbrev pub invariant-loop-i : goal.invariant-loop-i
-invariant-loop-i l = Wrote (each 0 (filter (test l.self.cells.now l.self.labels.now (sized l.self.grid.height l.self.grid.width) l.self.name) (upto l.i))) l.initial.buffer l.buffer l.count
+invariant-loop-i l = Holds l.initial.boundary.out (each 0 (filter (test l.self.cells.now l.self.labels.now (sized l.self.grid.height l.self.grid.width) l.self.name) (upto l.i))) l.boundary

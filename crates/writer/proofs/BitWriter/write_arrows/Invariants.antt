@@ -1,7 +1,6 @@
 -- What holds at each turn of the loop of `writer::BitWriter::write_arrows`.
 -- Assumes nothing.
 use Prim.Native.Nat.{◌+◌, ◌*◌}
-use mathlib.Core.Path.{◌≡◌}
 use lib.ListN.{take}
 use Rattle.grid.specs.Lists.{flat_map}
 use Rattle.grid.specs.Side.{sized}
@@ -11,8 +10,7 @@ use Rattle.record.specs.Write.{arrow_bits}
 use Rattle.writer.specs.Wrote.{Appends}
 use Rattle.writer.proofs.BitWriter.write_arrows.Given as goal
 
--- the arrows so far are written, and the next one starts at `from`
-abbrev pub invariant-loop-end : goal.invariant-loop-end
-invariant-loop-end l =
-    (l.from ≡ start_at l.problem.ends l.end-index)
-    × Appends (18 * l.end-index + 2 * l.from) (flat_map (arrow_bits (sized l.problem.height l.problem.width)) (arrows_from l.problem.arrows 0 (take l.end-index l.problem.ends))) l.initial.self l.self
+-- the first k arrows are written
+abbrev pub invariant-loop-k : goal.invariant-loop-k
+invariant-loop-k l =
+    Appends (18 * l.k + 2 * start_at l.problem.ends l.k) (flat_map (arrow_bits (sized l.problem.height l.problem.width)) (arrows_from l.problem.arrows 0 (take l.k l.problem.ends))) l.initial.self l.self

@@ -20,30 +20,30 @@ returns-then-output-n-clause-told c =
     (certain_short (leaf_of a.leaf.now) a.self.now.decisions.now a.self.now.budget (length a.output.now) (rw (c.size-n.ensures.value, c.grid-grid.ensures.0, c.grid-grid.ensures.1) at c.if-output-n.true))
     refl
 
-pub decide_in_order-requires-clause-some : goal.decide_in_order-requires-clause-some
-decide_in_order-requires-clause-some c = rw (c.grid-grid.ensures.0, c.grid-grid.ensures.1) (formed_some c.args.leaf.now.problem.now c.requires)
+pub decide_in_order-requires : goal.decide_in_order-requires
+decide_in_order-requires c = rw (c.grid-grid.ensures.0, c.grid-grid.ensures.1) (formed_some c.args.leaf.now.problem.now c.requires)
 
-pub returns-in_err-decide_in_order-clause-told : goal.returns-in_err-decide_in_order-clause-told
+pub returns-in_err-cells-clause-told : goal.returns-in_err-cells-clause-told
 unfolding puzzle_of grid_of size
-returns-in_err-decide_in_order-clause-told c =
+returns-in_err-cells-clause-told c =
     let a = c.args in
     Tells-refused _ _ _ a.output.now
     (certain_refused (leaf_of a.leaf.now) a.self.now.decisions.now a.self.now.budget (length a.output.now) (rw (c.size-n.ensures.value, c.grid-grid.ensures.0, c.grid-grid.ensures.1) at c.if-output-n.false)
-    (unmade_on a.leaf.now c.grid-grid.ensures a.self.now.decisions.now c.in_err-decide_in_order.ensures))
-    (returned_fault c.from_residual.result c.in_err-decide_in_order.field-0.0 c.from_residual.ensures.1)
+    (unmade_on a.leaf.now c.grid-grid.ensures a.self.now.decisions.now c.in_err-cells.ensures))
+    (returned_fault c.from_residual.result c.in_err-cells.field-0.0 c.from_residual.ensures.1)
 
 pub certain_cells-facts-requires-clause-states : goal.certain_cells-facts-requires-clause-states
 unfolding size
 certain_cells-facts-requires-clause-states c =
     left_States (sized c.grid-grid.result.height c.grid-grid.result.width) c.args.self.now.decisions.now (rw (c.grid-grid.ensures.0, c.grid-grid.ensures.1) (formed_few c.args.leaf.now.problem.now c.requires))
-    c.in_ok-decide_in_order.ensures
+    c.in_ok-cells.ensures
 
 pub returns-clause-told : goal.returns-clause-told
 unfolding puzzle_of grid_of size
 returns-clause-told c =
     let a = c.args in
     let q = a.leaf.now.problem.now in
-    let made = made_on a.leaf.now c.grid-grid.ensures a.self.now.decisions.now c.in_ok-decide_in_order.ensures in
+    let made = made_on a.leaf.now c.grid-grid.ensures a.self.now.decisions.now c.in_ok-cells.ensures in
     Tells-said (q.height * q.width) (facts_as c.certain_cells-facts.result) _ c.certain_cells-facts.ensures.facts a.output.now
     (certain_done (leaf_of a.leaf.now) a.self.now.decisions.now a.self.now.budget (length a.output.now) (rw (c.size-n.ensures.value, c.grid-grid.ensures.0, c.grid-grid.ensures.1) at c.if-output-n.false) made)
     (rw (← c.grid-grid.ensures.0, ← c.grid-grid.ensures.1, ← c.size-n.ensures.value) (c.write_certain.ensures.number, c.write_certain.ensures.bytes))

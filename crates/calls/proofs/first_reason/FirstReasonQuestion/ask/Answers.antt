@@ -20,16 +20,16 @@ returns-then-output-size-clause-told c =
     let a = c.args in
     refused_told a.output.now (output_short (leaf_of a.leaf.now) a.self.now.decisions.now (length a.output.now) (rw (c.size.ensures.value, c.grid-grid.ensures.0, c.grid-grid.ensures.1) at c.if-output-size.true))
 
-pub decide_in_order-requires-clause-some : goal.decide_in_order-requires-clause-some
-decide_in_order-requires-clause-some c = rw (c.grid-grid.ensures.0, c.grid-grid.ensures.1) (formed_some c.args.leaf.now.problem.now c.requires)
+pub decide_in_order-requires : goal.decide_in_order-requires
+decide_in_order-requires c = rw (c.grid-grid.ensures.0, c.grid-grid.ensures.1) (formed_some c.args.leaf.now.problem.now c.requires)
 
-pub returns-in_err-decide_in_order-clause-told : goal.returns-in_err-decide_in_order-clause-told
+pub returns-in_err-cells-clause-told : goal.returns-in_err-cells-clause-told
 unfolding puzzle_of grid_of size
-returns-in_err-decide_in_order-clause-told c =
+returns-in_err-cells-clause-told c =
     let a = c.args in
     let t = refused_told a.output.now (decisions_refused (leaf_of a.leaf.now) a.self.now.decisions.now (length a.output.now) (rw (c.size.ensures.value, c.grid-grid.ensures.0, c.grid-grid.ensures.1) at c.if-output-size.false)
-    (unmade_on a.leaf.now c.grid-grid.ensures a.self.now.decisions.now c.in_err-decide_in_order.ensures)) in
-    (returned_fault c.from_residual.result c.in_err-decide_in_order.field-0.0 c.from_residual.ensures.1 ∙ t.0, t.1)
+    (unmade_on a.leaf.now c.grid-grid.ensures a.self.now.decisions.now c.in_err-cells.ensures)) in
+    (returned_fault c.from_residual.result c.in_err-cells.field-0.0 c.from_residual.ensures.1 ∙ t.0, t.1)
 
 pub write_numbers-requires : goal.write_numbers-requires
 unfolding puzzle_of grid_of size
@@ -42,7 +42,7 @@ pub returns-in-None-clause-told : goal.returns-in-None-clause-told
 unfolding puzzle_of grid_of size
 returns-in-None-clause-told c =
     let a = c.args in
-    let made = made_on a.leaf.now c.grid-grid.ensures a.self.now.decisions.now c.in_ok-decide_in_order.ensures in
+    let made = made_on a.leaf.now c.grid-grid.ensures a.self.now.decisions.now c.in_ok-cells.ensures in
     told_as a.output.now (decisions_done (leaf_of a.leaf.now) a.self.now.decisions.now (length a.output.now) (rw (c.size.ensures.value, c.grid-grid.ensures.0, c.grid-grid.ensures.1) at c.if-output-size.false) made)
     (none_told a.output.now (nothing_found (find_reason (leaf_of a.leaf.now) _) (rw c.in-None.is at c.find_inconsistency.ensures)).0)
 
@@ -50,7 +50,7 @@ pub returns-in-Some-clause-told : goal.returns-in-Some-clause-told
 unfolding puzzle_of grid_of size
 returns-in-Some-clause-told c =
     let a = c.args in
-    let made = made_on a.leaf.now c.grid-grid.ensures a.self.now.decisions.now c.in_ok-decide_in_order.ensures in
+    let made = made_on a.leaf.now c.grid-grid.ensures a.self.now.decisions.now c.in_ok-cells.ensures in
     let literals = some_Literals a.leaf.now _ (rw c.in-Some.is at c.find_inconsistency.ensures) in
     let t = Literals-told a.output.now literals.0 in
     told_as a.output.now (decisions_done (leaf_of a.leaf.now) a.self.now.decisions.now (length a.output.now) (rw (c.size.ensures.value, c.grid-grid.ensures.0, c.grid-grid.ensures.1) at c.if-output-size.false) made)

@@ -2,9 +2,8 @@
 -- Assumes nothing.
 use native.Mathlib.Omega.{arith}
 use Rattle.grid.specs.Side.{sized}
-use Rattle.grid.proofs.SideLaws.{cell_small}
-use Rattle.grid.proofs.AroundLaws.{side_cell, side_at, side_off, sides_none, sides_all}
-use Rattle.reach.proofs.Counting.{cell_of}
+use Rattle.grid.proofs.SideLaws.{cell_of}
+use Rattle.grid.proofs.AroundLaws.{side_at, side_off, sides_none, sides_all}
 use Rattle.reach.proofs.NearLaws.{float_none, float_more, float_beside}
 use Rattle.reach.proofs.near.Floats.list_floats_beside.Goals as goal
 use Rattle.reach.proofs.near.Floats.list_floats_beside.Goals.{in-Some, in_default}
@@ -17,7 +16,7 @@ loop-k-init c =
 
 pub list_float-total-requires : goal.list_float-total-requires
 list_float-total-requires c = record {
-  cell = cell_small (side_cell (cell_of c.args.info.now.grid c.args.i c.requires.cell) c.loop-k.k c.toward.result c.toward.ensures _ c.in-Some.is);
+  cell = c.in-Some.ensures.small;
   listing = record { test = _; so_far = c.loop-k.invariant c.requires.listing.test c.requires.listing.so_far };
 }
 
@@ -27,9 +26,9 @@ loop-k-preserved c =
     let i = cell_of a.grid c.args.i c.requires.cell in
     let P = Passed a.kinds.now a.owners.now c.args.self.now c.args.count c.match-toward.self c.match-toward.total in
     λ t. elim c.match-toward.branch [
-      | in-Some v ↦ side_at i c.loop-k.k c.toward.result c.toward.ensures (P t) _ v.in-Some.is
+      | in-Some v ↦ side_at i c.loop-k.k c.toward.result c.toward.ensures.neighbour (P t) _ v.in-Some.is
           (λ L. rw (v.self-is, v.total-is) (float_more a.kinds.now a.owners.now t _ _ (v.list_float-total.ensures _ (c.loop-k.invariant t L))))
-      | in_default v ↦ side_off i c.loop-k.k c.toward.result c.toward.ensures (P t) v.in_default.is
+      | in_default v ↦ side_off i c.loop-k.k c.toward.result c.toward.ensures.neighbour (P t) v.in_default.is
           (λ L. rw (v.self-is, v.total-is) (c.loop-k.invariant t L))
     ]
 
