@@ -143,7 +143,7 @@ int32_t evolmino_find(const uint8_t *record, size_t record_len,
  * square, the block rules hold, and two squares or more stand on every arrow. Decisions and pointers are as for evolmino_find.
  *
  * Returns 1 for yes, 0 for no, or the negated number of a refusal: the record's 1 to 5, then for each decision in turn 12, 7, 9, and 12 for a
- * single byte that is left over. It keeps nothing either, and takes up to about 45 kilobytes of stack.
+ * single byte that is left over. It keeps nothing either, and takes up to about 50 kilobytes of stack.
  */
 int32_t evolmino_finished(const uint8_t *record, size_t record_len,
                           const uint8_t *decisions, size_t decisions_len);
@@ -157,7 +157,7 @@ int32_t evolmino_finished(const uint8_t *record, size_t record_len,
  * Returns the number of bytes written, which are the output's first, or the negated number of a refusal: the record's 1 to 5, then 13. Bytes
  * behind the sheet are unchanged, and all of them after a refusal. EVOLMINO_SHEET bytes are enough for every record; most sheets are far shorter, so
  * that a caller may also begin with less and lend more as long as 13 is returned. Pointers are as for evolmino_find. It keeps nothing either, and
- * takes up to about 20 kilobytes of stack.
+ * takes up to about 30 kilobytes of stack.
  */
 int32_t evolmino_clauses(const uint8_t *record, size_t record_len,
                          uint8_t *output, size_t output_len);
@@ -201,7 +201,7 @@ int32_t evolmino_certain(const uint8_t *record, size_t record_len,
  * end inside a range, or have a range that starts at 0, is upside down, sits off an arrow or does not rise above the cell before it; 11 for an
  * output shorter than 2 * (3 * height * width + 1) bytes; then for each decision in turn 12, 7, 9, and 12 for a single byte that is left over. In
  * edition 1 and without sizes it is evolmino_find. Pointers are as there, and the output does not overlap the sizes either. It keeps nothing
- * either, and takes up to about 105 kilobytes of stack.
+ * either, and takes up to about 125 kilobytes of stack.
  */
 int32_t evolmino_find_with(const uint8_t *record, size_t record_len,
                            uint32_t edition,
@@ -214,7 +214,7 @@ int32_t evolmino_find_with(const uint8_t *record, size_t record_len,
  *
  * Returns 1 for yes, 0 for no, or the negated number of a refusal, in this order: the record's 1 to 5, 16, 22, then for each decision in turn 12,
  * 7, 9, and 12 for a single byte that is left over. In edition 1 and without sizes it is evolmino_finished. With no decisions it tells whether a
- * leaf can be opened. It keeps nothing either, and takes up to about 45 kilobytes of stack.
+ * leaf can be opened. It keeps nothing either, and takes up to about 60 kilobytes of stack.
  */
 int32_t evolmino_finished_with(const uint8_t *record, size_t record_len,
                                uint32_t edition,
@@ -272,7 +272,7 @@ int32_t evolmino_join(const uint8_t *left, size_t left_len,
  * byte that is not zero: a whole byte behind it belongs to what follows. The output's first byte is the grade, 0 to 7; one byte follows for each
  * cell in row order, 1 for a square and 0 for empty. Bytes behind those written are unchanged. The pointers are not null, also where a length is
  * 0, and the output does not overlap the file. The call keeps nothing and may be made from any thread, also from several at once; it takes up to
- * about 45 kilobytes of stack.
+ * about 50 kilobytes of stack.
  */
 int32_t evolmino_setter_file(const uint8_t *file, size_t file_len, uint32_t edition,
                              uint8_t *output, size_t output_len);
@@ -282,7 +282,7 @@ int32_t evolmino_setter_file(const uint8_t *file, size_t file_len, uint32_t edit
  *
  * Returns the record's length in bytes, or the negated number of a refusal, which changes no byte: the record's 1 to 5, as for
  * evolmino_setter_file, then 11 for an output without a byte, and last 20. The output's first byte is the grade, 0 to 7. Bytes behind it are
- * unchanged. Pointers are as for evolmino_setter_file. It keeps nothing either, and takes up to about 20 kilobytes of stack.
+ * unchanged. Pointers are as for evolmino_setter_file. It keeps nothing either, and takes up to about 25 kilobytes of stack.
  */
 int32_t evolmino_player_file(const uint8_t *file, size_t file_len,
                              uint8_t *output, size_t output_len);
@@ -296,7 +296,7 @@ int32_t evolmino_player_file(const uint8_t *file, size_t file_len,
  * not 1 or 2, then 22 for sizes as evolmino_find_with refuses them. What stands in the memory before does not matter, but it is memory that may be
  * read: set it to zero once, as by static or memset. The pointers are not null, also where a length is 0, and the board does not overlap the record
  * or the sizes. Each call for a board may be made from any thread, and from several at once on different boards, those that take a const board also on
- * the same one; none keeps anything but what is in the board. The others write the board's memory also where they refuse, with what stood in it. It
+ * the same one; none keeps anything but what is in the board. The others may write the board's memory also where they refuse, with what stood in it. It
  * takes up to about 30 kilobytes of stack.
  */
 int32_t evolmino_board_open(const uint8_t *record, size_t record_len,
@@ -307,14 +307,14 @@ int32_t evolmino_board_open(const uint8_t *record, size_t record_len,
 /* Decides a cell: value 1 for a square, 0 for empty. Black and given cells do not bind it.
  *
  * Returns 0, or the negated number of a refusal, which changes no byte: 6 for a board that no list of calls could leave, then 7 for an index that is
- * height * width or more, then 8 for a value above 1, and last 9 for a cell that is decided already. It takes up to about 45 kilobytes of stack.
+ * height * width or more, then 8 for a value above 1, and last 9 for a cell that is decided already. It takes up to about 5 kilobytes of stack.
  */
 int32_t evolmino_board_decide(struct evolmino_board *board, size_t index, uint8_t value);
 
 /* Takes the latest decision back, and leaves nothing of it.
  *
  * Returns 0, or the negated number of a refusal, which changes no byte: 6 for a board that no list of calls could leave, then 10 where no decision
- * stands. It takes up to about 45 kilobytes of stack.
+ * stands. It takes up to about 5 kilobytes of stack.
  */
 int32_t evolmino_board_undo(struct evolmino_board *board);
 
@@ -324,14 +324,14 @@ int32_t evolmino_board_undo(struct evolmino_board *board);
  * Returns the number of literals, which stand at the buffer's front, 0 where no reason applies, or the negated number of a refusal, which changes
  * neither the board nor the buffer: 6 for a board that no list of calls could leave, then 17 for a player above 3, and last 11 for a buffer of fewer
  * than 3 * height * width + 1 literals. literals_len counts literals. What stands behind the last one is unchanged. The pointers are not null, also
- * where a length is 0, and the buffer does not overlap the board. It takes up to about 125 kilobytes of stack.
+ * where a length is 0, and the buffer does not overlap the board. It takes up to about 90 kilobytes of stack.
  */
 int32_t evolmino_board_find(struct evolmino_board *board, uint8_t player,
                             uint16_t *literals, size_t literals_len);
 
 /* Tells whether the board is finished, by the rules of its edition and with its sizes, as evolmino_finished_with does.
  *
- * Returns 1 for yes, 0 for no, or -6 for a board that no list of calls could leave. The board is unchanged. It takes up to about 55 kilobytes of
+ * Returns 1 for yes, 0 for no, or -6 for a board that no list of calls could leave. The board is unchanged. It takes up to about 45 kilobytes of
  * stack.
  */
 int32_t evolmino_board_finished(const struct evolmino_board *board);
@@ -349,7 +349,7 @@ int32_t evolmino_board_certain(const struct evolmino_board *board,
 /* Tells how many hints a player took, 0 to 3: the finds of that player that were accepted since the board was opened, or 65535 where they are more.
  *
  * Returns the count, or the negated number of a refusal: 6 for a board that no list of calls could leave, then 17 for a player above 3. The board is
- * unchanged. It takes up to about 30 kilobytes of stack.
+ * unchanged. It takes up to about 5 kilobytes of stack.
  */
 int32_t evolmino_board_hints(const struct evolmino_board *board, uint8_t player);
 
@@ -365,7 +365,7 @@ int32_t evolmino_board_hints(const struct evolmino_board *board, uint8_t player)
  *
  * Returns 1, or the negated number of a refusal: 1 to 5 for the record, then 16, then 22, then 23 to 25, then for each step in turn 26 to 29, and
  * last 30. Nothing is written. The pointers are not null, also where a length is 0. It keeps nothing, and takes up to
- * about 105 kilobytes of stack.
+ * about 115 kilobytes of stack.
  */
 int32_t evolmino_unique(const uint8_t *record, size_t record_len,
                         uint32_t edition,

@@ -3,14 +3,18 @@
 import re, sys, glob, os, itertools, collections, difflib
 root = sys.argv[1]; want = sys.argv[2] if len(sys.argv) > 2 else 'all'
 files = sorted(glob.glob(root + '/crates/*/src/*.rt'))
-FN = re.compile(r'^( *)(pub )?(?:extern "C" )?fn (\w+)(<[^>(]*>)?\(', re.M)
+FN = re.compile(r'^( *)(pub )?(?:extern "C" )?fn (\w+)(?=[<(])', re.M)
+def behind_generics(t, i):  # type parameters may have brackets of their own, and `->`
+    d = t[i] == '<'
+    while d: i += 1; d += {'<': 1, '>': -1}.get(t[i], 0) if t[i-1:i+1] != '->' else 0
+    return i + 1 if t[i] == '>' else i
 fns = []  # crate, file, line, name, pub, params, head, body
 for f in files:
     t = open(f).read(); crate = f.split('/crates/')[1].split('/')[0]
     for m in FN.finditer(t):
-        i = m.end(); d = 1
+        p = i = behind_generics(t, m.end()) + 1; d = 1
         while d: d += {'(': 1, ')': -1}.get(t[i], 0); i += 1
-        ps = t[m.end():i-1]; parts = []; d = 0; cur = ''
+        ps = t[p:i-1].replace('->', '→'); parts = []; d = 0; cur = ''
         for ch in ps:
             if ch in '([<{': d += 1
             if ch in ')]>}': d -= 1
@@ -82,7 +86,9 @@ if sec('p3'):
     print('  ', dict(tot), 'in all', sum(tot.values()))
     fo = [x for x in fns if re.search(r'for k in 0\.\.4', x['body'])]
     print('   loops over the four directions', len(fo), ', '.join(loc(x) for x in fo))
-    fi = sum(len(re.findall(r'for \w+ in 0\.\.', x['body'])) for x in fns); print('   for over a range', fi)
+    # Of what a loop is over, brackets of an index are left out: a range in them takes a part of a slice.
+    over = [(x, re.sub(r'\[[^\]]*\]', '', o)) for x in fns for o in re.findall(r'\bfor [^{\n]+? in ([^{\n]*\.\.[^{\n]*) \{', re.sub(r'//[^\n]*', '', x['body']))]
+    other = [loc(x) for x, o in over if '..' in o and o != '0..4']; print('   other for over a range', len(other), ', '.join(other))
 if sec('p4'):
     print('P4 equality, conversion, printing by hand')
     g = dict(equality=r'differ|same|boards_differ', convert=r'^(wide|byte|kind_code|kind_owner|number|negated|counted|answer_number|finding_number|verdict_number|finished_number|edition_of|is_edition|read_code|refused|expected_number|literal|word|cell_code|direction|verdict_number|right|number_at|record_length|one_if)$', printing=r'^(write_|put|last_digit|print|hand_over|respond|write)')

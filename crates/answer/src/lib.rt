@@ -37,7 +37,8 @@ fn parts(input: &[u8]) -> Result<(&[u8], &[u8]), Refusal>
         .ok_or(Refusal::RecordEnds)
 }
 
-// Takes the input apart and calls the host call, with an output that is long enough for every record.
+// Takes the input apart and calls the host call, with an output that is long enough for every record. A number of a refusal, and no `Refusal`: it is read from what the
+// host call returns, and the text is defined for each.
 fn find_in(input: &[u8], found: &mut [u8; FOUND]) -> Result<usize, usize>
     ensures told { result ≡ told_by (returned (program_finds input.now)) }
     ensures found { found.new ≡ output_after (program_finds input.now) found.old }

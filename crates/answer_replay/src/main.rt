@@ -12,6 +12,7 @@ use replay::{Cursor, Entries, Run};
 use std::io;
 
 // Whether the answer to the input differs from the next `count` bytes of the list, or something is written behind them.
+// No `==`: a text and the room behind it are held against bytes of a list.
 fn answer_differs(input: &[u8], count: usize, said: Cursor<'_>) -> bool
     ensures { DiffersUnless result (AnswersSo input.now said.entry.list.now said.entry.at count) }
 {

@@ -30,9 +30,9 @@ module _ (n count : ℕ) (order cells : List ℕ) where
   unfolding ordered
   decisions_many e = simp (lt-leb count 1024 e)
 
-  pub decisions_twice : false ≡ fresh n [] (take count order) → false ≡ decisions_formed
+  pub decisions_twice : fresh n [] (take count order) ≡ false → false ≡ decisions_formed
   unfolding ordered
-  decisions_twice e = simp (← e, and-false)
+  decisions_twice e = simp (e, and-false)
 
   pub decisions_zeros : false ≡ behind 0 count order → false ≡ decisions_formed
   unfolding ordered
@@ -42,9 +42,9 @@ module _ (n count : ℕ) (order cells : List ℕ) where
   unfolding stated
   decisions_shown e = simp (← e, and-false)
 
-  pub decisions_are : count ≤ 1024 → true ≡ fresh n [] (take count order) → true ≡ behind 0 count order → true ≡ all (shown (take count order) cells) (upto n) → behind 2 n cells ≡ decisions_formed
+  pub decisions_are : count ≤ 1024 → fresh n [] (take count order) ≡ true → true ≡ behind 0 count order → true ≡ all (shown (take count order) cells) (upto n) → behind 2 n cells ≡ decisions_formed
   unfolding ordered stated
-  decisions_are few f z s = simp (le-leb count 1024 few, ← f, ← z, ← s)
+  decisions_are few f z s = simp (le-leb count 1024 few, f, ← z, ← s)
 
 -- for the test of a board's decisions, a law for each way out
 pub ruleset decision_tests = (decisions_many, decisions_twice, decisions_zeros, decisions_shown, decisions_are)

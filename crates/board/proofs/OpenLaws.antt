@@ -1,4 +1,4 @@
--- What open answers: the reader's refusal, 16, 22, or a board of the problem with nothing decided.
+-- What open answers: the reader's refusal, 16, 22, or a board of the problem with nothing decided; and what it leaves of the board that was there.
 -- Assumes nothing.
 use Prim.Native.Nat.{ℕ, zero, suc, ◌+◌, ◌-◌, ◌≤◌}
 use native.Mathlib.Omega.{arith}
@@ -10,7 +10,7 @@ use Rattle.grid.specs.Lists.{range, upto, array_of}
 use Rattle.grid.specs.Grid.{Grid, size, cells_of}
 use Rattle.record.specs.Record.{Puzzle, Outcome, ok, refused, read_record}
 use Rattle.record.specs.Leaf.{Range, Leaf, leaf_with, is_edition, sizes_of}
-use Rattle.record.specs.Problem.{problem_of}
+use Rattle.record.specs.Problem.{problem_of, Answer, Done, Refused}
 use Rattle.record.specs.declared.Problem.{Problem}
 use Rattle.record.proofs.RecordLaws.{record_Valid, Valid-size}
 use Rattle.record.proofs.LeafLaws.{ok_leaf, leaf_refused, leaf_16, leaf_sizes}
@@ -18,7 +18,7 @@ use Rattle.sizes.specs.Kept.{lowest_of, highest_of}
 use Rattle.sizes.specs.Inside.{Drawn}
 use Rattle.sizes.proofs.DrawnLaws.{problem_Drawn}
 use Rattle.board.specs.declared.Board.{Board}
-use Rattle.board.specs.Answers.{opened_as}
+use Rattle.board.specs.Answers.{told, opened_as, done_as, opened_over, after_open}
 use Rattle.board.specs.Board.{value_at, cells_after}
 use Rattle.board.specs.Kept.{no_hints, board_of, opening, open_of}
 use Rattle.board.specs.Inside.{fresh_of}
@@ -67,3 +67,30 @@ module _ (s : List ℕ) (e : ℕ) (ns : List ℕ) where
           → ok (fresh_of q e low high) ≡ opened_as (open_of s e ns)
       unfolding open_of opening
       open_fresh {rs} z a l u = rw (a, l, u, ok_leaf s e ns p rs r h z) (ap {B = Outcome Board} ok (fresh_leaf (leaf_with e rs p) (Valid-size (record_Valid s r))))
+
+-- what is opened over a board, by the outcome
+module _ (was : Board) (s : List ℕ) (e : ℕ) (ns : List ℕ) where
+  pub opened_done : {b : Board} → ok b ≡ opened_as (open_of s e ns) → (ok tt ≡ done_as (open_of s e ns).answer) × (b ≡ after_open was (open_of s e ns))
+  unfolding after_open opened_over
+  opened_done {b} h = go (open_of s e ns).answer (open_of s e ns).board h
+    where
+      go : (a : Answer) (o : Board) → ok b ≡ told a o → (ok tt ≡ done_as a) × (b ≡ opened_over a was o)
+      go Done o x = (refl, cc)
+      go (Refused k) o x = let z : ◌≡◌ {A = ℕ} 0 1 = cc in absurd (omega arith)
+
+  pub opened_refused : {k : ℕ} → refused k ≡ opened_as (open_of s e ns) → (refused k ≡ done_as (open_of s e ns).answer) × (was ≡ after_open was (open_of s e ns))
+  unfolding after_open opened_over
+  opened_refused {k} h = go (open_of s e ns).answer (open_of s e ns).board h
+    where
+      go : (a : Answer) (o : Board) → refused k ≡ told a o → (refused k ≡ done_as a) × (was ≡ opened_over a was o)
+      go Done o x = let z : ◌≡◌ {A = ℕ} 0 1 = cc in absurd (omega arith)
+      go (Refused j) o x = let z : j ≡ k = cc in (rw z refl, refl)
+
+  -- and the other way, for the board by value
+  pub done_opened : {b : Board} → ok tt ≡ done_as (open_of s e ns).answer → b ≡ after_open was (open_of s e ns) → ok b ≡ opened_as (open_of s e ns)
+  unfolding after_open opened_over
+  done_opened {b} h = go (open_of s e ns).answer (open_of s e ns).board h
+    where
+      go : (a : Answer) (o : Board) → ok tt ≡ done_as a → b ≡ opened_over a was o → ok b ≡ told a o
+      go Done o x y = rw y refl
+      go (Refused k) o x y = let z : ◌≡◌ {A = ℕ} 0 1 = cc in absurd (omega arith)

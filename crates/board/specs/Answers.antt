@@ -30,3 +30,12 @@ opened_as o = told o.answer o.board
 
 abbrev pub decided_as : Decided → Outcome Board
 decided_as d = told d.answer d.board
+
+-- the board that is left where open has this answer: the one that it opens, or after a refusal the one that was there
+unfoldable pub opened_over : Answer → Board → Board → Board
+opened_over Done was opened = opened
+opened_over (Refused k) was opened = was
+
+-- what open leaves in the memory of the board that was there
+unfoldable pub after_open : Board → Opened → Board
+after_open was o = opened_over o.answer was o.board

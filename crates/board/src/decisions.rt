@@ -30,7 +30,7 @@ fn all_right(cells: &[u8; 1024], marks: &[u8; 1024], n: usize) -> bool
 
 // Whether the states of the n cells and the order of the decisions agree. It is lent the arrays and not the board: behind a call that is lent the whole board
 // `is_formed` no longer knows that the counts of hints are of 16 bits.
-#[tactic(auto, using(form::proofs::Verdicts::zeros_blank, crate::proofs::DecisionLaws::decision_tests))]
+#[tactic(auto, using(crate::proofs::DecisionLaws::decision_tests))]
 pub fn good_decisions(n: usize, decided: usize, cells: &[u8; 1024], order: &[u16; 1024]) -> bool
     requires { n ≤ 1024 }
     ensures { result ≡ (ordered n decided order.now && stated n (take decided order.now) cells.now) }
@@ -38,9 +38,8 @@ pub fn good_decisions(n: usize, decided: usize, cells: &[u8; 1024], order: &[u16
     if 1024 < decided {
         return false;
     }
-    let mut marks = [0; 1024];
-    form::mark(&mut marks, &order[..decided], n)
-        && form::zeros(order, decided)
-        && all_right(cells, &marks, n)
-        && form::filled(cells, n, UNDECIDED)
+    let Some(marks) = form::mark(&order[..decided], n) else {
+        return false;
+    };
+    form::zeros(order, decided) && all_right(cells, &marks, n) && form::filled(cells, n, UNDECIDED)
 }

@@ -8,14 +8,14 @@ ghost use Rattle.std.specs.Prelude.{◌≡◌, true, false, ℕ, ◌≤◌, ◌<
 ghost use Rattle.grid.specs.Grid.{size};
 ghost use Rattle.record.specs.Problem.{grid_of};
 ghost use Rattle.refusal.specs.Refusals.{outcome_of};
-ghost use Rattle.board.specs.Answers.{opened_as, decided_as, done_as};
-ghost use Rattle.board.specs.Kept.{open_of, leaf_on};
+ghost use Rattle.board.specs.Answers.{opened_as, decided_as, done_as, after_open};
+ghost use Rattle.board.specs.Kept.{open_of, blank_board, leaf_on};
 ghost use Rattle.sizes.specs.LeafOf.{leaf_of};
 ghost use Rattle.refusal.specs.declared.Refusal.TheVariants as refusals;
 ghost use Rattle.board.specs.Form.{well_formed};
 ghost use Rattle.board.specs.Decide.{with_decisions, decide_of, undo_of, decide_all_of, placed_from};
 ghost use Rattle.board.specs.Hints.{raised};
-ghost use Rattle.board.specs.Inside.{Placing, Stands, fresh_of, Held, lent_sizes};
+ghost use Rattle.board.specs.Inside.{Placing, Stands, Held, lent_sizes};
 
 use grid::UNDECIDED;
 use record::Problem;
@@ -25,6 +25,7 @@ use sizes::{CellSizes, Edition, LentLeaf, SizeRanges, Words};
 // A problem with its decisions. `edition` is 1, or 2 for free growth; `cells` has the state of each cell (0 empty, 1 square, 2 undecided), with 2 behind the grid;
 // `order` has the decided cells in the order decided, `decided` of them, with 0 behind; `hints` counts for each player, 0 to 3, that
 // player's accepted finds since open, up to 65,535; `lowest` and `highest` have the ends of the range beside each cell, with 0 at a cell that has none.
+// C lends it by these fields, so that the edition is a number, and the order an array with its count.
 #[repr(C)]
 #[derive(Clone, Copy, Debug, PartialEq, Eq)]
 pub struct Board {
@@ -95,23 +96,6 @@ pub fn place_all(
     Ok(())
 }
 
-// A board of the problem in an edition with these sizes, nothing decided and no hint taken.
-fn fresh(problem: Problem, edition: u8, sizes: CellSizes) -> Board
-    ensures { result ≡ fresh_of problem edition sizes.lowest sizes.highest }
-{
-    let CellSizes { lowest, highest } = sizes;
-    Board {
-        problem,
-        edition,
-        cells: [UNDECIDED; Board::CELLS],
-        order: [0; Board::CELLS],
-        decided: 0,
-        hints: [0; Board::PLAYERS],
-        lowest,
-        highest,
-    }
-}
-
 // How many of n cells are lent with their sizes: none on a leaf without sizes, which then pays for none.
 fn lent_sizes(lowest: &[u16; 1024], n: usize) -> usize
     ensures { (result ≡ lent_sizes lowest.now n) × (result ≤ n) }
@@ -138,15 +122,58 @@ impl Board {
     // The most literals that a reason has.
     pub const LITERALS: usize = 3 * Board::CELLS + 1;
 
-    // The fresh board of a record in an edition with sizes: cell, lowest and highest for each, cells rising. Refused: the record's first fault, 1 to 5,
-    // then 16 an edition that is not 1 or 2, then 22 sizes that may not stand.
-    pub fn open(bytes: &[u8], edition: u8, sizes: &[u16]) -> Result<Board, Refusal>
-        ensures { outcome_of result ≡ opened_as (open_of bytes.now edition sizes.now) }
+    // Makes a board that is lent the fresh one of a record in an edition with sizes: cell, lowest and highest for each, cells rising. Refused, which leaves
+    // the board as it was: the record's first fault, 1 to 5, then 16 an edition that is not 1 or 2, then 22 sizes that may not stand.
+    // It writes in place, as `decide_in`, and nothing before all three are read.
+    pub fn open_in(&mut self, bytes: &[u8], edition: u8, sizes: &[u16]) -> Result<(), Refusal>
+        ensures { (outcome_of result ≡ done_as (open_of bytes.now edition sizes.now).answer)
+            × (self.new ≡ after_open self.old (open_of bytes.now edition sizes.now)) }
     {
         let problem = Problem::read(bytes)?;
         let edition = Edition::try_from(edition)?;
-        let sizes = CellSizes::read(&problem, &Words(sizes))?;
-        Ok(fresh(problem, edition.number(), sizes))
+        let CellSizes { lowest, highest } = CellSizes::read(&problem, &Words(sizes))?;
+        self.problem = problem;
+        self.edition = edition.number();
+        self.cells = [UNDECIDED; Board::CELLS];
+        self.order = [0; Board::CELLS];
+        self.decided = 0;
+        self.hints = [0; Board::PLAYERS];
+        self.lowest = lowest;
+        self.highest = highest;
+        Ok(())
+    }
+
+    // The same as a board by value.
+    pub fn open(bytes: &[u8], edition: u8, sizes: &[u16]) -> Result<Board, Refusal>
+        ensures { outcome_of result ≡ opened_as (open_of bytes.now edition sizes.now) }
+    {
+        let mut board = Board::blank();
+        board.open_in(bytes, edition, sizes)?;
+        Ok(board)
+    }
+
+    // The board of no cells, to be written over.
+    #[tactic(auto, unfolding(crate::specs::Kept::blank_board, record::specs::Problem::blank, grid::specs::Lists::array_of))]
+    fn blank() -> Board
+        ensures { result ≡ blank_board }
+    {
+        Board {
+            problem: Problem {
+                height: 0,
+                width: 0,
+                cells: [0; Board::CELLS],
+                arrows: [0; Board::CELLS],
+                ends: [0; Board::CELLS],
+                count: 0,
+            },
+            edition: 1,
+            cells: [UNDECIDED; Board::CELLS],
+            order: [0; Board::CELLS],
+            decided: 0,
+            hints: [0; Board::PLAYERS],
+            lowest: [0; Board::CELLS],
+            highest: [0; Board::CELLS],
+        }
     }
 
     // Whether some list of calls on the board of some record leaves this board. The counts of hints are not asked for: any will do.

@@ -4,7 +4,7 @@ use Prim.Native.Nat.{ℕ, ◌*◌, ◌≤◌, ◌<◌}
 use native.Mathlib.Omega.{arith}
 use mathlib.Core.Path.{◌≡◌, refl, sym, ap, ◌∙◌, subst}
 use mathlib.Core.List.{List, [], ◌++◌}
-use lib.ListN.{length, take, drop}
+use lib.ListN.{length, take, drop, replicate}
 use lib.Seq.{take_at}
 use Rattle.std.specs.Prelude.{Ok}
 use Rattle.grid.specs.Grid.{Grid, size}
@@ -16,7 +16,7 @@ use Rattle.record.specs.Leaf.{Leaf, in_edition}
 use Rattle.record.proofs.RecordLaws.{record_Valid}
 use Rattle.board.specs.Board.{cells_after}
 use Rattle.board.proofs.Standing.{none}
-use Rattle.shades.specs.Shades.{shades_on}
+use Rattle.shades.specs.Shades.{shades_on, in_places}
 use Rattle.shades.proofs.ShadeLaws.{shades_length}
 use Rattle.exported.specs.Written.{bytes_of, Writes}
 use Rattle.exported.proofs.BytesLaws.{bytes_length}
@@ -77,11 +77,12 @@ module _ {s : List ℕ} {h w : ℕ} (m : Measures s h w) where
           rw (q, m.is, m.reads) (call_done need says (in_edition 1 m.puzzle) decisions n (rw measures_size at l) f)
 
 -- the bytes written are those for the board
-pub shades_Writes : (g : Grid) (cells start shades out new : List ℕ) → size g ≤ 1024 → shades ≡ shades_on g cells ++ drop (2 * size g) start
+pub shades_Writes : (g : Grid) (cells shades out new : List ℕ) → size g ≤ 1024 → shades ≡ in_places (shades_on g cells)
     → new ≡ bytes_of (take (2 * size g) shades) ++ drop (2 * (2 * size g)) out → Writes (ok (bytes_of (shades_on g cells))) (Ok (2 * (2 * size g))) out new
-shades_Writes g cells start shades out new k e f =
+unfolding in_places
+shades_Writes g cells shades out new k e f =
     let l : List ℕ = bytes_of (shades_on g cells) in
     let long : length l ≡ 2 * (2 * size g) = bytes_length (shades_on g cells) ∙ ap (λ (n : ℕ). 2 * n) (shades_length g cells) in
-    let t : take (2 * size g) shades ≡ shades_on g cells = ap (take (2 * size g)) e ∙ take_at (shades_on g cells) (drop (2 * size g) start) (2 * size g) (shades_length g cells) in
+    let t : take (2 * size g) shades ≡ shades_on g cells = ap (take (2 * size g)) e ∙ take_at (shades_on g cells) (drop (length (shades_on g cells)) (replicate 2048 0)) (2 * size g) (shades_length g cells) in
     Writes-ok (ok l) out l new (2 * (2 * size g)) refl (sym long) (omega (arith, k))
     (f ∙ ap (λ (m : List ℕ). bytes_of m ++ drop (2 * (2 * size g)) out) t ∙ ap (λ (n : ℕ). l ++ drop n out) (sym long))

@@ -5,7 +5,7 @@ use native.Mathlib.Omega.{arith}
 use mathlib.Core.Path.{◌≡◌, refl, sym, ap, ◌∙◌}
 use mathlib.Core.List.{List, [], ◌++◌}
 use lib.IntN.{ℤ, pos, neg_ℤ}
-use lib.ListN.{length, take, drop, length-append}
+use lib.ListN.{length, take, drop, length-append, length-drop}
 use lib.Seq.{take_at, drop_at, drop-drop, length-take-le}
 use Rattle.std.specs.declared.result.Result.{Result}
 use Rattle.grid.specs.Grid.{Grid, size}
@@ -49,10 +49,15 @@ module _ (n : ℕ) (f : Facts) (out : List ℕ) where
   steps_only e = rw (steps_length f.steps) e
 
   -- the cells are told
-  pub Says-told : {mid new : List ℕ} → f.answer ≡ certainties.Told → n ≤ length f.cells → mid ≡ step_bytes f.steps ++ drop 8 out → new ≡ (take 8 mid ++ take n f.cells) ++ drop (8 + n) mid → Says (pos 0) new
+  pub Says-told : {mid new : List ℕ} → f.answer ≡ certainties.Told → 8 + n ≤ length out → length new ≡ length out → mid ≡ step_bytes f.steps ++ drop 8 out → new ≡ (take 8 mid ++ take n f.cells) ++ drop (8 + n) mid → Says (pos 0) new
   unfolding certainty_number certain_bytes
-  Says-told {mid} {new} e h p q =
-      let long : length (step_bytes f.steps ++ take n f.cells) ≡ 8 + n = simp length-append (omega (arith, steps_length f.steps, length-take-le n f.cells h)) in
+  Says-told {mid} {new} e h same p q =
+      let steps = steps_length f.steps in
+      let middle : length mid ≡ length out = ap length p ∙ length-append (step_bytes f.steps) (drop 8 out) ∙ omega (arith, steps, length-drop 8 out, h) in
+      let parts : length new ≡ length (take 8 mid) + length (take n f.cells) + length (drop (8 + n) mid) =
+      ap length q ∙ length-append (take 8 mid ++ take n f.cells) (drop (8 + n) mid) ∙ ap (λ (k : ℕ). k + length (drop (8 + n) mid)) (length-append (take 8 mid) (take n f.cells)) in
+      let many : length (take n f.cells) ≡ n = omega (arith, parts, same, middle, h, length-take-le 8 mid (omega (arith, middle, h)), length-drop (8 + n) mid) in
+      let long : length (step_bytes f.steps ++ take n f.cells) ≡ 8 + n = simp length-append (omega (arith, steps, many)) in
       let front : take 8 mid ≡ step_bytes f.steps = ap (take 8) p ∙ take_at (step_bytes f.steps) (drop 8 out) 8 (steps_length f.steps) in
       let back : drop (8 + n) mid ≡ drop (8 + n) out =
       sym (drop-drop n 8 mid) ∙ ap (λ (z : List ℕ). drop n (drop 8 z)) p ∙ ap (drop n) (drop_at (step_bytes f.steps) (drop 8 out) 8 (steps_length f.steps)) ∙ drop-drop n 8 out in

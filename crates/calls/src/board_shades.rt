@@ -19,7 +19,8 @@ fn measure(record: &[u8]) -> Result<Grid, Refusal>
     Ok(problem.grid())
 }
 
-// Opens the record in edition 1, decides in order and writes the shades: how many bytes they are. Nothing is tested, as in `first_reason`.
+// Opens the record in edition 1, decides in order and writes the shades: how many bytes they are. Nothing is tested, as in `first_reason`. It is no `Question` of `ask`:
+// that keeps the problem on the stack while it asks, and here its grid alone is wanted.
 fn shade(record: &[u8], decisions: &[u8], output: &mut [u8]) -> Result<usize, Refusal>
     ensures { Writes (host_shades «record».now decisions.now (length output.old)) result output.old output.new }
 {
@@ -29,8 +30,7 @@ fn shade(record: &[u8], decisions: &[u8], output: &mut [u8]) -> Result<usize, Re
         return Err(Refusal::OutputShort);
     }
     let cells = crate::decide_in_order(grid, decisions)?;
-    let mut shades = [0; 2048];
-    shades::shade_cells(grid, &cells, &mut shades);
+    let shades = shades::shade_cells(grid, &cells);
     exported::write_numbers(&shades, count, output);
     Ok(2 * count)
 }

@@ -31,9 +31,9 @@ pub fn write_certain(facts: &Facts, n: usize, output: &mut [u8]) -> usize
     ensures bytes { output.new ≡ output_with (said_bytes (ok (said_of n (facts_as facts.now)))) output.old }
 {
     write_steps(facts.steps, output);
-    match facts.answer {
-        Certainty::Told => {
-            exported::write_behind(&facts.cells, n, 8, output);
+    match &facts.answer {
+        Certainty::Told(cells) => {
+            exported::write_behind(cells, n, 8, output);
             0
         }
         Certainty::Impossible => 1,

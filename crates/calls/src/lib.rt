@@ -116,7 +116,8 @@ fn ask_sized<Q: Question>(
 }
 
 // Opens the record in an edition with sizes, and asks of its leaf: the record's refusals, 1 to 5, then 16 for another edition than 1 and 2, then 22 for
-// sizes that may not stand, each of which leaves the output as it was, then what the question answers.
+// sizes that may not stand, each of which leaves the output as it was, then what the question answers. `edition` and `sizes` are the parameters of the exported
+// calls, as C has them.
 pub fn ask<Q: Question>(
     record: &[u8],
     edition: u32,

@@ -22,7 +22,7 @@ pub fn after_call(b: Board, answer: Result<Board, Refusal>) -> Left
     }
 }
 
-// A call on a lent board: what it answers, with the board that it leaves.
+// A call on a lent board: what it answers, with the board that it leaves. A find has `finds::find_lent`: it gives another answer, and writes a buffer.
 pub fn on_lent<F: FnOnce(&mut Board) -> Result<(), Refusal>>(board: Board, call: F) -> Left
     requires { F.IsAlwaysCallable call }
     ensures { FnOnceReturnsAtMut F.FnOnce call board result.answer result.board }

@@ -113,10 +113,11 @@ module _ (q : Problem) (f : Formed q) (edition : ℕ) {sizes : List Range} (good
       low : (b : List ℕ) → Memᴰ b r.boards → get_or b 0 0 ≤ 1
       low b m = (search-Solves (leaf_with edition sizes (puzzle_of q)) (formed_Valid q f) good (take n states) (cells_valid q f edition sizes s) b m).finished.decided.each 0 (unfold puzzle_of grid_of size in some_cells)
 
-      pub answer_none : get_or facts 0 0 ≡ 3 → ◌≡◌ {A = Facts} (record { answer = Impossible; steps = budget - rest; cells = facts }) (certain_by n budget r)
+      pub answer_none : {cells : List ℕ} → get_or facts 0 0 ≡ 3 → cells ≡ replicate 1024 3 → ◌≡◌ {A = Facts} (record { answer = Impossible; steps = budget - rest; cells = cells }) (certain_by n budget r)
       unfolding known
-      answer_none z =
-          rw (steps_are, facts_are, certainty_none r.boards (no_boards r.boards 0 low (sym first_is ∙ z)))
+      answer_none z c =
+          let none : r.boards ≡ [] = no_boards r.boards 0 low (sym first_is ∙ z) in
+          rw (steps_are, nothing_yet n (few q f) c ∙ ap (facts_in n) (sym none), certainty_none r.boards none)
           (sym (by_known n budget r within.0))
 
       pub answer_told : (get_or facts 0 0 ≡ 3 → ⊥) → ◌≡◌ {A = Facts} (record { answer = Told; steps = budget - rest; cells = facts }) (certain_by n budget r)

@@ -18,22 +18,20 @@ use grid::{EMPTY, SQUARE, UNDECIDED};
 use refusal::Refusal;
 use sizes::LentLeaf;
 
-// What a search tells: the cells are told, there is no finished board that agrees with the decisions, or the budget is spent.
+// What a search tells: of each cell, 1 where it is square in every finished board, 0 where it is empty in every one and 2 where it is open, with 3 behind the
+// grid; that there is no finished board that agrees with the decisions; or that the budget is spent.
 #[derive(Clone, Copy, Debug, PartialEq, Eq)]
 pub enum Certainty {
-    Told,
+    Told([u8; 1024]),
     Impossible,
     Spent,
 }
 
-// The answer, the number of steps, and where the cells are told 1 for a cell that is square in every finished board, 0 for one that is
-// empty in every one and 2 for one that is open. 3 stands behind the grid, and at every place where nothing is told, so that nobody who reads the cells
-// without the answer takes one for a verdict: within the answer they would be no plainer.
+// The answer, and the number of steps, which is told whatever the answer is: so the two are no enum.
 #[derive(Clone, Copy)]
 pub struct Facts {
     pub answer: Certainty,
     pub steps: u64,
-    pub cells: [u8; 1024],
 }
 
 // Stands for a cell of which nothing is known, and for one that is open.
@@ -41,7 +39,7 @@ const UNKNOWN: u8 = 3;
 
 const OPEN: u8 = 2;
 
-// What is known of a cell, where one more board has the value there. By numbers: those of `Facts::cells`, which a call writes as they are.
+// What is known of a cell, where one more board has the value there. By numbers: those of `Certainty::Told`, which a call writes as they are.
 #[tactic(auto, unfolding(crate::specs::Inside::joined_of))]
 fn joined(known: u8, value: u8) -> u8
     ensures { result ≡ joined_of known value }
@@ -112,6 +110,8 @@ fn step(
 
 // The search from a board with at most `left` steps: what is left of them, or None where it has more. What it sets in the cells it takes back.
 // It is as deep as there are undecided cells, and each call of it keeps what it is lent.
+// The cells come apart: they are lent, and of an array behind a `&mut` in a struct that is behind a `&mut` a proof knows no length (`reach::near::unmark`). Facts and
+// buffer do too: a struct of the two would state no fact, and two functions would take it.
 fn search_from(
     leaf: &LentLeaf<'_>,
     cells: &mut [u8; 1024],
@@ -162,18 +162,17 @@ pub fn certain_cells(leaf: &LentLeaf<'_>, cells: &mut [u8; 1024], budget: u64) -
         None => Facts {
             answer: Certainty::Spent,
             steps: budget,
-            cells: [UNKNOWN; 1024],
         },
         Some(rest) => {
+            // Nothing was noted where the first cell is unknown still. A flag for it would be lent through the search beside the cells.
             let answer = if facts[0] == UNKNOWN {
                 Certainty::Impossible
             } else {
-                Certainty::Told
+                Certainty::Told(facts)
             };
             Facts {
                 answer,
                 steps: budget - rest,
-                cells: facts,
             }
         }
     }

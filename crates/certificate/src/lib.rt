@@ -133,7 +133,8 @@ impl Certificate<'_> {
         u32::from_be_bytes([0, bytes[at], bytes[at + 1], bytes[at + 2]]) as usize
     }
 
-    // What the clause between two places comes to under the cells.
+    // What the clause between two places comes to under the cells. Two places, and no range, here and below: contracts speak of `slice from to`, and `follow` asks for
+    // its last place.
     #[tactic(auto, using(crate::proofs::Words::words_on, grid::proofs::SliceLaws::slice_none), unfolding(crate::specs::Certificate::look_from))]
     fn look(&self, from: usize, to: usize, cells: &[u8; 1024]) -> Clause
         requires { to ≤ length self.now }

@@ -2,7 +2,8 @@
 // counts all. So the length of a sheet is what is counted on an output that has no room.
 #![tactic(auto)]
 
-ghost use Rattle.std.specs.Prelude.{◌≡◌, List, ◌++◌, map, ℕ, ◌+◌, ◌*◌, ◌^◌, ◌≤◌, ◌<◌, length, get_or, option_to_list, [], take};
+ghost use Rattle.std.specs.Prelude.{◌≡◌, List, ◌++◌, map, ℕ, ◌+◌, ◌*◌, ◌^◌, ◌≤◌, ◌<◌, length, get_or, option_to_list};
+ghost use Rattle.arrayvec.specs.ArrayVec.{array_vec_len};
 ghost use Rattle.grid.specs.Lists.{flat_map, upto, filter};
 ghost use Rattle.grid.specs.Side.{sized, towards};
 ghost use Rattle.grid.specs.Cells.{word};
@@ -11,11 +12,11 @@ ghost use Rattle.exported.specs.Written.{bytes_of, written, output_with, Writes}
 ghost use Rattle.clauses.specs.Clauses.{given_at, apart, touching_at, around, between_at, arrow_clauses, clauses_bytes, sheet_bytes, sheet_within, sheet_for};
 ghost use Rattle.clauses.specs.Inside.{Pushed, marked};
 
+use arrayvec::ArrayVec;
 use form::accepted::Accepted;
 use grid::{DOWN, Grid, LEFT, RIGHT, UP};
 use record::{BLACK, GIVEN, Problem};
 use refusal::Refusal;
-use std::marker::Model;
 
 // The mark of an arrow cell.
 const ON_ARROW: u8 = 1;
@@ -24,46 +25,13 @@ const ON_ARROW: u8 = 1;
 // `squares` makes the literals of a whole array of cells by one sum each.
 const VALUE: u16 = 32768;
 
-// The arrow cells beside a cell, at most four. By hand: the kit's `ArrayVec` fills itself with blanks, here for each cell of the grid anew.
-#[derive(Drop)]
-struct NearCells {
-    cells: [u16; 4],
-    count: usize,
-}
-
-impl Model for NearCells {
-    ghost Value = { List ℕ };
-
-    ghost view = { λ near. take near.count near.cells };
-
-    ghost invariant = { λ near. near.count ≤ 4 };
-}
-
-impl NearCells {
-    fn new() -> NearCells
-        ensures { result ≡ [] }
-    {
-        NearCells {
-            cells: [0; 4],
-            count: 0,
-        }
-    }
-
-    fn cells(&self) -> &[u16]
-        ensures { result.now ≡ self.now }
-    {
-        &self.cells[..self.count]
-    }
-
-    // Adds the cell on one side, if there is one.
-    fn add(&mut self, side: Option<u16>)
-        requires { length self.old < 4 }
-        ensures { self.new ≡ self.old ++ option_to_list side }
-    {
-        if let Some(j) = side {
-            self.cells[self.count] = j;
-            self.count += 1;
-        }
+// Adds the cell on one side, if there is one, to the cells beside a cell, of which there are at most four.
+fn add(near: &mut ArrayVec<u16, 4>, side: Option<u16>)
+    requires { array_vec_len near.old < 4 }
+    ensures { near.new.items ≡ near.old.items ++ option_to_list side }
+{
+    if let Some(j) = side {
+        near.push(j);
     }
 }
 
@@ -82,15 +50,15 @@ fn arrow_toward(grid: Grid, marks: &[u8; 1024], i: usize, k: usize) -> Option<u1
 
 // The arrow cells beside cell i, in the order of the sheet.
 #[tactic(auto, using(crate::proofs::NearLaws::side_short, crate::proofs::NearLaws::around_sides))]
-fn gather(grid: Grid, marks: &[u8; 1024], i: usize) -> NearCells
+fn gather(grid: Grid, marks: &[u8; 1024], i: usize) -> ArrayVec<u16, 4>
     requires { i < grid.height * grid.width }
-    ensures { result ≡ filter (marked marks.now) (around (sized grid.height grid.width) i) }
+    ensures { result.items ≡ filter (marked marks.now) (around (sized grid.height grid.width) i) }
 {
-    let mut near = NearCells::new();
-    near.add(arrow_toward(grid, marks, i, UP));
-    near.add(arrow_toward(grid, marks, i, LEFT));
-    near.add(arrow_toward(grid, marks, i, DOWN));
-    near.add(arrow_toward(grid, marks, i, RIGHT));
+    let mut near = ArrayVec::new();
+    add(&mut near, arrow_toward(grid, marks, i, UP));
+    add(&mut near, arrow_toward(grid, marks, i, LEFT));
+    add(&mut near, arrow_toward(grid, marks, i, DOWN));
+    add(&mut near, arrow_toward(grid, marks, i, RIGHT));
     near
 }
 
@@ -107,6 +75,7 @@ fn squares(cells: &[u16; 1024]) -> [u16; 1024]
 }
 
 // A sheet that is written: its first `len` bytes so far, with room in the output or without. It is no `text::Text`, which asks for room.
+// Grid and marks are two parameters of what writes its parts: a struct of them would state no fact that these ask for.
 #[derive(Drop)]
 struct Sheet<'a> {
     out: &'a mut [u8],
@@ -193,7 +162,7 @@ impl Sheet<'_> {
             return;
         }
         let near = gather(grid, marks, i);
-        let cells = near.cells();
+        let cells = near.as_slice();
         for (a, &later) in cells.iter().enumerate() {
             for &before in &cells[..a] {
                 self.put(&[3, later, i as u16, before]);

@@ -17,7 +17,8 @@ pub fn write_numbers(numbers: &[u16], count: usize, output: &mut [u8])
     }
 }
 
-// Writes the first n bytes of an array to the output from the place `at` on. A count, as in `write_numbers`.
+// Writes the first n bytes of an array to the output from the place `at` on. A count, as in `write_numbers`; a place, and no slice from there: the promise speaks of
+// the whole output.
 pub fn write_behind(bytes: &[u8; 1024], n: usize, at: usize, output: &mut [u8])
     requires { (n ≤ 1024) × (at + n ≤ length output.old) }
     ensures { output.new ≡ (take at output.old ++ take n bytes.now) ++ drop (at + n) output.old }

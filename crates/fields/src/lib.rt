@@ -9,7 +9,7 @@ ghost use Rattle.fields.specs.Inside.{Past, cell_code, code_at, step_at, opening
 
 use refusal::Refusal;
 
-// A cell of the grid.
+// A cell of the grid. On which grid it lies is said in clauses: height and width are two numbers here (`BitReader::read_step`).
 #[derive(Clone, Copy, Debug, PartialEq, Eq)]
 pub struct Place {
     pub row: usize,
@@ -41,7 +41,7 @@ pub fn number_at(s: &[u8], at: usize, n: usize) -> usize
     ((window >> (24 - at % 8 - n)) % (1u32 << n)) as usize
 }
 
-// The code of a cell: 0 plain, 1 black, 2 given square, 3 refused.
+// The code of a cell: 0 plain, 1 black, 2 given square, 3 refused. By numbers: what is read is passed on as it is, and only 3 is none of it.
 #[tactic(auto, using(crate::proofs::FieldLaws::low_code, crate::proofs::FieldLaws::no_code))]
 fn cell_code(code: usize) -> Result<u8, Refusal>
     ensures { outcome_of result ≡ cell_code code }
@@ -71,7 +71,8 @@ fn step_from(height: usize, width: usize, from: Place, direction: usize) -> Resu
     }
 }
 
-// Where a record is read: its bytes, and the place of the bit that comes next.
+// Where a record is read: its bytes, and the place of the bit that comes next. How far on it is, is no fact of it: each function asks for as much as it reads
+// from there.
 #[derive(Clone, Copy, Debug, PartialEq, Eq)]
 pub struct BitReader<'a> {
     pub bytes: &'a [u8],

@@ -36,6 +36,7 @@ use Rattle.writer.proofs.ArrayLaws.{length_in}
 use Rattle.finished.specs.Finished.{Finished, finished_test}
 use Rattle.file.specs.File.{tail_of, cells_in, tail_test, grade_in, solution_in, Graded, Solved, graded_in, solved_in, player_behind, setter_behind, read_player, read_setter}
 use Rattle.file.specs.Answers.{graded_as, player_of, solved_as, setter_of, Gives}
+use Rattle.file.specs.Inside.{record_end, has_tail}
 use Rattle.file.specs.Call.{Given, to_player, to_setter, player_within, setter_within, player_given, setter_given, given_length, given_bytes}
 use Rattle.file.specs.declared.Player.{Player}
 use Rattle.file.specs.declared.Setter.{Setter}
@@ -135,20 +136,19 @@ module _ (s : List ℕ) {h : Head} (r : read_head s ≡ ok h) where
         t ∙ ap (λ (x : Puzzle). finished_test (in_edition e x) (take (q.height * q.width) cells)) p ∙ ap (finished_test (in_edition e h.puzzle)) l
 
 -- a file whose record is read into arrays: where the record ends, how many cells it has, and whether a tail stands behind it
-pub record Behind (s : List ℕ) (q : Problem) (length : ℕ) (tail : Bool) : Type 0 where
+pub record Behind (s : List ℕ) (q : Problem) (tail : Bool) : Type 0 where
   pub head : Head
   pub reads : read_head s ≡ ok head
   pub is : q ≡ problem_of head.puzzle
-  pub bytes : length ≡ head.bytes
+  pub bytes : record_end q ≡ head.bytes
   pub cells : q.height * q.width ≡ cells_in head
   pub tailed : tail ≡ tail_test (tail_of s head) (cells_in head)
 
-pub behind : (s : List ℕ) {q : Problem} → ok q ≡ as_problem (puzzle_in (read_head s)) → {n : ℕ} → n ≡ bytes_for (21 + 2 * (q.height * q.width) + 18 * q.count + 2 * total_of q)
-    → {b : Bool} → b ≡ tail_test (drop n s) (q.height * q.width) → Behind s q n b
-behind s {q} o {n} e {b} t =
+pub behind : (s : List ℕ) {q : Problem} → ok q ≡ as_problem (puzzle_in (read_head s)) → {b : Bool} → has_tail q s ≡ b → Behind s q b
+behind s {q} o {b} t =
     let h = head_ok s o in
-    let w = length_found s h.1 q h.2 n e in
-    record { head = h.0; reads = h.1; is = h.2; bytes = w; cells = cells_found s h.1 q h.2; tailed = tested s h.1 q h.2 n w b t }
+    let w = length_found s h.1 q h.2 (record_end q) refl in
+    record { head = h.0; reads = h.1; is = h.2; bytes = w; cells = cells_found s h.1 q h.2; tailed = tested s h.1 q h.2 (record_end q) w b (sym t) }
 
 module _ (s : List ℕ) {h : Head} (r : read_head s ≡ ok h) where
   module _ (n : ℕ) where

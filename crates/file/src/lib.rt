@@ -2,12 +2,15 @@
 // Nothing of the solution reaches the player's answer.
 #![tactic(auto)]
 
-ghost use Rattle.std.specs.Prelude.{◌≡◌, ◌∷◌, ◌++◌, ◌+◌, ◌*◌, ◌≤◌, length, take, drop};
+ghost use Rattle.std.specs.Prelude.{◌≡◌, ◌∷◌, ◌++◌, ◌+◌, ◌*◌, ◌≤◌, true, false, length, take, drop, IfOk, IfErr};
 ghost use Rattle.grid.specs.Lists.{array_of};
 ghost use Rattle.refusal.specs.Refusals.{outcome_of};
+ghost use Rattle.refusal.specs.declared.Refusal.TheVariants as refusals;
+ghost use Rattle.form.specs.Form.{problem_formed};
 ghost use Rattle.exported.specs.Written.{output_with};
 ghost use Rattle.file.specs.File.{tail_test, grade_in, solution_in, read_player, read_setter};
 ghost use Rattle.file.specs.Answers.{player_of, setter_of, Gives};
+ghost use Rattle.file.specs.Inside.{record_end, has_tail};
 ghost use Rattle.file.specs.Call.{player_within, setter_within, player_given, setter_given, given_length, given_bytes};
 
 use exported::write_behind;
@@ -75,7 +78,26 @@ impl Tail<'_> {
     }
 }
 
+// The tail behind the record of a problem that was read at the head of a file; 20 where it is too short or too long, or its filler is not zero.
+fn tail_behind<'a>(file: &'a [u8], problem: &Problem) -> Result<Tail<'a>, Refusal>
+    requires { problem_formed problem.now ≡ true }
+    ensures whole { IfOk result (λ _. has_tail problem.now file.now ≡ true) }
+    ensures place { IfOk result (λ tail. (tail.file.now ≡ file.now) × (tail.from ≡ record_end problem.now) × (tail.n ≡ problem.now.height * problem.now.width)) }
+    ensures refused { IfErr result (λ r. (has_tail problem.now file.now ≡ false) × (r ≡ refusals.Tail)) }
+{
+    let tail = Tail {
+        file,
+        from: problem.record_length(),
+        n: problem.size(),
+    };
+    if tail.is_whole() {
+        return Ok(tail);
+    }
+    Err(Refusal::Tail)
+}
+
 // The player's reader for an output of `room` bytes: 1 to 5, 11, 20.
+#[tactic(auto, using(crate::proofs::AnswerLaws::head_formed))]
 fn player_within(file: &[u8], room: usize) -> Result<Player, Refusal>
     ensures { outcome_of result ≡ player_of (player_within room file.now) }
 {
@@ -83,17 +105,9 @@ fn player_within(file: &[u8], room: usize) -> Result<Player, Refusal>
     if room < 1 {
         return Err(Refusal::OutputShort);
     }
-    let length = problem.record_length();
-    let tail = Tail {
-        file,
-        from: length,
-        n: problem.size(),
-    };
-    if !tail.is_whole() {
-        return Err(Refusal::Tail);
-    }
+    let tail = tail_behind(file, &problem)?;
     Ok(Player {
-        length,
+        length: tail.from,
         grade: tail.grade(),
     })
 }
@@ -104,19 +118,10 @@ fn setter_within(file: &[u8], edition: u32, room: usize) -> Result<Setter, Refus
     ensures { outcome_of result ≡ setter_of (setter_within room edition file.now) }
 {
     let problem = Problem::read_head(file)?;
-    let n = problem.size();
-    if room < 1 + n {
+    if room < 1 + problem.size() {
         return Err(Refusal::OutputShort);
     }
-    let length = problem.record_length();
-    let tail = Tail {
-        file,
-        from: length,
-        n,
-    };
-    if !tail.is_whole() {
-        return Err(Refusal::Tail);
-    }
+    let tail = tail_behind(file, &problem)?;
     let edition = Edition::try_from(edition)?;
     let cells = tail.solution();
     if !finished::is_finished(&calls::bare(&problem, edition), &cells) {
@@ -124,10 +129,10 @@ fn setter_within(file: &[u8], edition: u32, room: usize) -> Result<Setter, Refus
     }
     Ok(Setter {
         player: Player {
-            length,
+            length: tail.from,
             grade: tail.grade(),
         },
-        count: n,
+        count: tail.n,
         cells,
     })
 }
@@ -148,7 +153,7 @@ pub fn read_setter(file: &[u8], edition: u32) -> Result<Setter, Refusal>
     setter_within(file, edition, 1025)
 }
 
-// Writes a grade and the first n cells to the front of the output, one byte each.
+// Writes a grade and the first n cells to the front of the output, one byte each. A count, as in `exported::write_numbers`.
 fn write_solution(grade: u8, cells: &[u8; 1024], n: usize, output: &mut [u8])
     requires { (n ≤ 1024) × (1 + n ≤ length output.old) }
     ensures { output.new ≡ (grade ∷ take n cells.now) ++ drop (1 + n) output.old }

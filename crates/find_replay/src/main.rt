@@ -33,6 +33,7 @@ fn verdict_differs(answer: Result<bool, Refusal>, number: usize) -> bool
 }
 
 // Whether find on the board differs from these literals, or finished from the byte behind them. Player 0 finds, and the whole buffer is lent.
+// No `==`, here and in `entry_differs`: what a board answers is held against bytes of a list.
 fn board_differs(board: Board, rounds: usize, literals: Said<'_>) -> bool
     requires { literals.from.at + 2 * literals.count < length literals.from.list.now }
     ensures { DiffersUnless result (BoardSo board literals.entry.from.list.now literals.entry.from.at literals.entry.count) }

@@ -33,7 +33,7 @@ fn find_in_rounds(rounds: usize, board: Board, player: u8, buffer: &mut [u16]) -
     }
 }
 
-// `find` on a lent board: what it answers, with the board that it leaves.
+// `find` on a lent board: what it answers, with the board that it leaves. As `reasons::find`, but by `lent`: that is what is tried here.
 fn find_lent(board: Board, player: u8, buffer: &mut [u16]) -> Asked
     ensures { (outcome_of result.finding ≡ found_as (find_of board player buffer.old)) × (result.board ≡ after_find board player (length buffer.old))
         × (buffer.new ≡ buffer_after board player buffer.old) }
@@ -81,6 +81,7 @@ pub struct Said<'a> {
 }
 
 // Whether a find with this answer, in a buffer that was fresh, is another than a list says: its literals, or the number of its refusal.
+// No `==`, here and in `find_differs`: a finding and its buffer are held against bytes of a list. A number, and no `Refusal`: a list may say any byte.
 fn finding_differs(
     finding: Result<Option<usize>, Refusal>,
     buffer: &[u16; 4096],

@@ -5,14 +5,14 @@ use native.Mathlib.Nat.{mod-eq_of_lt, mod-add-mod, add-mod_right}
 use native.Mathlib.Numerals.{add-one}
 use native.Mathlib.Decide.{ℕ_discrete, dec_lt}
 use native.Mathlib.Omega.{arith}
-use mathlib.Core.Path.{◌≡◌, refl, sym, ap, ◌∙◌}
+use mathlib.Core.Path.{◌≡◌, refl, ap, ◌∙◌}
 use mathlib.Core.Bool.{Bool, true, false, cond, ◌&&◌, ◌||◌, not, and-false, or_comm}
 use mathlib.Core.List.{List, [], ◌∷◌}
 use lib.Dec.{eqb, ltb}
 use lib.ListN.{length, get_or, set, take, drop, length-set, drop_of_length-le}
 use lib.Seq.{drop-cons, take-suc, take_all, get_or-set_same, get_or-set_other}
 use borrow.Author.Tests.{ne_eqb, lt-ltb, le-ltb}
-use Rattle.grid.specs.Lists.{any, member}
+use Rattle.grid.specs.Lists.{member}
 use Rattle.grid.specs.Marks.{Marks}
 use Rattle.grid.proofs.AppendLaws.{member_more}
 use Rattle.grid.proofs.MarkLaws.{Marks-next, mark_zero, mark_other}
@@ -36,13 +36,13 @@ module _ {n k : ℕ} {l marks : List ℕ} (m : Marking n l k marks) (h : k < len
   next = m.left ∙ rw (drop-cons l k 0 h) refl
 
   -- the next member is off the grid
-  pub marking_off : n ≤ get_or l k 0 → false ≡ fresh n [] l
-  marking_off t = sym (next ∙ rw (le-ltb (get_or l k 0) n t) refl)
+  pub marking_off : n ≤ get_or l k 0 → fresh n [] l ≡ false
+  marking_off t = next ∙ rw (le-ltb (get_or l k 0) n t) refl
 
   module _ (t : get_or l k 0 < n) (low : n ≤ 1024) where
     -- it is marked already
-    pub marking_twice : (get_or marks (get_or l k 0) 0 ≡ 0 → ⊥) → false ≡ fresh n [] l
-    marking_twice q = sym (next ∙ rw (m.same (get_or l k 0), mark_other m.marked (get_or l k 0) (omega arith) q, and-false (ltb (get_or l k 0) n)) refl)
+    pub marking_twice : (get_or marks (get_or l k 0) 0 ≡ 0 → ⊥) → fresh n [] l ≡ false
+    marking_twice q = next ∙ rw (m.same (get_or l k 0), mark_other m.marked (get_or l k 0) (omega arith) q, and-false (ltb (get_or l k 0) n)) refl
 
     -- it is marked now
     pub one_marked : get_or marks (get_or l k 0) 0 ≡ 0 → Marking n l (k + 1) (set marks (get_or l k 0) 1)
@@ -58,9 +58,9 @@ module _ {n k : ℕ} {l marks : List ℕ} (m : Marking n l k marks) (h : k < len
 
 -- all are marked
 module _ {n k : ℕ} {l marks : List ℕ} (m : Marking n l k marks) (h : length l ≤ k) where
-  pub all_fresh : true ≡ fresh n [] l
+  pub all_fresh : fresh n [] l ≡ true
   unfolding fresh
-  all_fresh = sym (m.left ∙ rw (drop_of_length-le l {i = k} h) refl)
+  all_fresh = m.left ∙ rw (drop_of_length-le l {i = k} h) refl
 
   pub all_marked : Marks marks (λ i. member i l)
   all_marked = rw (take_all k l h) at m.marked

@@ -12,7 +12,7 @@ use lib.ListN.{length, take, drop, replicate, length-append, length-drop}
 use lib.Seq.{length-take-le, drop-drop, take-add}
 use borrow.Author.Tests.{eqb-true, eq-eqb, ltb-true, lt-ltb, leb-true, le-leb}
 use Rattle.std.proofs.lemmas.Bool.{and_from}
-use Rattle.grid.specs.Lists.{all, member, last, flat_map, array_of}
+use Rattle.grid.specs.Lists.{all, member, last, array_of}
 use Rattle.grid.specs.Grid.{Grid, size, neighbours}
 use Rattle.grid.proofs.ListLaws.{and-true, member-mem, mem-member, all-mem, mem-all, flat_map-mem}
 use Rattle.grid.proofs.ArrayLaws.{array_length, array_take}

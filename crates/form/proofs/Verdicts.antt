@@ -2,7 +2,7 @@
 -- Assumes nothing.
 use Prim.Native.Nat.{ℕ, ◌*◌, ◌≤◌, ◌<◌}
 use native.Mathlib.Omega.{arith}
-use mathlib.Core.Path.{◌≡◌, sym, ap}
+use mathlib.Core.Path.{◌≡◌, ap}
 use mathlib.Core.Bool.{true, false, and-false, and-true}
 use mathlib.Core.List.{List, []}
 use lib.Dec.{ltb}
@@ -37,24 +37,24 @@ module _ (h w : ℕ) (es l : List ℕ) where
   unfolding drawn
   drawn_far e = simp (lt-leb (last 0 es) 1024 e)
 
-  pub drawn_twice : false ≡ fresh (h * w) [] (take (last 0 es) l) → false ≡ drawn (sized h w) es l
+  pub drawn_twice : fresh (h * w) [] (take (last 0 es) l) ≡ false → false ≡ drawn (sized h w) es l
   unfolding drawn size
-  drawn_twice e = simp (← e, and-false)
+  drawn_twice e = simp (e, and-false)
 
   pub drawn_broken : false ≡ all (is_path (sized h w)) (arrows_from l 0 es) → false ≡ drawn (sized h w) es l
   unfolding drawn
   drawn_broken e = simp (← e, and-false)
 
-  pub drawn_is : last 0 es ≤ 1024 → true ≡ fresh (h * w) [] (take (last 0 es) l) → true ≡ all (is_path (sized h w)) (arrows_from l 0 es) → behind 0 (last 0 es) l ≡ drawn (sized h w) es l
+  pub drawn_is : last 0 es ≤ 1024 → fresh (h * w) [] (take (last 0 es) l) ≡ true → true ≡ all (is_path (sized h w)) (arrows_from l 0 es) → behind 0 (last 0 es) l ≡ drawn (sized h w) es l
   unfolding drawn size
-  drawn_is few f p = simp (le-leb (last 0 es) 1024 few, ← f, ← p, and-true)
+  drawn_is few f p = simp (le-leb (last 0 es) 1024 few, f, ← p, and-true)
 
 -- arrow cells of which none stands twice, and ends that rise
-pub cut_of : (n : ℕ) (es l : List ℕ) → length l ≡ 1024 → rises 0 es ≡ true → last 0 es ≤ 1024 → true ≡ fresh n [] (take (last 0 es) l) → Cut n es l
+pub cut_of : (n : ℕ) (es l : List ℕ) → length l ≡ 1024 → rises 0 es ≡ true → last 0 es ≤ 1024 → fresh n [] (take (last 0 es) l) ≡ true → Cut n es l
 cut_of n es l long rise few f = record { rise = rise; few = few; on_grid = λ i h. below i h }
   where
     below : (i : ℕ) → i < last 0 es → get_or l i 0 < n
-    below i h = rw (get_or-take (last 0 es) l i 0 h) at ((Fresh-is n [] (take (last 0 es) l) (sym f)).1 (get_or (take (last 0 es) l) i 0) (at_mem (take (last 0 es) l) i (omega (arith, length-take-le (last 0 es) l (omega arith)))))
+    below i h = rw (get_or-take (last 0 es) l i 0 h) at ((Fresh-is n [] (take (last 0 es) l) f).1 (get_or (take (last 0 es) l) i 0) (at_mem (take (last 0 es) l) i (omega (arith, length-take-le (last 0 es) l (omega arith)))))
 
 -- ---- the problem
 module _ (q : Problem) where
@@ -102,6 +102,6 @@ module _ (q : Problem) where
         simp (s, eq-eqb (length q.cells) 1024 l, eq-eqb (length q.arrows) 1024 m, eq-eqb (length q.ends) 1024 n, le-leb q.count 1024 few, ← r, ← d', ← c', ← b', and-true)
 
 -- the ways out of the test of the arrows, and of that of a problem
-pub ruleset arrow_tests = (zeros_blank, drawn_far, drawn_twice, drawn_broken, drawn_is, cut_of)
+pub ruleset arrow_tests = (drawn_far, drawn_twice, drawn_broken, drawn_is, cut_of)
 
 pub ruleset problem_tests = (problem_size, problem_count, problem_rise, problem_drawn, problem_codes, problem_behind, problem_is)

@@ -51,24 +51,25 @@ fn rising(ends: &[u16]) -> bool
     rise
 }
 
-// Marks the cells of the list; false where one is n or more, or is marked already.
-#[tactic(auto, using(crate::proofs::Marking::none_marked, crate::proofs::Marking::one_marked, crate::proofs::Marking::all_marked))]
-pub fn mark(marks: &mut [u8; 1024], list: &[u16], n: usize) -> bool
-    requires { Blank marks.old × (n ≤ 1024) }
-    ensures fresh { result ≡ fresh n [] list.now }
-    ensures marked { result ≡ true → Marks marks.new (λ i. member i list.now) }
+// An array with the cells of the list marked; none where one of them is n or more, or stands twice.
+#[tactic(auto, using(crate::proofs::Verdicts::zeros_blank, crate::proofs::Marking::none_marked, crate::proofs::Marking::one_marked))]
+pub fn mark(list: &[u16], n: usize) -> Option<[u8; 1024]>
+    requires { n ≤ 1024 }
+    ensures some { IfSome result (λ marks. (fresh n [] list.now ≡ true) × Marks marks (λ i. member i list.now)) }
+    ensures none { IfNone result (fresh n [] list.now ≡ false) }
 {
+    let mut marks = [0; 1024];
     for &cell in list {
         let i = usize::from(cell);
         if n <= i {
-            return false;
+            return None;
         }
         if marks[i] != 0 {
-            return false;
+            return None;
         }
         marks[i] = 1;
     }
-    true
+    Some(marks)
 }
 
 // A grid with a mark at the first cell of each row, so that the tests of steps need no division.
@@ -85,6 +86,7 @@ impl Rows {
         ensures { result.grid ≡ grid }
     {
         let mut starts = [0; 1024];
+        // By index: of places that are written through `iter_mut().step_by(..)` a proof does not know what they hold.
         for at in (0..grid.size()).step_by(grid.width) {
             starts[at] = 1;
         }
@@ -166,8 +168,7 @@ fn good_arrows(problem: &Problem, grid: Grid) -> bool
     if 1024 < total {
         return false;
     }
-    let mut marks = [0; 1024];
-    mark(&mut marks, &problem.arrows[..total], grid.size())
+    mark(&problem.arrows[..total], grid.size()).is_some()
         && Rows::new(grid).all_follow(problem)
         && zeros(&problem.arrows, total)
 }

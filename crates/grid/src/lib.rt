@@ -5,15 +5,16 @@ ghost use Rattle.std.specs.Prelude.{◌≡◌, cond, ◌+◌, ◌*◌, ◌/◌, 
 ghost use Rattle.std.specs.Int.Signed.{mag};
 ghost use Rattle.grid.specs.Side.{sized, moved_of, shifted_of, beside_of};
 
-// The states of a cell.
+// The states of a cell. Numbers, and no enum: C is lent them in a `Board`.
+// Where a proof has that a number fits, `as` makes it narrower (a cell in 16 bits, a bit, a byte of a sum): `try_from` would have an arm that can't come.
 pub const EMPTY: u8 = 0;
 
 pub const SQUARE: u8 = 1;
 
 pub const UNDECIDED: u8 = 2;
 
-// Marks of cells and of names are bytes, 1 where something is marked and 0 elsewhere, and no bools: the definitions speak of them as numbers (grid/specs/Marks),
-// and an array of them is compared and copied as one of states is.
+// Marks of cells and of names are bytes, 1 where something is marked and 0 elsewhere, and no bools: the definitions have them as numbers (grid/specs/Marks), one
+// definition tells squares and marked cells (groups/specs/Arrays, marked), and `replay::Cursor::cells_differ` holds either against the bytes of a list.
 
 // A grid of at most 32 by 32 cells.
 #[derive(Clone, Copy, Debug, PartialEq, Eq)]
@@ -24,8 +25,8 @@ pub struct Grid {
     pub ghost wide: { width ≤ 32 },
 }
 
-// The four directions, by their codes in a record. Numbers, and no enum: a record gives a code, and loops over the directions count k,
-// so that each value of an enum would first be made of a number.
+// The four directions, by their codes in a record. Numbers, and no enum: the definitions have them so (grid/specs/Side, beside_of, towards), and each contract would
+// turn an enum into its number. It would be no slower: over an array of one a flood takes 54,200 instructions against 52,900, and as long.
 pub const UP: usize = 0;
 
 pub const DOWN: usize = 1;
@@ -67,7 +68,8 @@ pub fn offset(from: usize, to: usize) -> i32
 }
 
 impl Grid {
-    // How many cells it has.
+    // How many cells it has. Who goes over all cells does so by `for i in 0..grid.size()`: a cell is named by its number, and by it its neighbours, its kind and
+    // its owner are asked for.
     pub fn size(self) -> usize
         ensures value { result ≡ self.height * self.width }
         ensures small { result ≤ 1024 }
@@ -75,7 +77,8 @@ impl Grid {
         self.height * self.width
     }
 
-    // The cell that the one at row y, column x comes to by a signed row and column offset.
+    // The cell that the one at row y, column x comes to by a signed row and column offset. Row, column and the two
+    // offsets are numbers, and no structs: `moved` takes a row or a column by itself.
     #[tactic(auto, using(crate::proofs::SideLaws::off_column, crate::proofs::SideLaws::off_row))]
     pub fn shifted(self, y: usize, x: usize, dy: i32, dx: i32) -> Option<usize>
         requires place { (y < self.height) × (x < self.width) }
@@ -108,7 +111,8 @@ impl Grid {
     }
 
     // The neighbour of cell i in direction k, if there is one. Who needs all four asks for each by `for k in 0..4`: an iterator over them takes a third more
-    // in a flood (15.7 against 11.9 us on 32 by 32 cells), and a function that takes a closure leaves out the walk that calls itself (`kinds::traverse_grid`).
+    // in a flood (15.7 against 11.9 us on 32 by 32 cells), and of a closure that is called for each neighbour a proof has the chain of its calls, of which each
+    // walk would have to say what its loop says.
     // The column is found from the row: by `column` the compiler divides again in three of the four directions.
     #[tactic(auto, using(crate::proofs::SideLaws::leads_from, crate::proofs::SideLaws::column_left, crate::proofs::SideLaws::row_before))]
     pub fn toward(self, i: usize, k: usize) -> Option<usize>

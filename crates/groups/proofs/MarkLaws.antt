@@ -10,7 +10,7 @@ use lib.Dec.{eqb}
 use lib.ListN.{get_or, take, length-take}
 use Rattle.std.specs.List.{All}
 use Rattle.std.proofs.lemmas.List.{get_or_default, get_or-take}
-use Rattle.grid.specs.Lists.{any, member, flat_map}
+use Rattle.grid.specs.Lists.{any, member}
 use Rattle.grid.specs.Marks.{Marks}
 use Rattle.grid.specs.Grid.{Grid, size, cells_of}
 use Rattle.grid.proofs.ListLaws.{So-false, member-mem}

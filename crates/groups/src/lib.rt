@@ -15,10 +15,10 @@ ghost use Rattle.groups.specs.Flood.{unlabelled, free, Only, Walked, Offerable, 
 use grid::{EMPTY, Grid, SQUARE};
 
 // Stands for the name of a group where there is none: the label of a cell that is in no group. A number, and no `Option`: it has the place of one number,
-// definitions have it, and `grid::pick` chooses it without a branch.
+// definitions have it, and `grid::pick` chooses it without a branch. A name has no type of its own: arrays hold names and this number side by side.
 pub const NO_GROUP: u16 = 1024;
 
-// Stands for the label of a cell that is in a group and has no label yet.
+// Stands for the label of a cell that is in a group and has no label yet. A number, as `NO_GROUP`.
 pub const UNLABELLED: u16 = 1025;
 
 // Which cells are to be in groups.
@@ -52,19 +52,6 @@ fn first_label(cells: &[u8; 1024], members: Members, i: usize) -> u16
     } else {
         NO_GROUP
     }
-}
-
-// The labels before the first flood, so that a flood reads one array only: the cells below n that are to be in a group are not yet labelled. By index: of places
-// that are written through an adapter of `iter_mut` a proof does not know what they hold then.
-fn first_labels(cells: &[u8; 1024], members: Members, n: usize) -> [u16; 1024]
-    requires { n ≤ 1024 }
-    ensures { Marked (counts members cells.now) n result }
-{
-    let mut labels = [NO_GROUP; 1024];
-    for i in 0..n {
-        labels[i] = first_label(cells, members, i);
-    }
-    labels
 }
 
 // Labels cell q and puts it on the stack if it is to be in a group and has no label yet. It is labelled
@@ -104,8 +91,8 @@ fn spread(
 
 // The groups of a board's cells: the label of each cell's group, which is its first cell in row order, and 1024 where there is none; the first cells by
 // themselves, rising, in the first `count` places; and by first cell how many squares and how many arrow cells each group has.
-// No fact stands here as a ghost field, `Names` of the first cells neither: the arrays are lent as work memory once nothing reads them any more, since there is
-// no heap in what C calls. They stand apart, since each is asked for and lent alone.
+// No fact stands here as a ghost field, not even that the first cells are names: the arrays are lent as work memory once nothing reads them any more, since there
+// is no heap in what C calls. They stand apart, since each is asked for and lent alone.
 #[derive(Clone, Copy)]
 pub struct Groups {
     pub labels: [u16; 1024],
@@ -126,6 +113,20 @@ impl Groups {
             squares: [0; 1024],
             arrowed: [0; 1024],
             count: 0,
+        }
+    }
+
+    // Puts the labels before the first flood, so that a flood reads one array only: the cells below n that are to be in a group are not yet labelled. It puts them
+    // in place: returned, the two groupings of a host call take 1,250 instructions more at 6 by 6. By index: of places that are written through an adapter of
+    // `iter_mut` a proof does not know what they hold then.
+    fn put_first_labels(&mut self, cells: &[u8; 1024], members: Members, n: usize)
+        requires { n ≤ 1024 }
+        ensures marked { Marked (counts members cells.now) n self.new.labels }
+        ensures others { self.new ≡ record self.old { labels = self.new.labels } }
+    {
+        self.labels = [NO_GROUP; 1024];
+        for i in 0..n {
+            self.labels[i] = first_label(cells, members, i);
         }
     }
 
@@ -170,7 +171,8 @@ impl Groups {
     }
 
     // Lists cell s behind the first cells found so far if it is to be in a group and has no label yet: it is the first of its group then. It is written
-    // there in any case, and only counted if it is one. Their new number.
+    // there in any case, and only counted if it is one. Their new number: with the number in `count` a host call takes 3.96 against 3.87 us on 6 by 6 cells, and
+    // 58.4 against 56.4 on 32 by 32, since each turn waits for the last one's write.
     fn keep_first(&mut self, s: usize, number: usize) -> usize
         requires { (s < 1024) × (number ≤ s) }
         ensures listed { self.new ≡ record self.old { firsts = set self.old.firsts number s } }
@@ -180,9 +182,9 @@ impl Groups {
         number + usize::from(self.labels[s] == UNLABELLED)
     }
 
-    // Computes the groups of the cells of a grid that are members. The grid, its cells and the marks of its arrow cells come apart, since each is lent by another.
-    // It fills groups that are there: a find computes two after one another, and on 5 by 5 cells
-    // it takes 1.15 against 0.88 us to make both anew.
+    // Computes the groups of the cells of a grid that are members. Grid and cells are two parameters here and in `kinds`, `units`, `paths`, `shades` and `turn`:
+    // a struct of them would state no fact and be taken apart in each; a `BoardInfo` has them with what is computed of them. It fills groups that are there: a find
+    // computes two after one another, and on 5 by 5 cells it takes 1.15 against 0.88 us to make both anew.
     pub fn compute_connected_components(
         &mut self,
         grid: Grid,
@@ -196,7 +198,7 @@ impl Groups {
     {
         let n = grid.size();
         let mut stack = [0u16; 1025];
-        self.labels = first_labels(cells, members, n);
+        self.put_first_labels(cells, members, n);
         let mut number = 0;
         for s in 0..n {
             number = self.keep_first(s, number);

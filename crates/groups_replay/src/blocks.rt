@@ -1,4 +1,4 @@
-// The arrow blocks of a board: the reach and the fence of each, compared with those that the list has.
+// The arrow blocks of a board: the reach and the fence of each, compared with those that the list has. No `==`: they are held against bytes of the list.
 ghost use Rattle.std.specs.Prelude.{ℕ, ◌+◌, ◌*◌, ◌≤◌, List, length, false, IfSome};
 ghost use Rattle.groups.specs.Arrays.{Names};
 ghost use Rattle.kinds.specs.Board.{cell_count, board_of, HasArrows};
@@ -16,8 +16,7 @@ fn reach_differs(block: Cursor<'_>, n: usize, size: usize, marks: &[u8; 1024]) -
     requires { block.at + 4 ≤ length block.list.now }
     ensures { DiffersUnless result (ReachSo block.entry.list.now block.entry.at n size marks.now) }
 {
-    let Cursor { list, at } = block;
-    block.number_at(2) != size || Cursor { list, at: at + 4 }.cells_differ(n, marks, 0)
+    block.number_at(2) != size || block.on(4).cells_differ(n, marks, 0)
 }
 
 // Whether a fence of this size in a fresh buffer differs from the one that the list has at the cursor, with so many literals.
@@ -25,8 +24,7 @@ fn fence_differs(fence: Cursor<'_>, count: usize, size: usize, part: &[u16; 4096
     requires { fence.at + 2 ≤ length fence.list.now }
     ensures { DiffersUnless result (FenceSo fence.entry.list.now fence.entry.at count size part.now) }
 {
-    let Cursor { list, at } = fence;
-    count != size || Cursor { list, at: at + 2 }.literals_differ(count, part)
+    count != size || fence.on(2).literals_differ(count, part)
 }
 
 // Whether the reach and the fence of the arrow block f differ from those of the block that the list has at the cursor.
@@ -36,12 +34,8 @@ fn block_differs(block: Cursor<'_>, info: &BoardInfo<'_>, f: u16) -> bool
         (arrows : List (List ℕ)) → HasArrows info.now arrows
         → DiffersUnless result (BlockSo (board_of info.now arrows) f list at n (fence_at at n) (number_at list (fence_at at n))) }
 {
-    let Cursor { list, at } = block;
     let n = info.grid.size();
-    let fence = Cursor {
-        list,
-        at: at + (4 + n),
-    };
+    let fence = block.on(4 + n);
     let reach = reach::compute_reach(info, f);
     let mut part = [replay::NO_LITERAL; 4096];
     let written = fence::reason_for_adjacent_floating_boundary(info, &reach.marks, f, &mut part);

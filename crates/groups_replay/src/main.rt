@@ -28,44 +28,24 @@ ghost use Rattle.groups_replay.specs.Blocks.{KindsSo, GroupsSo, PotentialSo, arr
 ghost use Rattle.groups_replay.specs.Entries.{KindsRun, ArrowsRun, BoardRun, board_end, RecordRun, EntrySo};
 
 use board::Board;
-use groups::{Groups, Members};
-use kinds::BoardInfo;
+use groups::{Groups, Members, NO_GROUP};
+use kinds::{BoardInfo, VACANT};
 use replay::{Cursor, Entries, Run};
 use rounds::{Marked, Rounds};
 use std::io;
 
 // Whether groups differ from those that the list has at the cursor, with a name for each of n cells and the two counts of each name.
+// No `==`, here and below: what was computed is held against bytes of the list.
 fn groups_differ(names: Cursor<'_>, n: usize, groups: &Groups) -> bool
     requires place { names.at + 6 * n ≤ length names.list.now }
     requires cells { n ≤ 1024 }
     ensures { DiffersUnless result (GroupsSo names.entry.list.now names.entry.at n groups.now.labels (take n groups.now.squares) (take n groups.now.arrowed)) }
 {
-    let Cursor { list, at } = names;
-    let squares = Cursor {
-        list,
-        at: at + 2 * n,
-    };
-    let arrowed = Cursor {
-        list,
-        at: at + 4 * n,
-    };
+    let squares = names.on(2 * n);
+    let arrowed = names.on(4 * n);
     names.names_differ(n, &groups.labels)
         || squares.numbers_differ(n, &groups.squares[..n], 0)
         || arrowed.numbers_differ(n, &groups.arrowed[..n], 0)
-}
-
-// Whether the potential groups differ from those that the list has at the cursor. A list that says no rounds differs: nothing would be computed.
-fn potential_groups_differ(cursor: Cursor<'_>, rounds: Rounds, board: &Marked<'_>) -> bool
-    requires place { cursor.at + 6 * (board.now.grid.height * board.now.grid.width) ≤ length cursor.list.now }
-    ensures { let g = sized board.now.grid.height board.now.grid.width in let n = board.now.grid.height * board.now.grid.width in
-        (arrows : List (List ℕ)) → board.now.onarrow.now ≡ mask_of g (on_arrow arrows)
-        → DiffersUnless result (PotentialSo rounds.labels rounds.kinds g (take n board.now.cells.now) (on_arrow arrows) cursor.entry.list.now cursor.entry.at n) }
-{
-    if rounds.labels == 0 || rounds.kinds == 0 {
-        return true;
-    }
-    let groups = rounds.label(board, Members::Potential);
-    groups_differ(cursor, board.grid.size(), &groups)
 }
 
 // Whether the kinds or the owners differ from those that the list has at the cursor.
@@ -74,91 +54,96 @@ fn kinds_differ(kinds: Cursor<'_>, info: &BoardInfo<'_>) -> bool
     ensures { DiffersUnless result (KindsSo kinds.entry.list.now kinds.entry.at (cell_count info.now) info.now.kinds.now info.now.owners.now) }
 {
     let n = info.grid.size();
-    let Cursor { list, at } = kinds;
-    let owners = Cursor { list, at: at + n };
+    let owners = kinds.on(n);
     kinds.cells_differ(n, info.kinds, 0) || owners.names_differ(n, info.owners)
 }
 
-// Computes kinds and owners, and compares them and the arrow blocks with those that the list has at the cursor.
-fn run_kinds(cursor: Cursor<'_>, rounds: Rounds, board: &Marked<'_>, blocks: &Groups) -> Run
-    requires place { cursor.at + 3 * (board.now.grid.height * board.now.grid.width) + 2 ≤ length cursor.list.now }
-    requires names { Names blocks.now.firsts blocks.now.count }
-    ensures { let n = board.now.grid.height * board.now.grid.width in
-        (arrows : List (List ℕ)) → 0 < rounds.kinds → let p = puzzle_with (sized board.now.grid.height board.now.grid.width) arrows in
-        Given p (take n board.now.cells.now) blocks.now.labels blocks.now.arrowed
-        → KindsRun p (take n board.now.cells.now) n (arrowed_names blocks.now) cursor.entry.list.now cursor.entry.at result }
-{
-    let known = rounds.compute_kinds(board, blocks);
-    let info = BoardInfo {
-        grid: board.grid,
-        cells: board.cells,
-        kinds: &known.kinds,
-        owners: &known.owners,
-    };
-    let differs = kinds_differ(cursor, &info);
-    let Cursor { list, at } = cursor;
-    let behind = Cursor {
-        list,
-        at: at + 3 * info.grid.size(),
-    };
-    blocks::run_blocks(behind, &info, blocks).also(differs)
-}
-
-// Computes the blocks, and compares them, the kinds and the arrow blocks with those that the list has at the cursor.
-fn run_arrows(cursor: Cursor<'_>, rounds: Rounds, board: &Marked<'_>) -> Run
-    requires place { cursor.at + 9 * (board.now.grid.height * board.now.grid.width) + 2 ≤ length cursor.list.now }
-    ensures { let g = sized board.now.grid.height board.now.grid.width in let n = board.now.grid.height * board.now.grid.width in
-        (arrows : List (List ℕ)) → board.now.onarrow.now ≡ mask_of g (on_arrow arrows) → 0 < rounds.labels → 0 < rounds.kinds
-        → ArrowsRun (puzzle_with g arrows) (take n board.now.cells.now) n cursor.entry.list.now cursor.entry.at result }
-{
-    let n = board.grid.size();
-    let blocks = rounds.label(board, Members::Squares);
-    let differs = groups_differ(cursor, n, &blocks);
-    let Cursor { list, at } = cursor;
-    let behind = Cursor {
-        list,
-        at: at + 6 * n,
-    };
-    run_kinds(behind, rounds, board, &blocks).also(differs)
-}
-
-// Computes the groups and kinds of a board, and compares them with those that the list has at the cursor; none where the list ends before them.
-fn run_board(cursor: Cursor<'_>, rounds: Rounds, board: &Board) -> Option<Run>
-    ensures { let list = cursor.entry.list.now in let at = cursor.entry.at in let n = area board.now in
-        MatchOption result (well_formed board.now ≡ true → length list < board_end n at)
-        (λ run. (board_end n at ≤ length list) × BoardRun rounds (puzzle_of board.now.problem) (cells_on board.now) n list at run) }
-{
-    let leaf = board.leaf().ok()?;
-    let grid = leaf.grid();
-    let n = grid.size();
-    let Cursor { list, at } = cursor;
-    if list.len() < at + 15 * n + 2 {
-        return None;
+impl Rounds {
+    // Whether the potential groups differ from those that the list has at the cursor. A list that says no rounds differs: nothing would be computed.
+    fn potential_groups_differ(self, cursor: Cursor<'_>, board: &Marked<'_>) -> bool
+        requires place { cursor.at + 6 * (board.now.grid.height * board.now.grid.width) ≤ length cursor.list.now }
+        ensures { let g = sized board.now.grid.height board.now.grid.width in let n = board.now.grid.height * board.now.grid.width in
+            (arrows : List (List ℕ)) → board.now.onarrow.now ≡ mask_of g (on_arrow arrows)
+            → DiffersUnless result (PotentialSo self.labels self.kinds g (take n board.now.cells.now) (on_arrow arrows) cursor.entry.list.now cursor.entry.at n) }
+    {
+        if self.labels == 0 || self.kinds == 0 {
+            return true;
+        }
+        let groups = self.label(board, Members::Potential);
+        groups_differ(cursor, board.grid.size(), &groups)
     }
-    let onarrow = groups::mark_arrow_cells(&leaf.problem.arrows[..leaf.problem.arrow_total()]);
-    let marked = Marked {
-        grid,
-        cells: &board.cells,
-        onarrow: &onarrow,
-    };
-    let differs = potential_groups_differ(cursor, rounds, &marked);
-    let behind = Cursor {
-        list,
-        at: at + 6 * n,
-    };
-    let found = run_arrows(behind, rounds, &marked);
-    Some(found.also(differs))
-}
 
-// Opens the record, adds the decisions and compares the board with what the list has at the cursor.
-fn run_record(cursor: Cursor<'_>, rounds: Rounds, record: &[u8], decisions: &[u8]) -> Option<Run>
-    ensures { RecordRun rounds «record».now decisions.now cursor.entry.list.now cursor.entry.at result }
-{
-    let board = Board::open(record, 1, &[])
-        .ok()?
-        .decide_all(decisions)
-        .ok()?;
-    run_board(cursor, rounds, &board)
+    // Computes kinds and owners, and compares them and the arrow blocks with those that the list has at the cursor.
+    fn run_kinds(self, cursor: Cursor<'_>, board: &Marked<'_>, blocks: &Groups) -> Run
+        requires place { cursor.at + 3 * (board.now.grid.height * board.now.grid.width) + 2 ≤ length cursor.list.now }
+        requires names { Names blocks.now.firsts blocks.now.count }
+        ensures { let n = board.now.grid.height * board.now.grid.width in
+            (arrows : List (List ℕ)) → 0 < self.kinds → let p = puzzle_with (sized board.now.grid.height board.now.grid.width) arrows in
+            Given p (take n board.now.cells.now) blocks.now.labels blocks.now.arrowed
+            → KindsRun p (take n board.now.cells.now) n (arrowed_names blocks.now) cursor.entry.list.now cursor.entry.at result }
+    {
+        let mut kinds = [VACANT; 1024];
+        let mut owners = [NO_GROUP; 1024];
+        self.compute_kinds(board, blocks, &mut kinds, &mut owners);
+        let info = BoardInfo {
+            grid: board.grid,
+            cells: board.cells,
+            kinds: &kinds,
+            owners: &owners,
+        };
+        let differs = kinds_differ(cursor, &info);
+        let behind = cursor.on(3 * info.grid.size());
+        blocks::run_blocks(behind, &info, blocks).also(differs)
+    }
+
+    // Computes the blocks, and compares them, the kinds and the arrow blocks with those that the list has at the cursor.
+    fn run_arrows(self, cursor: Cursor<'_>, board: &Marked<'_>) -> Run
+        requires place { cursor.at + 9 * (board.now.grid.height * board.now.grid.width) + 2 ≤ length cursor.list.now }
+        ensures { let g = sized board.now.grid.height board.now.grid.width in let n = board.now.grid.height * board.now.grid.width in
+            (arrows : List (List ℕ)) → board.now.onarrow.now ≡ mask_of g (on_arrow arrows) → 0 < self.labels → 0 < self.kinds
+            → ArrowsRun (puzzle_with g arrows) (take n board.now.cells.now) n cursor.entry.list.now cursor.entry.at result }
+    {
+        let n = board.grid.size();
+        let blocks = self.label(board, Members::Squares);
+        let differs = groups_differ(cursor, n, &blocks);
+        let behind = cursor.on(6 * n);
+        self.run_kinds(behind, board, &blocks).also(differs)
+    }
+
+    // Computes the groups and kinds of a board, and compares them with those that the list has at the cursor; none where the list ends before them.
+    fn run_board(self, cursor: Cursor<'_>, board: &Board) -> Option<Run>
+        ensures { let list = cursor.entry.list.now in let at = cursor.entry.at in let n = area board.now in
+            MatchOption result (well_formed board.now ≡ true → length list < board_end n at)
+            (λ run. (board_end n at ≤ length list) × BoardRun self (puzzle_of board.now.problem) (cells_on board.now) n list at run) }
+    {
+        let leaf = board.leaf().ok()?;
+        let grid = leaf.grid();
+        let n = grid.size();
+        if cursor.list.len() < cursor.at + 15 * n + 2 {
+            return None;
+        }
+        let onarrow = groups::mark_arrow_cells(&leaf.problem.arrows[..leaf.problem.arrow_total()]);
+        let marked = Marked {
+            grid,
+            cells: &board.cells,
+            onarrow: &onarrow,
+        };
+        let differs = self.potential_groups_differ(cursor, &marked);
+        let behind = cursor.on(6 * n);
+        let found = self.run_arrows(behind, &marked);
+        Some(found.also(differs))
+    }
+
+    // Opens the record, adds the decisions and compares the board with what the list has at the cursor.
+    fn run_record(self, cursor: Cursor<'_>, record: &[u8], decisions: &[u8]) -> Option<Run>
+        ensures { RecordRun self «record».now decisions.now cursor.entry.list.now cursor.entry.at result }
+    {
+        let board = Board::open(record, 1, &[])
+            .ok()?
+            .decide_all(decisions)
+            .ok()?;
+        self.run_board(cursor, &board)
+    }
 }
 
 impl Entries for Rounds {
@@ -179,8 +164,7 @@ impl Entries for Rounds {
         let bytes = cursor.counted()?;
         let count = cursor.number()?;
         let decisions = cursor.take(2 * count)?;
-        let rounds = *self;
-        run_record(cursor, rounds, bytes, decisions)
+        self.run_record(cursor, bytes, decisions)
     }
 }
 

@@ -18,13 +18,6 @@ pub struct Marked<'a> {
     pub onarrow: &'a [u8; 1024],
 }
 
-// The kind of each cell by its number, and the group that it belongs to.
-#[derive(Clone, Copy)]
-pub struct CellKinds {
-    pub kinds: [u8; 1024],
-    pub owners: [u16; 1024],
-}
-
 // How often groups and kinds are computed.
 #[derive(Clone, Copy)]
 pub struct Rounds {
@@ -50,29 +43,22 @@ impl Rounds {
         groups
     }
 
-    // Computes kinds and owners so many times.
-    pub fn compute_kinds(self, board: &Marked<'_>, blocks: &Groups) -> CellKinds
+    // Computes kinds and owners so many times, each time in arrays without any.
+    pub fn compute_kinds(
+        self,
+        board: &Marked<'_>,
+        blocks: &Groups,
+        kinds: &mut [u8; 1024],
+        owners: &mut [u16; 1024],
+    )
         ensures { let n = board.now.grid.height * board.now.grid.width in 0 < self.kinds → (arrows : List (List ℕ))
             → let p = puzzle_with (sized board.now.grid.height board.now.grid.width) arrows in
-            Given p (take n board.now.cells.now) blocks.now.labels blocks.now.arrowed → Held (view p (take n board.now.cells.now)) result.kinds result.owners }
+            Given p (take n board.now.cells.now) blocks.now.labels blocks.now.arrowed → Held (view p (take n board.now.cells.now)) kinds.new owners.new }
     {
-        let mut known = CellKinds {
-            kinds: [0; 1024],
-            owners: [0; 1024],
-        };
         for _i in 0..self.kinds {
-            known = CellKinds {
-                kinds: [VACANT; 1024],
-                owners: [NO_GROUP; 1024],
-            };
-            kinds::compute_board_info_detailed(
-                board.grid,
-                board.cells,
-                blocks,
-                &mut known.kinds,
-                &mut known.owners,
-            );
+            *kinds = [VACANT; 1024];
+            *owners = [NO_GROUP; 1024];
+            kinds::compute_board_info_detailed(board.grid, board.cells, blocks, kinds, owners);
         }
-        known
     }
 }

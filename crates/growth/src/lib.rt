@@ -75,8 +75,8 @@ impl SquarePair<'_> {
     }
 }
 
-// The cells of the arrow block named f, rising, as squares, on a board of n cells. It takes arrays and n, and no `BoardInfo`: n may be any number up to 1,024, and a
-// grid has at most 32 by 32 cells, so that it would ask for more.
+// The cells of the arrow block named f, rising, as squares, on a board of n cells. It takes arrays and n, and no `BoardInfo`: n may be any number up to 1,024, also
+// one that is no grid's size, so that a `BoardInfo` would ask for more.
 pub fn reason_for_arrow_block(
     kinds: &[u8; 1024],
     owners: &[u16; 1024],

@@ -13,12 +13,13 @@ ghost use Rattle.calls.specs.Judged.{host_finished, host_finished_with, judged};
 ghost use Rattle.calls.specs.Shaded.{host_shades};
 ghost use Rattle.unique.specs.Unique.{host_unique, unique_returned};
 ghost use Rattle.calls.specs.Told.{host_certain, host_certain_with, said_number, said_bytes};
+ghost use Rattle.board.specs.Answers.{after_open};
 ghost use Rattle.board.specs.Kept.{open_of};
 ghost use Rattle.board.specs.Decide.{decide_of, undo_of};
 ghost use Rattle.board.specs.Hints.{after_find};
 ghost use Rattle.reasons.specs.Find.{find_of, buffer_after};
 ghost use Rattle.finished.specs.Verdicts.{finished_of};
-ghost use Rattle.host_board.specs.Lent.{answer_number, finding_number, verdict_number, after_open, board_certain, hints_of, count_number};
+ghost use Rattle.host_board.specs.Lent.{answer_number, finding_number, verdict_number, board_certain, hints_of, count_number};
 
 use board::Board;
 

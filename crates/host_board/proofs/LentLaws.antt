@@ -28,7 +28,7 @@ use Rattle.record.specs.Leaf.{leaf_with, is_edition, sizes_of, leaf_of}
 use Rattle.record.specs.Problem.{Answer}
 use Rattle.record.specs.Problem as answers
 use Rattle.board.specs.declared.Board.{Board}
-use Rattle.board.specs.Answers.{Opened, told, opened_as, done_as}
+use Rattle.board.specs.Answers.{Opened, done_as}
 use Rattle.board.specs.Form.{well_formed}
 use Rattle.board.specs.Kept.{opening, open_of, leaf_on, cells_on}
 use Rattle.board.specs.Decide.{area, decide_of, undo_of}
@@ -69,24 +69,6 @@ narrowed (Err x) s e ns o =
     let one : e ≡ 1 → ⊥ = λ q. omega (arith, o, q) in
     let two : e ≡ 2 → ⊥ = λ q. omega (arith, o, q) in
     no_edition s 0 ns refl ∙ sym (no_edition s e ns (rw (ne_eqb e 1 one, ne_eqb e 2 two) refl))
-
--- what is opened over a board, by the outcome
-module _ (was : Board) (s : List ℕ) (e : ℕ) (ns : List ℕ) where
-  pub opened_done : {b : Board} → ok b ≡ opened_as (open_of s e ns) → (ok tt ≡ done_as (open_of s e ns).answer) × (b ≡ after_open was (open_of s e ns))
-  unfolding after_open opened_over
-  opened_done {b} h = go (open_of s e ns).answer (open_of s e ns).board h
-    where
-      go : (a : Answer) (o : Board) → ok b ≡ told a o → (ok tt ≡ done_as a) × (b ≡ opened_over a was o)
-      go answers.Done o x = (refl, cc)
-      go (answers.Refused k) o x = let z : ◌≡◌ {A = ℕ} 0 1 = cc in absurd (omega arith)
-
-  pub opened_refused : {k : ℕ} → refused k ≡ opened_as (open_of s e ns) → (refused k ≡ done_as (open_of s e ns).answer) × (was ≡ after_open was (open_of s e ns))
-  unfolding after_open opened_over
-  opened_refused {k} h = go (open_of s e ns).answer (open_of s e ns).board h
-    where
-      go : (a : Answer) (o : Board) → refused k ≡ told a o → (refused k ≡ done_as a) × (was ≡ opened_over a was o)
-      go answers.Done o x = let z : ◌≡◌ {A = ℕ} 0 1 = cc in absurd (omega arith)
-      go (answers.Refused j) o x = let z : j ≡ k = cc in (rw z refl, refl)
 
 -- ---- what calls return
 

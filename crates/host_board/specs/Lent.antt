@@ -6,7 +6,7 @@ use Rattle.record.specs.Record.{Outcome, ok, refused, ◌>>=◌, unless}
 use Rattle.record.specs.Problem.{Answer}
 use Rattle.record.specs.Problem as answers
 use Rattle.board.specs.declared.Board.{Board}
-use Rattle.board.specs.Answers.{Opened}
+unfoldable pub use Rattle.board.specs.Answers.{opened_over, after_open}
 use Rattle.board.specs.Form.{well_formed}
 use Rattle.board.specs.Decide.{area}
 use Rattle.board.specs.Hints.{count_of}
@@ -33,15 +33,6 @@ unfoldable pub verdict_number : Verdict → ℤ
 verdict_number verdicts.Yes = pos 1
 verdict_number verdicts.No = pos 0
 verdict_number (verdicts.Refused k) = neg_ℤ (pos k)
-
--- the board that is left where open has this answer: the one that it opens, or after a refusal the one that was there
-unfoldable pub opened_over : Answer → Board → Board → Board
-opened_over answers.Done was opened = opened
-opened_over (answers.Refused k) was opened = was
-
--- what open leaves in the memory of the board that was there
-unfoldable pub after_open : Board → Opened → Board
-after_open was o = opened_over o.answer was o.board
 
 -- which cells are certain on a board, for an output of k bytes: 6, then 11 for one below 8 + H × W, then the search
 unfoldable pub board_certain : Board → ℕ → ℕ → Outcome Said

@@ -7,25 +7,25 @@ ghost use Rattle.std.specs.Result.{ForOk};
 ghost use Rattle.refusal.specs.Refusals.{ok, outcome_of, returned_of};
 ghost use Rattle.exported.specs.Written.{output_with};
 ghost use Rattle.record.specs.Problem.{Answer};
-ghost use Rattle.board.specs.Answers.{done_as};
+ghost use Rattle.board.specs.Answers.{done_as, after_open};
 ghost use Rattle.board.specs.Kept.{open_of};
 ghost use Rattle.literals.specs.Buffer.{Finding};
 ghost use Rattle.reasons.specs.Find.{found_as};
 ghost use Rattle.finished.specs.Verdicts.{finished_of};
 ghost use Rattle.calls.specs.Told.{said_number, said_bytes};
-ghost use Rattle.host_board.specs.Lent.{answer_number, finding_number, verdict_number, after_open, board_certain, hints_of, count_number};
+ghost use Rattle.host_board.specs.Lent.{answer_number, finding_number, verdict_number, board_certain, hints_of, count_number};
 
 use board::Board;
 use refusal::{Refusal, returned};
 
-// What a call returns that has nothing to tell: 0, or the negated number of a refusal.
+// What a call returns that has nothing to tell: 0, or the negated number of a refusal. No `From`: both types are std's.
 pub fn answer_number(answer: Result<(), Refusal>) -> i32
     ensures { (a : Answer) → outcome_of answer ≡ done_as a → result ≡ answer_number a }
 {
     returned(answer.and(Ok(0)))
 }
 
-// What find returns: how many literals there are, 0 for none, or the negated number of a refusal.
+// What find returns: how many literals there are, 0 for none, or the negated number of a refusal. No `From`, as `refusal::returned`.
 pub fn finding_number(finding: Result<Option<usize>, Refusal>) -> i32
     requires { (k : ℕ) → outcome_of finding ≡ ok (Some k) → k < 2 ^ 31 }
     ensures { (f : Finding) → outcome_of finding ≡ found_as f → result ≡ finding_number f }
@@ -41,12 +41,10 @@ pub fn open_in(board: &mut Board, record: &[u8], edition: u32, sizes: &[u16]) ->
 {
     // 0 is no edition either.
     let edition = u8::try_from(edition).unwrap_or(0);
-    let fresh = Board::open(record, edition, sizes)?;
-    *board = fresh;
-    Ok(())
+    board.open_in(record, edition, sizes)
 }
 
-// `finished`: 1 for yes, 0 for no, or the negated number of a refusal, 6.
+// What `finished` returns: 1 for yes, 0 for no, or the negated number of a refusal, 6.
 pub fn finished_number(board: &Board) -> i32
     ensures { result ≡ verdict_number (finished_of board.now) }
 {

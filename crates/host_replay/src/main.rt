@@ -41,7 +41,7 @@ struct Call<'a> {
 }
 
 impl Call<'_> {
-    // Whether the call returns another number, or leaves anything but the literals.
+    // Whether the call returns another number, or leaves anything but the literals. No `==`: what it leaves is held against bytes of a list.
     fn differs(&self) -> bool
         ensures { DiffersUnless result (CallSo self.now.«record».now self.now.decisions.now self.now.size self.now.expected
             (byte_in self.now.literals.list.now self.now.literals.at self.now.count 64 170)) }

@@ -60,7 +60,8 @@ fn join_codes(left: &Problem, right: &Problem) -> [u8; 1024]
     codes
 }
 
-// Puts what F makes of each number of a list behind the first `at` numbers of an array, by their places as in `join_codes`.
+// Puts what F makes of each number of a list behind the first `at` numbers of an array, by their places as in `join_codes`. A place `at`,
+// and no slice from there: the promise speaks of the whole array.
 fn append<F: Fn(u16) -> u16>(list: &[u16], at: usize, line: &mut [u16; 1024], each: F)
     requires { (at + length list.now ≤ 1024) × All (F.pre each) list.now }
     ensures { (G : ℕ → ℕ) → Gives (F.post each) G list.now → Behind at G list.now line.old line.new }

@@ -14,7 +14,7 @@ use grid::Grid;
 use groups::{Groups, NO_GROUP, UNLABELLED};
 
 // The kinds by their numbers, as they stand in an array and as the definitions (kinds/specs/Arrays) and those who are lent the array test them: an enum of them
-// would be turned into its number at each.
+// would be turned into its number in each contract.
 pub const VACANT: u8 = 0;
 
 pub const ARROW_BLOCK: u8 = 1;
@@ -27,6 +27,7 @@ pub const FLOATING: u8 = 4;
 
 // What is known of the cells of a board: the state of each, its kind, and the group that it belongs to. Kinds and owners are two arrays of numbers: with one
 // array of `DetailedCellKind` the kinds, names, chains and counts of 32 by 32 cells take 49.7 against 35.6 us, since an owner is then found by a branch.
+// The name of a block comes beside it and in no struct with it: `growth::reason_for_pair` has two names on one board, and a fence meets others on its way.
 #[derive(Clone, Copy)]
 pub struct BoardInfo<'a> {
     pub grid: Grid,
@@ -53,7 +54,7 @@ impl BoardInfo<'_> {
     }
 }
 
-// Whether cell i is in the arrow block f.
+// Whether cell i is in the arrow block f. It takes arrays, and no `BoardInfo`: `growth::reason_for_arrow_block` asks it, which has none.
 pub fn in_block(kinds: &[u8; 1024], owners: &[u16; 1024], f: u16, i: usize) -> bool
     requires { i < 1024 }
     ensures { result ≡ of_block kinds.now owners.now f i }
@@ -92,14 +93,8 @@ impl Touched {
     {
         match self {
             Touched::Nobody => Touched::One(f),
-            Touched::One(e) => {
-                if e == f {
-                    Touched::One(e)
-                } else {
-                    Touched::Many
-                }
-            }
-            Touched::Many => Touched::Many,
+            Touched::One(e) if e == f => self,
+            Touched::One(_) | Touched::Many => Touched::Many,
         }
     }
 }
@@ -119,7 +114,8 @@ impl DetailedCellKind {
         }
     }
 
-    // The arrow block of a kind, NO_GROUP where it has none, and UNLABELLED for a floating group, which has no name yet.
+    // The arrow block of a kind, NO_GROUP where it has none, and UNLABELLED for a floating group, which has no name yet. Apart from `code`: each goes to an array
+    // of its own.
     #[tactic(auto, unfolding(crate::specs::Arrays::owner_by, crate::specs::Inside::kind_from))]
     fn owner(self) -> u16
         ensures { result ≡ owner_by unnamed (kind_from self) }
@@ -201,7 +197,7 @@ fn kind_at(grid: Grid, cells: &[u8; 1024], blocks: &Groups, i: usize) -> Detaile
 }
 
 // The kind of each cell and its arrow block; floating groups have no name yet. The arrays come without kinds and owners: to return them, and the chains and sizes of
-// `reach`, clears 9 kilobytes more in a find, by which one on 6 by 6 cells takes half a microsecond longer. By index, as `groups::first_labels`.
+// `reach`, clears 9 kilobytes more in a find, by which one on 6 by 6 cells takes half a microsecond longer. By index, as the labels of `groups`.
 #[tactic(auto, using(crate::proofs::Filled::codes_more, crate::proofs::Filled::codes_none, crate::proofs::Filled::owners_more, crate::proofs::Filled::owners_none, grid::proofs::SideLaws::area))]
 fn compute_cell_kinds(
     grid: Grid,

@@ -32,7 +32,5 @@ pub fn find_in(board: &mut Board, player: u8, buffer: &mut [u16]) -> Result<Opti
         × (board.new ≡ after_find board.old player (length buffer.old))
         × (buffer.new ≡ buffer_after board.old player buffer.old) }
 {
-    let asked = reasons::find(*board, player, buffer);
-    *board = asked.board;
-    asked.finding
+    reasons::find_in(board, player, buffer)
 }

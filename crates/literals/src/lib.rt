@@ -36,7 +36,7 @@ impl From<Literal> for u16 {
     }
 }
 
-// Literals in the front of the part of a buffer that is lent for them. It is no `text::Text`, which puts bytes, and tells whether there was room.
+// Literals in the front of the part of a buffer that is lent for them. It is no `text::Text`: that puts bytes, and these are numbers of 16 bits.
 #[derive(Drop)]
 pub struct Literals<'a> {
     pub out: &'a mut [u16],

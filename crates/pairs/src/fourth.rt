@@ -137,6 +137,7 @@ impl PairReason<Floats<'_>> for Fourth {
         if self.edition != 1 {
             return finding;
         }
+        // No `or_else`: its closure would be lent the buffer, and where there is a finding its contract does not say that the buffer was left as it was.
         if let Some(literals) = finding {
             return Some(literals);
         }

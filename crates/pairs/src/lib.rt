@@ -136,6 +136,7 @@ pub fn search_pairs(
     requires room { HasRoom scene.now.linked.info buffer.old }
     ensures { FoundAs (reason34 edition (scene_board scene.now (arrows_of problem.now))) buffer.old buffer.new result }
 {
+    // No `or_else`, as in `Fourth`.
     if let Some(literals) = search_arrows(&Third, problem, scene, work, buffer) {
         return Some(literals);
     }

@@ -21,7 +21,7 @@ use grid::Grid;
 use groups::Groups;
 use literals::{Literal, Literals};
 
-// Stands for the parent of a cell that is not listed. A number, and no `Option`, as `groups::NO_GROUP`.
+// Stands for the parent of a cell that is not listed. A number, and no `Option`, as `groups::NO_GROUP`: it has the place of one number.
 const UNLISTED: u16 = 1024;
 
 // A breadth-first list of squares: `order` has its cells, and `from` the parent of each.

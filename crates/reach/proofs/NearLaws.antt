@@ -19,7 +19,7 @@ use Rattle.grid.specs.Lists.{range, upto, any, filter, member, Distinct}
 use Rattle.grid.specs.Grid.{Grid, neighbours}
 use Rattle.grid.proofs.ListLaws.{length-range, filter-length, filter_split, Distinct-snoc, at_mem, So-false, member-mem, Distinct-few}
 use Rattle.grid.proofs.AppendLaws.{count_hit, count_miss, any-append, any_agree, filter-filter, filter_agree}
-use Rattle.grid.proofs.MarkLaws.{Marks-none, Marks-same, Marks-set, mark_on, mark_off}
+use Rattle.grid.proofs.MarkLaws.{Marks-none, Marks-same, Marks-set, mark_off}
 use Rattle.reach.specs.Inside.{near_at, near_among, float_among}
 use Rattle.reach.specs.Chains.{owned_by, cells_from, Chains}
 use Rattle.kinds.specs.Inside.{of_block}

@@ -41,7 +41,8 @@ fn chain_cell(owners: &[u16; 1024], i: usize, head: &mut [u16; 1024], next: &mut
     head[slot] = grid::pick(owned, i as u16, first);
 }
 
-// Links the cells of each owner by rising index, as `Linked` has them. Both arrays come with 1024 everywhere, lent as those of `kinds::compute_cell_kinds`.
+// Links the cells of each owner by rising index, as `Linked` has them. Both arrays come with 1024 everywhere, lent as those of `kinds::compute_cell_kinds`. It
+// takes owners and n, and no `BoardInfo`, of which it would read nothing else.
 pub fn chain_cells(owners: &[u16; 1024], n: usize, head: &mut [u16; 1024], next: &mut [u16; 1024])
     requires fresh { (n ≤ 1024) × (head.old ≡ replicate 1024 1024) × (next.old ≡ replicate 1024 1024) }
     ensures { Chains owners.now head.new next.new n }
@@ -73,21 +74,6 @@ pub fn in_reach(info: &BoardInfo<'_>, near: &[u8; 1024], f: u16, i: usize) -> bo
     }
 }
 
-// The cells of the reach of the block f, whose floating groups are marked, as marks, and how many they are.
-fn mark_reach(info: &BoardInfo<'_>, f: u16, near: &[u8; 1024]) -> ([u8; 1024], usize)
-    ensures { Reached info.now.kinds.now info.now.owners.now near.now f (cell_count info.now) result.0 result.1 }
-{
-    let mut marks = [0; 1024];
-    let mut count = 0;
-    for i in 0..info.grid.size() {
-        if in_reach(info, near, f, i) {
-            marks[i] = 1;
-            count += 1;
-        }
-    }
-    (marks, count)
-}
-
 // Marks the floating groups that touch cell i, if that is a neighbour of the block f. It goes over the directions as `Floats::list_floats_beside` does, which
 // lists them too; a closure for what is done there would be as long as the loop.
 fn mark_floats_beside(info: &BoardInfo<'_>, f: u16, i: usize, near: &mut [u8; 1024])
@@ -107,23 +93,45 @@ fn mark_floats_beside(info: &BoardInfo<'_>, f: u16, i: usize, near: &mut [u8; 10
     }
 }
 
-// The floating groups that touch a neighbour of the block f, as marks.
-fn mark_near_floats(info: &BoardInfo<'_>, f: u16) -> [u8; 1024]
-    ensures { Marks result (is_float_near info.now f) }
-{
-    let mut near = [0; 1024];
-    for i in 0..info.grid.size() {
-        mark_floats_beside(info, f, i, &mut near);
+impl BlockReach {
+    // Marks the floating groups that touch a neighbour of the block f, where none is marked. A loop of its own, as the parts of `clauses::Sheet`: a closure in its
+    // place would say that it was called, and it would still have to be said what its calls leave.
+    fn mark_near_floats(&mut self, info: &BoardInfo<'_>, f: u16)
+        requires fresh { self.old.near ≡ replicate 1024 0 }
+        ensures near { Marks self.new.near (is_float_near info.now f) }
+        ensures others { self.new ≡ record self.old { near = self.new.near } }
+    {
+        for i in 0..info.grid.size() {
+            mark_floats_beside(info, f, i, &mut self.near);
+        }
     }
-    near
+
+    // Marks the cells of the reach of the block f, whose floating groups are marked, and counts them, where none is marked. By index, as the labels of `groups`.
+    fn mark_reach(&mut self, info: &BoardInfo<'_>, f: u16)
+        requires fresh { (self.old.marks ≡ replicate 1024 0) × (self.old.size ≡ 0) }
+        ensures marked { Reached info.now.kinds.now info.now.owners.now self.new.near f (cell_count info.now) self.new.marks self.new.size }
+        ensures near { self.new.near ≡ self.old.near }
+    {
+        for i in 0..info.grid.size() {
+            if in_reach(info, &self.near, f, i) {
+                self.marks[i] = 1;
+                self.size += 1;
+            }
+        }
+    }
 }
 
-// The reach of the block f, by passes over the grid: who writes a reason has no chains of its cells, by which `near::Floats::list_near` goes.
+// The reach of the block f. By passes over the grid: a fence asks for a mark of each cell, and is written only for the reason that is found.
 pub fn compute_reach(info: &BoardInfo<'_>, f: u16) -> BlockReach
     ensures { (arrows : List (List ℕ)) (cells : List ℕ) → KindsAre info.now (board_with info.now arrows cells)
         → Reach (board_with info.now arrows cells) f result.near result.marks result.size }
 {
-    let near = mark_near_floats(info, f);
-    let (marks, size) = mark_reach(info, f, &near);
-    BlockReach { near, marks, size }
+    let mut reach = BlockReach {
+        near: [0; 1024],
+        marks: [0; 1024],
+        size: 0,
+    };
+    reach.mark_near_floats(info, f);
+    reach.mark_reach(info, f);
+    reach
 }

@@ -8,7 +8,7 @@ ghost use Rattle.kinds.specs.Board.{cell_count, board_with, KindsAre, NamesBlock
 ghost use Rattle.reach.specs.Board.{has_float, touches_float, OwnerSizes, BlockSize};
 ghost use Rattle.reach.specs.Near.{Sizes, Listed, Listing, NearFloats};
 
-use crate::Linked;
+use crate::{Linked, NO_CELL};
 use groups::NO_GROUP;
 use kinds::{ARROW_BLOCK, ARROW_BLOCK_NEIGHBOR, BoardInfo, FLOATING};
 
@@ -75,7 +75,7 @@ impl Floats<'_> {
         let mut total = 0;
         let mut i = usize::from(linked.head[usize::from(f)]);
         // A `while`: the next cell stands in the chain, and in no range.
-        while i < 1024 {
+        while i < usize::from(NO_CELL) {
             total = self.list_floats_beside(&linked.info, i, total);
             i = usize::from(linked.next[i]);
         }
@@ -106,6 +106,8 @@ fn count_cell(kinds: &[u8; 1024], owners: &[u16; 1024], i: usize, sizes: &mut [u
 }
 
 // How many of the cells below n each owner has beside the squares of arrow blocks. The sizes come as zeros, lent as the arrays of `kinds::compute_cell_kinds`.
+// It takes kinds, owners and n, and no `BoardInfo`: it asks for no neighbours, so that a grid would give it n alone. A loop of its own, as
+// `reach::BlockReach::mark_near_floats`.
 pub fn count_cells(kinds: &[u8; 1024], owners: &[u16; 1024], n: usize, sizes: &mut [u16; 1024])
     requires fresh { (n ≤ 1024) × (sizes.old ≡ replicate 1024 0) }
     ensures { Sizes kinds.now owners.now n sizes.new }

@@ -39,6 +39,7 @@ fn search_arrows(
         squares,
     };
     let finding = pairs::search_pairs(leaf.edition, leaf.problem, &scene, &mut work, buffer);
+    // No `or_else`, here and below, as in `pairs::fourth`: its closure would be lent the buffer.
     if let Some(literals) = finding {
         return Some(literals);
     }

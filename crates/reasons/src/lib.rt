@@ -5,7 +5,7 @@
 pub mod inconsistency;
 
 ghost use Rattle.std.specs.Prelude.{◌≡◌, ◌≤◌, length, replicate};
-ghost use Rattle.board.specs.Hints.{hinted, after_find};
+ghost use Rattle.board.specs.Hints.{after_find};
 ghost use Rattle.refusal.specs.Refusals.{outcome_of};
 ghost use Rattle.reasons.specs.Find.{find_of, found_as, buffer_after};
 
@@ -27,18 +27,6 @@ pub fn no_literals() -> [u16; Board::LITERALS]
     [0; Board::LITERALS]
 }
 
-// The board with one more hint counted for the player, and for no other.
-#[tactic(auto, unfolding(board::specs::Hints::hinted, board::specs::Hints::with_hints))]
-fn hinted(board: Board, player: u8) -> Board
-    requires { player ≤ 3 }
-    ensures { result ≡ hinted board player }
-{
-    let at = usize::from(player);
-    let mut left = board;
-    left.hints[at] = board::raised(board.hints[at]);
-    left
-}
-
 // Why the board can't be finished: how many literals the first reason that applies has, written to the buffer's first places, and none where no reason
 // does. Refused: 6 a board that no list of calls could leave, 17 a player above 3, 11 a buffer shorter than 3 × H × W + 1 literals.
 fn reason_against(board: &Board, player: u8, buffer: &mut [u16]) -> Result<Option<usize>, Refusal>
@@ -55,21 +43,28 @@ fn reason_against(board: &Board, player: u8, buffer: &mut [u16]) -> Result<Optio
     Ok(found)
 }
 
-// The reason, as above, with the board as find leaves it. A find that is not refused raises its player's count of hints, and changes nothing else on the
-// board; the reason doesn't depend on the player.
-#[tactic(auto, using(crate::proofs::FindLaws::find_counted, crate::proofs::FindLaws::find_kept))]
+// The reason, as above, on a board that is lent. A find that is not refused raises its player's count of hints, and changes nothing else on the board; the reason
+// doesn't depend on the player. It writes in place, as `Board::decide_in`.
+#[tactic(auto, using(crate::proofs::FindLaws::find_counted, crate::proofs::FindLaws::find_kept), unfolding(board::specs::Hints::hinted, board::specs::Hints::with_hints))]
+pub fn find_in(board: &mut Board, player: u8, buffer: &mut [u16]) -> Result<Option<usize>, Refusal>
+    ensures { (outcome_of result ≡ found_as (find_of board.old player buffer.old)) × (board.new ≡ after_find board.old player (length buffer.old))
+        × (buffer.new ≡ buffer_after board.old player buffer.old) }
+{
+    let found = reason_against(board, player, buffer)?;
+    let at = usize::from(player);
+    board.hints[at] = board::raised(board.hints[at]);
+    Ok(found)
+}
+
+// The same of a board by value.
 pub fn find(board: Board, player: u8, buffer: &mut [u16]) -> Asked
     ensures { (outcome_of result.finding ≡ found_as (find_of board player buffer.old)) × (result.board ≡ after_find board player (length buffer.old))
         × (buffer.new ≡ buffer_after board player buffer.old) }
 {
-    match reason_against(&board, player, buffer) {
-        Ok(found) => Asked {
-            finding: Ok(found),
-            board: hinted(board, player),
-        },
-        Err(refusal) => Asked {
-            finding: Err(refusal),
-            board,
-        },
+    let mut left = board;
+    let finding = find_in(&mut left, player, buffer);
+    Asked {
+        finding,
+        board: left,
     }
 }

@@ -6,7 +6,7 @@ use native.Mathlib.Omega.{arith}
 use mathlib.Core.Path.{◌≡◌, refl, sym, ap, ◌∙◌}
 use mathlib.Core.Bool.{Bool, true, false}
 use mathlib.Core.List.{List, [], ◌∷◌, ◌++◌, append_assoc, append-nil}
-use lib.ListN.{length, set, replicate, length-append}
+use lib.ListN.{length, set, length-append}
 use Rattle.grid.specs.Lists.{array_of}
 use Rattle.grid.specs.Grid.{Grid}
 use Rattle.fields.specs.Fields.{Outcome, ok, refused, ◌>>=◌, unless}
@@ -67,15 +67,15 @@ module _ (b : BitReader) (g : Grid) (m : ℕ) where
   abbrev at : ℕ
   at = b.at
 
-  pub arrows_start : (line : List ℕ) → line ≡ [] → ArrowsSoFar b g m 0 line (replicate 1024 0) b
-  unfolding arrow_cells ends_from array_of
-  arrows_start line e =
+  pub arrows_start : (line ends : List ℕ) → line ≡ [] → ends ≡ array_of 0 [] → ArrowsSoFar b g m 0 line ends b
+  unfolding arrow_cells ends_from
+  arrows_start line ends e z =
       rw e (record {
         read = [];
         many = refl;
         line_is = refl;
         some = omega arith;
-        ended = refl;
+        ended = z;
         past = past_then 0 (past_none b) (past_none b) (omega arith);
         rest = rw (sub-zero m) (sym (bind_same (arrows_in s g [] at m)));
       })
@@ -139,7 +139,7 @@ module _ (b : BitReader) (g : Grid) (m : ℕ) where
         sym (rw (w.past.same, on) at f)
 
     pub arrows_filled : (extent : Extent) → true ≡ ended extent now.bytes.now now.at
-        → Agrees {B = List ℕ} (arrows_ended extent s g at m) (λ l held. (line ≡ arrow_cells l) × (held ≡ array_of 0 (ends_from 0 l))) (Ok ends)
+        → Agrees {B = Unit {0}} (arrows_ended extent s g at m) (λ l _. (line ≡ arrow_cells l) × (ends ≡ array_of 0 (ends_from 0 l))) (Ok tt)
     unfolding arrows_ended ◌>>=◌ unless
     arrows_filled extent f =
         let a : arrows_ended extent s g at m ≡ ok w.read = rw (all_read, behind_is extent f) refl in

@@ -6,9 +6,10 @@ use native.Mathlib.Omega.{arith}
 use mathlib.Core.Path.{◌≡◌, refl, sym, ap, ◌∙◌}
 use mathlib.Core.List.{List, [], ◌∷◌, ◌++◌, append-nil}
 use lib.Dec.{ltb}
-use lib.ListN.{length, set, replicate, length-append}
+use lib.ListN.{length, set, take, drop, replicate, length-set, length-replicate}
+use lib.Seq.{take_all}
+use Rattle.std.proofs.lemmas.List.{take_more_set, length-take-le, drop-replicate}
 use Rattle.grid.specs.Lists.{array_of}
-use Rattle.grid.proofs.ArrayLaws.{array_more}
 use Rattle.fields.specs.Fields.{Outcome, ok, refused, ◌>>=◌, unless, field}
 use Rattle.fields.specs.Inside.{Agrees, Past, cell_code, code_at}
 use Rattle.fields.specs.declared.BitReader.{BitReader}
@@ -25,13 +26,11 @@ cells_next s at n = go (field s at 2)
     go (refused k) = refl
     go (ok c) = sym (bind_bind (unless (ltb c 3) 2) (λ _. ok c) (λ x. cell_codes s (at + 2) n >>= λ cs. ok (x ∷ cs)))
 
--- the first i codes are in the array, up to where is read now, and what is left makes of them what the whole makes
+-- the first i codes are written, up to where is read now, and what is left makes of them what the whole makes
 pub record CellsSoFar (b : BitReader) (n i : ℕ) (cells : List ℕ) (now : BitReader) : Type 0 where
-  pub codes : List ℕ
-  pub many : length codes ≡ i
-  pub held : cells ≡ array_of 0 codes
+  pub long : length cells ≡ n
   pub past : Past (2 * i) b now
-  pub rest : cell_codes b.bytes.now b.at n ≡ (cell_codes b.bytes.now (b.at + 2 * i) (n - i) >>= λ cs. ok (codes ++ cs))
+  pub rest : cell_codes b.bytes.now b.at n ≡ (cell_codes b.bytes.now (b.at + 2 * i) (n - i) >>= λ cs. ok (take i cells ++ cs))
 
 module _ (b : BitReader) (n : ℕ) where
   abbrev s : List ℕ
@@ -40,39 +39,52 @@ module _ (b : BitReader) (n : ℕ) where
   abbrev at : ℕ
   at = b.at
 
-  pub cells_start : CellsSoFar b n 0 (replicate 1024 0) b
-  unfolding array_of
-  cells_start = record { codes = []; many = refl; held = refl; past = past_none b; rest = rw (sub-zero n, add-zero at) (sym (bind_same (cell_codes s at n))) }
+  pub cells_start : {cells : List ℕ} → length cells ≡ n → CellsSoFar b n 0 cells b
+  cells_start e = record { long = e; past = past_none b; rest = rw (sub-zero n, add-zero at) (sym (bind_same (cell_codes s at n))) }
 
   module _ {i : ℕ} {cells : List ℕ} {now : BitReader} (h : i < n) (f : CellsSoFar b n i cells now) where
     -- what is left, when the next code is read
-    left : (cell_codes s (at + 2 * i) (n - i) >>= λ cs. ok (f.codes ++ cs))
-        ≡ ((code_at s (at + 2 * i) >>= λ c. cell_codes s (at + 2 * (i + 1)) (n - (i + 1)) >>= λ cs. ok (c ∷ cs)) >>= λ cs. ok (f.codes ++ cs))
+    left : (cell_codes s (at + 2 * i) (n - i) >>= λ cs. ok (take i cells ++ cs))
+        ≡ ((code_at s (at + 2 * i) >>= λ c. cell_codes s (at + 2 * (i + 1)) (n - (i + 1)) >>= λ cs. ok (c ∷ cs)) >>= λ cs. ok (take i cells ++ cs))
     left =
         let e : n - i ≡ suc (n - (i + 1)) = omega arith in
         let p : at + 2 * i + 2 ≡ at + 2 * (i + 1) = omega arith in
-        rw e (ap (λ (o : Outcome (List ℕ)). o >>= λ cs. ok (f.codes ++ cs)) (cells_next s (at + 2 * i) (n - (i + 1)) ∙ rw p refl))
+        rw e (ap (λ (o : Outcome (List ℕ)). o >>= λ cs. ok (take i cells ++ cs)) (cells_next s (at + 2 * i) (n - (i + 1)) ∙ rw p refl))
 
     -- the code that is read here
     here : {o : Outcome ℕ} → o ≡ code_at now.bytes.now now.at → code_at s (at + 2 * i) ≡ o
     here e = sym (rw (f.past.same, f.past.on) at e)
 
     pub cells_fault : {k : ℕ} → refused k ≡ code_at now.bytes.now now.at → cell_codes s at n ≡ refused k
-    cells_fault e = f.rest ∙ left ∙ bind_refused (λ cs. ok (f.codes ++ cs)) (bind_refused _ (here e))
+    cells_fault e = f.rest ∙ left ∙ bind_refused (λ cs. ok (take i cells ++ cs)) (bind_refused _ (here e))
 
-    pub cells_more : (c : ℕ) {next : BitReader} → n ≤ 1024 → ok c ≡ code_at now.bytes.now now.at → Past 2 now next → CellsSoFar b n (i + 1) (set cells i c) next
-    cells_more c m e p = record {
-      codes = f.codes ++ (c ∷ []);
-      many = rw length-append (omega (arith, f.many));
-      held = rw (f.held, ← f.many) (array_more 0 f.codes c (omega (arith, f.many)));
+    pub cells_more : (c : ℕ) {next : BitReader} → ok c ≡ code_at now.bytes.now now.at → Past 2 now next → CellsSoFar b n (i + 1) (set cells i c) next
+    cells_more c e p = record {
+      long = length-set cells i c ∙ f.long;
       past = past_then (2 * (i + 1)) f.past p (omega arith);
-      rest = f.rest ∙ left ∙ ap (λ (o : Outcome (List ℕ)). o >>= λ cs. ok (f.codes ++ cs)) (bind_value _ (here e)) ∙ behind (cell_codes s (at + 2 * (i + 1)) (n - (i + 1))) f.codes c;
+      rest = f.rest
+          ∙ left
+          ∙ ap (λ (o : Outcome (List ℕ)). o >>= λ cs. ok (take i cells ++ cs)) (bind_value _ (here e))
+          ∙ behind (cell_codes s (at + 2 * (i + 1)) (n - (i + 1))) (take i cells) c
+          ∙ ap (λ (l : List ℕ). cell_codes s (at + 2 * (i + 1)) (n - (i + 1)) >>= λ cs. ok (l ++ cs)) (sym (take_more_set cells i c (omega (arith, f.long))));
     }
 
-  module _ {i : ℕ} {cells : List ℕ} {now : BitReader} (h : i ≤ n) (k : n ≤ i) (f : CellsSoFar b n i cells now) where
-    pub cells_end : Agrees {B = List ℕ} (cell_codes s at n) (λ cs held. held ≡ array_of 0 cs) (Ok cells)
+  module _ {i : ℕ} {cells : List ℕ} {now : BitReader} (k : n ≤ i) (f : CellsSoFar b n i cells now) where
+    pub cells_end : Agrees {B = Unit {0}} (cell_codes s at n) (λ cs _. cells ≡ cs) (Ok tt)
     unfolding cell_codes ◌>>=◌
     cells_end =
         let e : n - i ≡ 0 = omega arith in
-        let a : cell_codes s at n ≡ ok f.codes = f.rest ∙ ap (λ (m : ℕ). cell_codes s (at + 2 * i) m >>= λ cs. ok (f.codes ++ cs)) e ∙ ap {B = Outcome (List ℕ)} ok (append-nil f.codes) in
-        (f.codes, a, f.held)
+        let a : cell_codes s at n ≡ ok (take i cells) = f.rest ∙ ap (λ (m : ℕ). cell_codes s (at + 2 * i) m >>= λ cs. ok (take i cells ++ cs)) e ∙ ap {B = Outcome (List ℕ)} ok (append-nil (take i cells)) in
+        (take i cells, a, sym (take_all i cells (omega (arith, f.long))))
+
+-- an array of zeros, its first n places, and the whole when these are written
+pub zeros : replicate {A = ℕ} 1024 0 ≡ array_of 0 []
+unfolding array_of
+zeros = refl
+
+pub zeros_front : (n : ℕ) → n ≤ 1024 → length (take n (replicate {A = ℕ} 1024 0)) ≡ n
+zeros_front n h = length-take-le n (replicate 1024 0) (rw (length-replicate {A = ℕ} 1024 0) h)
+
+pub zeros_over : (n : ℕ) (codes : List ℕ) → length codes ≡ n → codes ++ drop n (replicate 1024 0) ≡ array_of 0 codes
+unfolding array_of
+zeros_over n codes e = rw (e, drop-replicate {X = ℕ} n 1024 0) refl

@@ -82,11 +82,11 @@ module _ (extent : Extent) (b : BitReader) (z : b.at ≡ 0) where
         on_3 = omega (arith, p3.on, on_2)
 
         -- a fault in the cells
-        pub whole_cells : {k : ℕ} → cell_codes b3.bytes.now b3.at ((h + 1) * (w + 1)) ≡ refused k → refused k ≡ as_problem (read_as extent s)
+        pub whole_cells : {n k : ℕ} → n ≡ (h + 1) * (w + 1) → cell_codes b3.bytes.now b3.at n ≡ refused k → refused k ≡ as_problem (read_as extent s)
         unfolding as_problem read_as read_fields ◌>>=◌ size
-        whole_cells e = rw (← first, ← second, ← third, rw (same_3, on_3) at e) refl
+        whole_cells en e = rw (← first, ← second, ← third, rw (same_3, on_3, en) at e) refl
 
-        module _ {cs : List ℕ} {b4 : BitReader} (ec : cell_codes b3.bytes.now b3.at ((h + 1) * (w + 1)) ≡ ok cs) (p4 : Past (2 * ((h + 1) * (w + 1))) b3 b4) where
+        module _ {n : ℕ} (en : n ≡ (h + 1) * (w + 1)) {cs : List ℕ} {b4 : BitReader} (ec : cell_codes b3.bytes.now b3.at n ≡ ok cs) (p4 : Past (2 * n) b3 b4) where
           abbrev grid : Grid
           grid = sized (h + 1) (w + 1)
 
@@ -94,9 +94,9 @@ module _ (extent : Extent) (b : BitReader) (z : b.at ≡ 0) where
           whole_last : {m : ℕ} → ok m ≡ field s 10 11 → read_as extent s ≡ (arrows_ended extent b4.bytes.now grid b4.at m >>= λ l. ok (made grid cs l))
           unfolding read_as read_fields arrows_ended end_of ◌>>=◌ size
           whole_last {m} e =
-              let codes : cell_codes s 21 ((h + 1) * (w + 1)) ≡ ok cs = rw (same_3, on_3) at ec in
+              let codes : cell_codes s 21 ((h + 1) * (w + 1)) ≡ ok cs = rw (same_3, on_3, en) at ec in
               let same : b4.bytes.now ≡ s = p4.same ∙ same_3 in
-              let on : b4.at ≡ 21 + 2 * ((h + 1) * (w + 1)) = omega (arith, p4.on, on_3) in
+              let on : b4.at ≡ 21 + 2 * ((h + 1) * (w + 1)) = omega (arith, p4.on, on_3, en) in
               rw (← first, ← second, ← e, codes, same, on) (sym (made_ended s grid m cs (ended extent s)))
 
           -- a fault in the arrows, or behind them

@@ -70,7 +70,7 @@ fn arrows_differ(said: Cursor<'_>, count: usize, line: &[u16; 1024], ends: &[u16
     zeros_differ(&line[end..]) || zeros_differ(&ends[count..])
 }
 
-// Whether the problem differs from the one at the cursor.
+// Whether the problem differs from the one at the cursor. No `==`: it is held against bytes of the list.
 fn problem_differs(said: Cursor<'_>, problem: Problem) -> bool
     requires { said.at + 2 ≤ length said.list.now }
     ensures { DiffersUnless result (ProblemSo said.entry.list.now said.entry.at problem) }
@@ -80,23 +80,13 @@ fn problem_differs(said: Cursor<'_>, problem: Problem) -> bool
     if 1024 < count {
         return true;
     }
-    if problem.height != said.byte_at(0) {
-        return true;
-    }
-    if problem.width != said.byte_at(1) {
-        return true;
-    }
-    if problem.count != count {
-        return true;
-    }
-    let mut codes = said;
-    codes.skip(2);
-    if codes.cells_differ(n, &problem.cells, 0) {
-        return true;
-    }
     let mut arrows = said;
     arrows.skip(4 + n);
-    arrows_differ(arrows, count, &problem.arrows, &problem.ends)
+    problem.height != said.byte_at(0)
+        || problem.width != said.byte_at(1)
+        || problem.count != count
+        || said.on(2).cells_differ(n, &problem.cells, 0)
+        || arrows_differ(arrows, count, &problem.arrows, &problem.ends)
 }
 
 // Whether a record is not refused with this number.

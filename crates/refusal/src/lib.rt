@@ -74,7 +74,7 @@ pub enum Refusal {
 }
 
 impl Refusal {
-    /// The number in the README.
+    /// The number in the README. A method, and no `From`: its name says which number it is.
     pub fn number(self) -> u8
         ensures { result ≡ number_of self }
     {

@@ -25,7 +25,8 @@ pub struct Run {
     pub end: Option<usize>,
 }
 
-// What was counted of a list, where its next entry begins, and whether no damage was met.
+// What was counted of a list, where its next entry begins, and whether no damage was met. A flag, and no `Option` of the place: a damaged list is told with its counts,
+// and the place ends the loop.
 #[derive(Clone, Copy, Debug, PartialEq, Eq)]
 pub struct Tally {
     pub entries: usize,
@@ -45,6 +46,9 @@ pub struct Report<'a> {
 
 // What stands in every place of a fresh buffer: a number that is the literal of no cell.
 pub const NO_LITERAL: u16 = 65535;
+
+// What stands in the place of a name where there is none: the number behind that of the last cell. It is `groups::NO_GROUP`, and this crate is not above that one.
+const NO_NAME: u16 = 1024;
 
 // H × W, none where a size is above 32.
 #[tactic(auto, using(std::proofs::lemmas::Bool::Decides::nat_tests), unfolding(crate::specs::Lists::area_of))]
@@ -85,7 +89,8 @@ pub fn data_start(list: &[u8]) -> Option<usize>
     }
 }
 
-// Whether a call answers something else than what a list says of it: a value, or the number of its refusal.
+// Whether a call answers something else than what a list says of it: a value, or the number of its refusal. A number,
+// and no `Refusal`: a list may say any byte. What is compared has two types, so that `==` is not there.
 pub fn answer_differs<T: PartialEq + Drop>(answer: Result<T, Refusal>, said: Result<T, u8>) -> bool
     ensures { ((a b : T) → Decides (T.eq a b) (a ≡ b)) → DiffersUnless result (outcome_of answer ≡ outcome_said said) }
 {
@@ -203,6 +208,18 @@ pub struct Cursor<'a> {
 }
 
 impl<'a> Cursor<'a> {
+    // The place this many bytes on in the same list.
+    pub fn on(self, n: usize) -> Cursor<'a>
+        requires { self.at + n ≤ length self.list.now }
+        ensures same { result.list.now ≡ self.entry.list.now }
+        ensures on { result.at ≡ self.entry.at + n }
+    {
+        Cursor {
+            list: self.list,
+            at: self.at + n,
+        }
+    }
+
     // The next n bytes, none where the list ends before them.
     pub fn take(&mut self, n: usize) -> Option<&'a [u8]>
         ensures same { self.new.list.now ≡ self.old.list.now }
@@ -224,7 +241,7 @@ impl<'a> Cursor<'a> {
         Some(bytes[0])
     }
 
-    // What the next byte says of a call: the number of its refusal, and 0 where it is not refused; none at the end.
+    // What the next byte says of a call: the number of its refusal, and 0 where it is not refused; none at the end. A number, and no `Refusal`: a list may say any byte.
     pub fn refusal(&mut self) -> Option<Result<(), u8>>
         ensures same { self.new.list.now ≡ self.old.list.now }
         ensures taken { IfSome result (λ said. (said ≡ said_by (get_or self.old.list.now self.old.at 0)) × (self.new.at ≡ self.old.at + 1)) }
@@ -294,7 +311,8 @@ impl<'a> Cursor<'a> {
         self.byte_at(i - from)
     }
 
-    // Whether the bytes are not, from place `from` on, the next n bytes of the list, and in every other place this one.
+    // Whether the bytes are not, from place `from` on, the next n bytes of the list, and in every other place this one. No `==`, here and below: no slice holds what they
+    // are compared with, which are bytes of the list and a number that fills the other places.
     pub fn bytes_differ(self, n: usize, bytes: &[u8], from: usize, other: u8) -> bool
         ensures { result ≡ differs bytes.now (byte_in self.entry.list.now self.entry.at n from other) 0 }
     {
@@ -334,7 +352,7 @@ impl<'a> Cursor<'a> {
     pub fn names_differ(self, n: usize, names: &[u16; 1024]) -> bool
         ensures { result ≡ differs names.now (number_in self.entry.list.now self.entry.at n 1024) 0 }
     {
-        self.numbers_differ(n, names, 1024)
+        self.numbers_differ(n, names, NO_NAME)
     }
 
     // The same for a buffer that was fresh, and nothing written behind its literals.

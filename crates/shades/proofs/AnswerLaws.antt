@@ -3,9 +3,9 @@
 use Prim.Native.Nat.{◌*◌}
 use mathlib.Core.Path.{◌≡◌, refl}
 use mathlib.Core.Bool.{true, false}
-use mathlib.Core.List.{List, ◌++◌}
+use mathlib.Core.List.{List}
 use Prim.Native.Nat.{ℕ}
-use lib.ListN.{take, drop, replicate}
+use lib.ListN.{take}
 use Rattle.grid.specs.Grid.{size}
 use Rattle.grid.specs.Side.{sized}
 use Rattle.record.specs.Problem.{grid_of}
@@ -14,7 +14,6 @@ use Rattle.board.specs.Form.{well_formed}
 use Rattle.board.specs.Kept.{cells_on}
 use Rattle.board.specs.declared.Board.{Board}
 use Rattle.shades.specs.Shades.{shades_on, in_places, shades_of, shaded_as}
-use Rattle.shades.proofs.ShadeLaws.{shades_length}
 
 -- 6
 pub shades_ill : (b : Board) → well_formed b ≡ false → refused 6 ≡ shaded_as (shades_of b)
@@ -22,8 +21,7 @@ unfolding shades_of
 shades_ill b h = rw h refl
 
 -- the shades, and 0 behind them
-pub shades_well : (b : Board) {l start : List ℕ} → well_formed b ≡ true
-    → l ≡ shades_on (sized b.problem.height b.problem.width) (take (b.problem.height * b.problem.width) b.cells) ++ drop (2 * (b.problem.height * b.problem.width)) start
-    → start ≡ replicate 2048 0 → ok l ≡ shaded_as (shades_of b)
-unfolding shades_of in_places cells_on grid_of size
-shades_well b h e s = rw (h, e, s, shades_length (grid_of b.problem) (cells_on b)) refl
+pub shades_well : (b : Board) {l : List ℕ} → well_formed b ≡ true
+    → l ≡ in_places (shades_on (sized b.problem.height b.problem.width) (take (b.problem.height * b.problem.width) b.cells)) → ok l ≡ shaded_as (shades_of b)
+unfolding shades_of cells_on grid_of size
+shades_well b h e = rw (h, e) refl

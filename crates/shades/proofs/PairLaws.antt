@@ -7,9 +7,9 @@ use mathlib.Core.Path.{◌≡◌, refl, ap, ◌∙◌}
 use mathlib.Core.Bool.{true, false, cond}
 use mathlib.Core.List.{List, ◌++◌}
 use lib.Dec.{ltb}
-use lib.ListN.{length, get_or, set, drop}
+use lib.ListN.{length, get_or, set, drop, replicate}
 use borrow.Author.Tests.{lt-ltb}
-use Rattle.grid.specs.Lists.{range, upto, flat_map}
+use Rattle.grid.specs.Lists.{range, upto}
 use Rattle.grid.specs.Grid.{Grid, size, cells_of}
 use Rattle.grid.specs.Cells.{square}
 use Rattle.grid.proofs.ListLaws.{split, upto-mem, filter-mem, mem-filter}
@@ -21,7 +21,7 @@ use Rattle.groups.specs.Groups.{labels, group}
 use Rattle.groups.specs.Arrays.{label_array, tally_of}
 use Rattle.groups.proofs.GroupLaws.{label, group-mem, group-Rising, label_least}
 use Rattle.groups.proofs.LabelLaws.{label_in, label_out}
-use Rattle.shades.specs.Shades.{block_first, block_count, shade_of, shades_on}
+use Rattle.shades.specs.Shades.{block_first, block_count, shade_of, shades_on, in_places}
 use Rattle.shades.specs.Inside.{pair_by, pairs_by}
 use Rattle.shades.proofs.ShadeLaws.{twos_length}
 
@@ -30,6 +30,11 @@ module _ (groups squares out : List ℕ) where
   pub pairs_length : (k : ℕ) → length (pairs_by groups squares k) ≡ 2 * k
   unfolding pairs_by pair_by
   pairs_length k = twos_length (λ i. pair_by squares (get_or groups i 0)) (λ i. refl) (upto k) ∙ ap (λ (n : ℕ). 2 * n) (upto-length k)
+
+  -- with 0 behind them in an array of them all
+  pub pairs_placed : (k : ℕ) → in_places (pairs_by groups squares k) ≡ pairs_by groups squares k ++ drop (2 * k) (replicate 2048 0)
+  unfolding in_places
+  pairs_placed k = rw (pairs_length k) refl
 
   -- none is written yet
   pub pairs_none : out ≡ pairs_by groups squares 0 ++ drop (2 * 0) out
@@ -81,5 +86,5 @@ module _ (g : Grid) (cells groups squares : List ℕ) (named : groups ≡ label_
     pairs_are = flat_map_agree (λ i. pair_by squares (get_or groups i 0)) (shade_of g cells) (upto (size g)) (λ i m. one i (upto-mem (size g) m))
 
     -- so they are what is written
-    pub pairs_shades : {l : List ℕ} (out : List ℕ) → l ≡ pairs_by groups squares (size g) ++ drop (2 * size g) out → l ≡ shades_on g cells ++ drop (2 * size g) out
-    pairs_shades out e = rw (← pairs_are) e
+    pub pairs_shades : {l : List ℕ} → l ≡ in_places (pairs_by groups squares (size g)) → l ≡ in_places (shades_on g cells)
+    pairs_shades e = rw (← pairs_are) e

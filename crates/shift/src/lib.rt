@@ -11,8 +11,8 @@ ghost use Rattle.shift.specs.Fits.{shift_fits};
 ghost use Rattle.shift.specs.Shift.{block_on, Places, BlockPlaces, lands_in};
 
 use kinds::ARROW_BLOCK;
-use reach::Linked;
 use reach::near::Floats;
+use reach::{Linked, NO_CELL};
 
 // What the shift test works in, whatever stands there: floating groups, and the rows and the columns of a block's cells. These are two arrays of numbers and none of
 // places, since they are arrays that have served for something else and are lent on: no memory is taken for them.
@@ -113,7 +113,7 @@ impl ShiftTest<'_, '_> {
     {
         let mut t = usize::from(self.block.linked.head[usize::from(m)]);
         // A `while`: the next cell stands in the chain, and in no range.
-        while t < 1024 {
+        while t < usize::from(NO_CELL) {
             if self.fits_at(t) {
                 return true;
             }

@@ -25,19 +25,16 @@ use refusal::Refusal;
 // The edition that a puzzle is played in: 1, or 2 for free growth.
 #[derive(Clone, Copy, Debug, PartialEq, Eq)]
 pub enum Edition {
-    One,
+    One = 1,
     Two,
 }
 
 impl Edition {
-    // Its number.
+    // Its number. A method, as `Refusal::number`.
     pub fn number(self) -> u8
         ensures { result ≡ edition_number self }
     {
-        match self {
-            Edition::One => 1,
-            Edition::Two => 2,
-        }
+        self as u8
     }
 }
 
@@ -74,7 +71,8 @@ pub struct SizeRanges<'a> {
 }
 
 // A leaf as it is lent to what searches it: its problem, its edition and its sizes. A leaf without sizes lends empty slices. That the problem is formed is no fact
-// of it: the search for a reason asks for less, and who needs it says so in a clause.
+// of it: the search for a reason asks for less, and who needs it says so in a clause. The states of its cells come beside it: a search changes them while the leaf stays
+// lent (`certain::search_from`).
 #[derive(Clone, Copy)]
 pub struct LentLeaf<'a> {
     pub problem: &'a Problem,
@@ -223,19 +221,7 @@ impl CellSizes {
             (λ _ _. (self.new.lowest ≡ set self.old.lowest range.cell range.least) × (self.new.highest ≡ set self.old.highest range.cell range.most)) result }
     {
         let CellRange { cell, least, most } = range;
-        if 1024 <= cell {
-            return Err(Refusal::Sizes);
-        }
-        if marks[cell] != 1 {
-            return Err(Refusal::Sizes);
-        }
-        if cell < from {
-            return Err(Refusal::Sizes);
-        }
-        if least == 0 {
-            return Err(Refusal::Sizes);
-        }
-        if most < least {
+        if 1024 <= cell || marks[cell] != 1 || cell < from || least == 0 || most < least {
             return Err(Refusal::Sizes);
         }
         self.lowest[cell] = least;

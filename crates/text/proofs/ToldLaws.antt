@@ -51,9 +51,10 @@ module _ {t u : Text} {told : Result ℕ ℕ} (found : List ℕ) where
   unfolding told_text line two_words refused_text
   refused_told k e h p = rw (e, digits_decimal k h) p
 
-  pub none_told : (n : ℕ) → told ≡ Ok n → n ≡ 0 → Pushed t u (110 ∷ 111 ∷ 110 ∷ 101 ∷ 10 ∷ []) → Pushed t u (told_text told found)
+  -- the last byte by an equation of its own, so that the check tells where it is another
+  pub none_told : (n : ℕ) → told ≡ Ok n → n ≡ 0 → (last : ℕ) → Pushed t u (110 ∷ 111 ∷ 110 ∷ 101 ∷ last ∷ []) → last ≡ 10 → Pushed t u (told_text told found)
   unfolding told_text line none_text
-  none_told n e z p = rw (e, z) p
+  none_told n e z last p q = rw (e, z, ← q) p
 
 -- the last digits of a number that has more, between the word and the end of the line
 pub long_told : {t u v w : Text} {told : Result ℕ ℕ} (found : List ℕ) (j k : ℕ) {text : List ℕ} → told ≡ Err j → 10000 ≤ j → told ≡ Err k → text ≡ digits k → t.len + 21523 ≤ length t.out.now

@@ -138,7 +138,8 @@ impl Text<'_> {
         }
     }
 
-    // Writes what the host call says, with the bytes that it left.
+    // Writes what the host call says, with the bytes that it left. A number of a refusal, and no `Refusal`: it is read from what the host call returns, and the text is
+    // defined for each.
     pub fn push_told(&mut self, told: Result<usize, usize>, found: &[u8])
         requires count { IfOk told (λ n. (n ≤ 3073) × (2 * n ≤ length found.now)) }
         requires room { self.old.len + 21523 ≤ length self.old.out.now }
@@ -160,7 +161,8 @@ impl Text<'_> {
     }
 }
 
-// What the number says that the host call returned: how many literals it found, or the number of a refusal.
+// What the number says that the host call returned: how many literals it found, or the number of a refusal, which is any number as in `push_told`.
+// It is no `From`: both types are std's.
 // By arms, and not by `map_err`: what is told of a refusal rests on the number's being negative, which is known in the arm and not in a closure.
 pub fn read_code(code: i32) -> Result<usize, usize>
     ensures { result ≡ told_by code }

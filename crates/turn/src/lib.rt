@@ -114,74 +114,63 @@ impl Move {
         moved
     }
 
-    // The puzzle, moved.
-    fn step(self, puzzle: &Accepted) -> Accepted
-        ensures { result ≡ turned_by (step_of self puzzle.now.grid) puzzle.now }
+    // Moves the puzzle. In place, and not returned: what is returned is cleared and copied, and a turning on 6 by 6 cells, which takes 22,000 instructions, would
+    // take 7,000 more.
+    fn step(self, puzzle: &mut Accepted)
+        ensures { puzzle.new ≡ turned_by (step_of self puzzle.old.grid) puzzle.old }
     {
-        let problem = &puzzle.problem;
-        let grid = problem.grid();
+        let grid = puzzle.problem.grid();
         let moved = self.to_grid(grid);
-        let total = problem.arrow_total();
-        let cells = self.codes(grid, &problem.cells);
-        let arrows = self.line(grid, &problem.arrows[..total]);
-        Accepted {
-            problem: Problem {
-                height: moved.height,
-                width: moved.width,
-                cells,
-                arrows,
-                ends: problem.ends,
-                count: problem.count,
-            },
-        }
+        let total = puzzle.problem.arrow_total();
+        puzzle.problem.cells = self.codes(grid, &puzzle.problem.cells);
+        puzzle.problem.arrows = self.line(grid, &puzzle.problem.arrows[..total]);
+        puzzle.problem.height = moved.height;
+        puzzle.problem.width = moved.width;
     }
 }
 
-// The puzzle, flipped where k is 4 or more.
+// Flips the puzzle where k is 4 or more.
 #[tactic(auto, using(crate::proofs::AnswerLaws::flip_taken, crate::proofs::AnswerLaws::flip_left))]
-fn flipped(puzzle: Accepted, k: u32) -> Accepted
-    ensures { Valid puzzle → result ≡ turned_by (flip_if (leb 4 k) puzzle.grid) puzzle }
+fn flip(puzzle: &mut Accepted, k: u32)
+    ensures { Valid puzzle.old → puzzle.new ≡ turned_by (flip_if (leb 4 k) puzzle.old.grid) puzzle.old }
 {
     if 4 <= k {
-        return Move::Flip.step(&puzzle);
+        Move::Flip.step(puzzle);
     }
-    puzzle
 }
 
-// The puzzle after some quarter turns.
+// Makes some quarter turns of the puzzle.
 #[tactic(auto, using(crate::proofs::AnswerLaws::spun_none, crate::proofs::AnswerLaws::spun_more))]
-fn spin(puzzle: Accepted, times: u32) -> Accepted
-    ensures { result ≡ spun times puzzle }
+fn spin(puzzle: &mut Accepted, times: u32)
+    ensures { puzzle.new ≡ spun times puzzle.old }
 {
-    let mut spun = puzzle;
     for _ in 0..times {
-        spun = Move::Quarter.step(&spun);
+        Move::Quarter.step(puzzle);
     }
-    spun
 }
 
-// The puzzle, turned by k.
+// Turns the puzzle by k.
 #[tactic(auto, using(crate::proofs::StepLaws::turned_steps))]
-fn turn_puzzle(puzzle: Accepted, k: u32) -> Accepted
-    ensures { Valid puzzle → result ≡ turned k puzzle }
+fn turn_puzzle(puzzle: &mut Accepted, k: u32)
+    ensures { Valid puzzle.old → puzzle.new ≡ turned k puzzle.old }
 {
-    let first = flipped(puzzle, k);
-    spin(first, k % 4)
+    flip(puzzle, k);
+    spin(puzzle, k % 4);
 }
 
 // Turns a record by k into a lent output: the record's refusals, then 14 for k above 7, then 15 for an output that is shorter than the record.
 fn write_turned(record: &[u8], k: u32, output: &mut [u8]) -> Result<usize, Refusal>
     ensures { Writes (turn_record k (length output.old) «record».now) result output.old output.new }
 {
-    let puzzle = Accepted::read(record)?;
+    let mut puzzle = Accepted::read(record)?;
     if 7 < k {
         return Err(Refusal::Turning);
     }
     if output.len() < record.len() {
         return Err(Refusal::RecordOutputShort);
     }
-    let turned = turn_puzzle(puzzle, k);
-    Ok(writer::write(&turned, output))
+    turn_puzzle(&mut puzzle, k);
+    Ok(writer::write(&puzzle, output))
 }
 
 // Turns a record by k, from 0 to 7, into a lent output: flipped left and right first if k is 4 or more, then k modulo 4 quarter turns

@@ -125,9 +125,9 @@ impl Question for CheckCertificate<'_> {
     }
 }
 
-// Opens the record in an edition with sizes, as `calls::first_reason::find_with` does, and checks a certificate that the leaf has one solution only. Returns 1 where it is accepted, and then the
-// claimed solution is finished and every finished board of the leaf is it; or the negated number of a refusal: 1 to 5 for the record, 16 for another edition than 1 and 2, 22 for sizes
-// that may not stand, 23 to 30 for the certificate.
+// Opens the record in an edition with sizes, as `calls::first_reason::find_with` does, and checks a certificate that the leaf has one solution only. Returns 1 where it
+// is accepted, and then the claimed solution is finished and every finished board of the leaf is it; or the negated number of a refusal: 1 to 5 for the record, 16 for
+// another edition than 1 and 2, 22 for sizes that may not stand, 23 to 30 for the certificate.
 pub fn unique(record: &[u8], edition: u32, sizes: &[u8], certificate: &[u8]) -> i32
     ensures { result ≡ unique_returned (host_unique «record».now edition sizes.now certificate.now) }
 {

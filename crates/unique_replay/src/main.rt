@@ -13,7 +13,7 @@ ghost use Rattle.unique_replay.specs.Certificates.{expected, CallSo, EntrySo};
 use replay::{Cursor, Entries, Run};
 use std::io;
 
-// The number that this byte of a list stands for.
+// The number that this byte of a list stands for: the definition `expected`, and no `From`, since it is so in these lists alone.
 #[tactic(auto, using(std::proofs::lemmas::Bool::Decides::nat_tests), unfolding(crate::specs::Certificates::expected))]
 fn expected_number(answer: u8) -> i32
     ensures { result ≡ expected answer }
@@ -24,7 +24,7 @@ fn expected_number(answer: u8) -> i32
     i32::from(answer) - 256
 }
 
-// Whether the check of a certificate returns another number than this byte of a list stands for.
+// Whether the check of a certificate returns another number than this byte of a list stands for. One `!=` under a name: its contract is the fact by which an entry is counted.
 fn call_differs(record: &[u8], edition: u32, sizes: &[u8], certificate: &[u8], answer: u8) -> bool
     ensures { DiffersUnless result (CallSo «record».now edition sizes.now certificate.now answer) }
 {

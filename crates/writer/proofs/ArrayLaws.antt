@@ -5,7 +5,7 @@ use native.Mathlib.Omega.{arith}
 use mathlib.Core.Path.{◌≡◌, refl, sym, ap, subst, ◌∙◌}
 use mathlib.Core.List.{List, [], ◌∷◌, map, map-append}
 use lib.ListN.{length, get_or, length-map}
-use Rattle.grid.specs.Lists.{last, flat_map}
+use Rattle.grid.specs.Lists.{last}
 use Rattle.grid.specs.Grid.{size}
 use Rattle.grid.proofs.ListLaws.{at_mem}
 use Rattle.grid.proofs.ArrayLaws.{array_length, array_in}

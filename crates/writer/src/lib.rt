@@ -32,7 +32,7 @@ fn with_bit(byte: u8, r: usize, bit: usize) -> u8
     (kept + w * bit) as u8
 }
 
-// The code of the step from the cell i to its neighbour j.
+// The code of the step from the cell i to its neighbour j. No `From`: it asks for cells of one grid.
 #[tactic(auto, using(crate::proofs::DirectionLaws::code_up, crate::proofs::DirectionLaws::code_down, crate::proofs::DirectionLaws::code_left, crate::proofs::DirectionLaws::code_right))]
 fn direction(grid: Grid, i: usize, j: usize) -> usize
     requires { (i < grid.height * grid.width) × (j < grid.height * grid.width) }
@@ -44,7 +44,7 @@ fn direction(grid: Grid, i: usize, j: usize) -> usize
     if j == i + grid.width {
         return grid::DOWN;
     }
-    if j + 1 == i && i % grid.width != 0 {
+    if j + 1 == i && grid.column(i) != 0 {
         return grid::LEFT;
     }
     grid::RIGHT
@@ -111,8 +111,8 @@ impl BitWriter<'_> {
         ensures { Appends (18 + 2 * length arrow.now) (arrow_bits (sized grid.height grid.width) arrow.now) self.old self.new }
     {
         let start = usize::from(arrow[0]);
-        self.put(start / grid.width, 5);
-        self.put(start % grid.width, 5);
+        self.put(grid.row(start), 5);
+        self.put(grid.column(start), 5);
         self.put(arrow.len() - 1, 10);
         self.write_steps(grid, arrow);
     }

@@ -9,6 +9,3 @@ invariant_of-leaf g c =
     let q = c.args.problem.now in
     let f = c.requires.formed in
     record { tall = (formed_small q f).0; wide = (formed_small q f).1; arrows = formed_arrays q f; played = λ z. edition_not_0 c.args.edition (sym c.number.ensures ∙ z); sized = c.requires.sized }
-
-pub returns-clause-told : goal.returns-clause-told
-returns-clause-told g c = rw c.number.ensures at c.ask.ensures.told

@@ -37,6 +37,6 @@ returns-after-facts-eq-UNKNOWN-clause-facts c =
     let none = answer_none q (Formed-is q c.requires.formed) leaf.edition (good leaf) c.requires.states c.args.budget c.search_from.ensures (ap left_number c.in-Some.is) refl in
     let told = answer_told q (Formed-is q c.requires.formed) leaf.edition (good leaf) c.requires.states c.args.budget c.search_from.ensures (ap left_number c.in-Some.is) refl in
     elim c.if-facts-eq-UNKNOWN.branch [
-      | then-facts-eq-UNKNOWN w ↦ rw w.answer-is (none w.if-facts-eq-UNKNOWN.true)
+      | then-facts-eq-UNKNOWN w ↦ rw w.answer-is (none w.if-facts-eq-UNKNOWN.true refl)
       | else-facts-eq-UNKNOWN w ↦ rw w.answer-is (told w.if-facts-eq-UNKNOWN.false)
     ]

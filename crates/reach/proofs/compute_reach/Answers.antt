@@ -9,4 +9,4 @@ returns c =
     let info = c.args.info.now in
     let g = info.grid in
     λ arrows cells held. Reach-computed g.height g.width (area g.height g.width g.tall g.wide) info.kinds.now info.owners.now c.args.f _ _ _
-    c.mark_near_floats-near.ensures c.mark_reach-size.ensures arrows cells held
+    (rw c.mark_reach.ensures.near c.mark_near_floats.ensures.near) c.mark_reach.ensures.marked arrows cells held

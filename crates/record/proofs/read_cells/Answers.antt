@@ -1,15 +1,19 @@
--- `record::read_cells` meets its contract: the first i codes are in the array, and what is left makes of them what the whole makes.
+-- `record::read_cells` meets its contract: the first codes are written, and what is left makes of them what the whole makes.
 -- Assumes nothing.
 use native.Mathlib.Omega.{arith}
+use mathlib.Core.Path.{refl}
 use Rattle.fields.proofs.OutcomeLaws.{agrees_fault}
-use Rattle.record.proofs.CellLaws.{cells_start, cells_fault, cells_end}
+use Rattle.record.proofs.CellLaws.{cells_start, cells_fault, cells_more, cells_end}
 use Rattle.record.proofs.read_cells.Goals as goal
 
-pub loop-i-init : goal.loop-i-init
-loop-i-init c = cells_start c.args.bits.now c.args.n
+pub loop-cell-init : goal.loop-cell-init
+loop-cell-init c = cells_start c.args.bits.now _ refl
 
-pub returns-in_err-cells-clause-codes : goal.returns-in_err-cells-clause-codes
-returns-in_err-cells-clause-codes c = agrees_fault _ _ _ c.from_residual.ensures.1 (cells_fault _ c.args.n c.loop-i-test.true c.loop-i.invariant c.in_err-cells.ensures.value)
+pub returns-in_err-cell-clause-codes : goal.returns-in_err-cell-clause-codes
+returns-in_err-cell-clause-codes c = agrees_fault _ _ _ c.from_residual.ensures.1 (cells_fault _ _ (omega (arith, c.loop-cell-test.true, c.loop-cell.invariant.long)) c.loop-cell.invariant c.in_err-cell.ensures.value)
+
+pub loop-cell-preserved : goal.loop-cell-preserved
+loop-cell-preserved c = cells_more _ _ (omega (arith, c.loop-cell-test.true, c.loop-cell.invariant.long)) c.loop-cell.invariant _ c.in_ok-cell.ensures.value c.in_ok-cell.ensures.past
 
 pub returns-clause-codes : goal.returns-clause-codes
-returns-clause-codes c = cells_end _ c.args.n (omega arith) c.loop-i-test.false c.loop-i.invariant
+returns-clause-codes c = cells_end _ _ (omega (arith, c.loop-cell-test.false, c.loop-cell.invariant.long)) c.loop-cell.invariant

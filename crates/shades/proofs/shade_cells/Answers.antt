@@ -15,4 +15,4 @@ returns c =
     let g = c.args.grid in
     let few : g.height * g.width ≤ 1024 = area g.height g.width g.tall g.wide in
     let T = c.compute_connected_components.ensures in
-    pairs_shades (sized g.height g.width) (take (g.height * g.width) c.args.cells.now) _ _ T.groups_are T.squares_are.at few c.args.shades.now (rw c.size.ensures.value at c.write_pairs.ensures)
+    pairs_shades (sized g.height g.width) (take (g.height * g.width) c.args.cells.now) _ _ T.groups_are T.squares_are.at few (rw c.size.ensures.value at c.cell_pairs.ensures)

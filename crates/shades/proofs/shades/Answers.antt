@@ -1,6 +1,6 @@
 -- `shades::shades` meets its contract: the board is tested, and then the states of its cells tell.
 -- Assumes nothing.
-use mathlib.Core.Path.{refl, sym, ◌∙◌}
+use mathlib.Core.Path.{sym, ◌∙◌}
 use Rattle.record.specs.Problem.{grid_of}
 use Rattle.board.proofs.BoardForm.{Whole-is}
 use Rattle.shades.proofs.AnswerLaws.{shades_ill, shades_well}
@@ -15,4 +15,4 @@ grid-requires c = (Whole-is c.args.board (sym c.is_formed.ensures ∙ c.if-not-i
 
 pub returns : goal.returns
 returns c =
-    shades_well c.args.board (sym c.is_formed.ensures ∙ c.if-not-is_formed.false) (rw (c.grid.ensures.height, c.grid.ensures.width) at c.shade_cells.ensures) refl
+    shades_well c.args.board (sym c.is_formed.ensures ∙ c.if-not-is_formed.false) (rw (c.grid.ensures.height, c.grid.ensures.width) at c.shade_cells.ensures)

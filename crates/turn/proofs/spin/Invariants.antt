@@ -5,4 +5,4 @@ use Rattle.turn.specs.Inside.{spun}
 use Rattle.turn.proofs.spin.Given as goal
 
 abbrev pub invariant-loop : goal.invariant-loop
-invariant-loop l = l.spun ≡ spun l.counter l.fn.puzzle
+invariant-loop l = l.puzzle ≡ spun l.counter l.initial.puzzle

@@ -40,14 +40,14 @@ long c =
 
 pub write-requires : goal.write-requires
 write-requires c =
-    let t = c.turn_puzzle-turned.ensures (record_Valid c.args.«record».now (sym c.in_ok-puzzle.ensures)) in
+    let t = c.turn_puzzle.ensures (record_Valid c.args.«record».now (sym c.in_ok-puzzle.ensures)) in
     rw t (omega (arith, long (goal.at.write-requires c).In_ok-puzzle, c.if-output-record.false))
 
 pub returns : goal.returns
 returns c =
     let s = c.args.«record».now in
     let e = sym c.in_ok-puzzle.ensures in
-    let t = c.turn_puzzle-turned.ensures (record_Valid s e) in
+    let t = c.turn_puzzle.ensures (record_Valid s e) in
     let w = rw t at c.write.ensures in
     Writes-ok _ c.args.output.now (write_record (turned c.args.k c.in_ok-puzzle.puzzle)) c.write.new.out c.write.result
     (ok_turn c.args.k (length c.args.output.now) s c.in_ok-puzzle.puzzle e (omega (arith, c.if-k-gt7.false)) (omega (arith, c.if-output-record.false))) w.count

@@ -2,7 +2,7 @@
 -- Assumes nothing.
 use mathlib.Core.Path.{refl}
 use borrow.Author.Rules.{rules}
-use Rattle.form.proofs.AcceptedLaws.{Kept, kept}
+use Rattle.form.proofs.AcceptedLaws.{kept}
 use Rattle.writer.proofs.BridgeLaws.{ready, fields_Recorded}
 use Rattle.writer.proofs.write.Goals as goal
 

@@ -40,4 +40,4 @@ returns c =
     let n : c.size-count.result ≡ size g = c.size-count.ensures.value in
     Writes-as (host_shades a.«record».now a.decisions.now (length a.output.now)) a.output.now _ _
     (shades_done (Measures-by c.in_ok-grid.ensures) a.decisions.now (length a.output.now) (omega (arith, c.size-count.ensures.value)) c.in_ok-cells.ensures)
-    (rw n (shades_Writes g (take (size g) c.in_ok-cells.cells) _ _ a.output.now _ (omega (arith, n, c.size-count.ensures.small)) c.shade_cells.ensures (rw n at c.write_numbers.ensures)))
+    (rw n (shades_Writes g (take (size g) c.in_ok-cells.cells) _ a.output.now _ (omega (arith, n, c.size-count.ensures.small)) c.shade_cells-shades.ensures (rw n at c.write_numbers.ensures)))

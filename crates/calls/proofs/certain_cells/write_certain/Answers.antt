@@ -4,14 +4,16 @@ use native.Mathlib.Omega.{arith}
 use mathlib.Core.Path.{◌≡◌, ap}
 use lib.ListN.{length}
 use borrow.Author.Rules.{rules}
-use Rattle.certain.specs.Told.{answer_as, facts_as}
+use Rattle.certain.specs.Told.{answer_as, cells_as, facts_as}
 use Rattle.calls.proofs.ToldLaws.{Says-told, Says-none, Says-spent}
 use Rattle.calls.proofs.certain_cells.write_certain.Goals as goal
 
 pub returns-in-Told : goal.returns-in-Told
 returns-in-Told c =
-    let long : length c.args.facts.now.cells ≡ 1024 = search rules in
-    let s = Says-told c.args.n (facts_as c.args.facts.now) c.args.output.now (ap answer_as c.in-Told.is) (omega (arith, c.requires.0, long)) c.write_steps.ensures c.write_behind.ensures in
+    let told = facts_as c.args.facts.now in
+    let cells : told.cells ≡ c.in-Told.cells = ap cells_as c.in-Told.is in
+    let long : length c.write_behind.new.output ≡ length c.args.output.now = search rules in
+    let s = Says-told c.args.n told c.args.output.now (ap answer_as c.in-Told.is) c.requires.1 long c.write_steps.ensures (rw cells c.write_behind.ensures) in
     record { number = s.0; few = omega arith; bytes = s.1 }
 
 pub returns-in-Impossible : goal.returns-in-Impossible

@@ -21,7 +21,7 @@ loop-before-init c = push_first_one _ c.loop-a.self
 
 pub loop-before-preserved : goal.loop-before-preserved
 loop-before-preserved c =
-    let l = c.cells-cells.result.now in
+    let l = c.as_slice-cells.result.now in
     let a = c.loop-a.a in
     let b = c.loop-before.before-index in
     let h : b < a = omega (arith, c.loop-before-test.true, length-take a l) in
@@ -29,12 +29,12 @@ loop-before-preserved c =
 
 pub loop-a-preserved : goal.loop-a-preserved
 loop-a-preserved c =
-    let e : c.loop-before.before-index ≡ c.loop-a.a = omega (arith, c.loop-before.auto.before-index-end, c.loop-before-test.false, length-take c.loop-a.a c.cells-cells.result.now, c.loop-a-test.true) in
+    let e : c.loop-before.before-index ≡ c.loop-a.a = omega (arith, c.loop-before.auto.before-index-end, c.loop-before-test.false, length-take c.loop-a.a c.as_slice-cells.result.now, c.loop-a-test.true) in
     push_more _ c.loop-a.a c.loop-a.invariant (rw e at c.loop-before.invariant)
 
 pub returns : goal.returns
 returns c =
     let g = c.args.grid in
-    let e : c.loop-a.a ≡ length c.cells-cells.result.now = omega (arith, c.loop-a.auto.a-end, c.loop-a-test.false) in
-    push_same (between_off c.args.marks.now (sized g.height g.width) c.args.i c.if-marks-i-eq-ON_ARROW.false (c.cells-cells.ensures ∙ c.gather-near.ensures))
+    let e : c.loop-a.a ≡ length c.as_slice-cells.result.now = omega (arith, c.loop-a.auto.a-end, c.loop-a-test.false) in
+    push_same (between_off c.args.marks.now (sized g.height g.width) c.args.i c.if-marks-i-eq-ON_ARROW.false (c.as_slice-cells.ensures.value ∙ c.gather-near.ensures))
     (rw e at c.loop-a.invariant)

@@ -19,18 +19,18 @@ use Rattle.groups.proofs.LabelLaws.{counts-take, counts_below}
 use Rattle.groups.proofs.LabellingLaws.{Sofar-none, Sofar-more}
 use Rattle.groups.proofs.TableLaws.{named_few, Tabled-none, Tabled-more, tabled}
 use Rattle.groups.proofs.Groups.compute_connected_components.Goals as goal
-use Rattle.groups.proofs.Groups.compute_connected_components.Goals.{After-first_labels-self, In-loop-s}
+use Rattle.groups.proofs.Groups.compute_connected_components.Goals.{After-put_first_labels, In-loop-s}
 
 -- the cells of the grid alone are marked
 marked : (m : Members) (cells : List ℕ) {n : ℕ} {L : List ℕ} → Marked (counts m cells) n L → Marked (counts m (take n cells)) n L
 marked m cells {n} T = record { long = T.long; below = λ j h. T.below j h ∙ rw (counts-take m cells n j h); behind = T.behind }
 
-module _ (c : After-first_labels-self) where
+module _ (c : After-put_first_labels) where
   few : c.args.grid.height * c.args.grid.width ≤ 1024
   few = area c.args.grid.height c.args.grid.width c.args.grid.tall c.args.grid.wide
 
-  marks : Marked (counts c.args.members (take (c.args.grid.height * c.args.grid.width) c.args.cells.now)) (c.args.grid.height * c.args.grid.width) c.first_labels-self.result
-  marks = rw c.size-n.ensures.value at (marked c.args.members c.args.cells.now c.first_labels-self.ensures)
+  marks : Marked (counts c.args.members (take (c.args.grid.height * c.args.grid.width) c.args.cells.now)) (c.args.grid.height * c.args.grid.width) c.put_first_labels.new.self.labels
+  marks = rw c.size-n.ensures.value at (marked c.args.members c.args.cells.now c.put_first_labels.ensures.marked)
 
 small : (c : In-loop-s) → c.loop-s.s < 1024
 small c = omega (arith, c.loop-s-test.true, c.size-n.ensures.small)
@@ -39,7 +39,7 @@ pub loop-s-init : goal.loop-s-init
 unfolding size
 loop-s-init c =
     let a = c.args in
-    let at = (goal.at.loop-s-init c).After-first_labels-self in (
+    let at = (goal.at.loop-s-init c).After-put_first_labels in (
       Sofar-none (marked_yet (sized a.grid.height a.grid.width) (few at) (counts_below a.members a.cells.now (a.grid.height * a.grid.width)) (marks at)),
       Tabled-none _ _ _ (search rules) (search rules) (search rules),
     )
@@ -51,7 +51,7 @@ pub loop-s-preserved : goal.loop-s-preserved
 unfolding size
 loop-s-preserved c =
     let a = c.args in
-    let at = (goal.at.loop-s-preserved c).After-first_labels-self in
+    let at = (goal.at.loop-s-preserved c).After-put_first_labels in
     let low = small (goal.at.loop-s-preserved c).In-loop-s in
     let v = c.loop-s.invariant in
     let none : Unused c.loop-s.s c.loop-s.self.labels = unused (sized a.grid.height a.grid.width) (few at) (counts_below a.members a.cells.now (a.grid.height * a.grid.width)) (marks at) low v.0 in
@@ -66,7 +66,7 @@ pub returns : goal.returns
 unfolding size
 returns c =
     let a = c.args in
-    let at = (goal.at.returns c).After-first_labels-self in
+    let at = (goal.at.returns c).After-put_first_labels in
     let v = c.loop-s.invariant in
     let g = sized a.grid.height a.grid.width in
     let n = a.grid.height * a.grid.width in

@@ -15,4 +15,4 @@ returns-else-reach_differs c =
     λ arrows held.
     let reach = c.compute_reach-reach.ensures arrows (take n info.cells.now) held in
     Block-told (board_of info arrows) a.f a.block.list.now a.block.at c.size-n.result n c.number_at.result c.size-n.ensures.value c.number_at.ensures.0 reach
-    refl (c.reason_for_adjacent_floating_boundary-written.ensures arrows held reach.marked) c.reach_differs.result c.fence_differs.result c.reach_differs.ensures c.if-reach_differs.false c.fence_differs.ensures
+    refl (c.reason_for_adjacent_floating_boundary-written.ensures arrows held reach.marked) c.reach_differs.result c.fence_differs.result c.reach_differs.ensures c.if-reach_differs.false (rw (c.on-fence.ensures.same, c.on-fence.ensures.on) at c.fence_differs.ensures)

@@ -1,9 +1,8 @@
 -- `reach::near::reach_size` meets its contract: the squares of f, its size and those of the groups passed are added.
 -- Assumes nothing.
-use Prim.Native.Nat.{◌≤◌}
 use mathlib.Core.Path.{◌∙◌}
 use native.Mathlib.Omega.{arith}
-use lib.ListN.{length, get_or, take}
+use lib.ListN.{get_or}
 use Rattle.std.proofs.lemmas.List.{take_all}
 use Rattle.reach.proofs.NearLaws.{total_none, total_next}
 use Rattle.reach.proofs.NearReach.{reach_sum}

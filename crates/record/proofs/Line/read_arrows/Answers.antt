@@ -10,7 +10,8 @@ use Rattle.record.proofs.ArrowsLaws.{arrows_start, arrows_fault, arrows_room, ar
 use Rattle.record.proofs.Line.read_arrows.Goals as goal
 
 pub loop-i-init : goal.loop-i-init
-loop-i-init c = let e = c.requires.2 in (omega (arith, ap length e), arrows_start c.args.bits.now (sized c.args.grid.height c.args.grid.width) c.args.arrows c.args.self.now e)
+loop-i-init c =
+    let e = c.requires.2 in (omega (arith, ap length e), arrows_start c.args.bits.now (sized c.args.grid.height c.args.grid.width) c.args.arrows c.args.self.now c.args.ends.now e c.requires.3)
 
 pub returns-in_err-read_arrow : goal.returns-in_err-read_arrow
 returns-in_err-read_arrow c = agrees_fault _ _ _ c.from_residual.ensures.1 (arrows_fault _ _ c.args.arrows c.loop-i.invariant.1 c.args.extent c.loop-i-test.true c.in_err-read_arrow.ensures)

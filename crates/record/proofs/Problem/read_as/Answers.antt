@@ -5,6 +5,7 @@ use native.Mathlib.Omega.{arith}
 use mathlib.Core.Path.{refl, sym, ap, ◌∙◌}
 use Rattle.grid.specs.Lists.{array_of}
 use Rattle.fields.proofs.OutcomeLaws.{field-ok, outcome_fault}
+use Rattle.record.proofs.CellLaws.{zeros, zeros_front, zeros_over}
 use Rattle.record.proofs.WholeLaws.{whole_cut, whole_cut_2, whole_cut_3, whole_size, whole_cells, whole_arrows, whole_done}
 use Rattle.record.proofs.Problem.read_as.Goals as goal
 use Rattle.record.proofs.Problem.read_as.Goals.{In_ok-count}
@@ -39,35 +40,41 @@ returns-in_err-count c =
     let w = c.in_ok-width.ensures in
     outcome_fault _ _ c.from_residual-in_err-count.ensures.1 (whole_cut_3 c.args.extent _ refl h.value h.past w.value w.past c.in_err-count.ensures.value)
 
-pub returns-in_err-cells : goal.returns-in_err-cells
-returns-in_err-cells c =
+pub returns-in_err-read_cells : goal.returns-in_err-read_cells
+returns-in_err-read_cells c =
     let h = c.in_ok-height.ensures in
     let w = c.in_ok-width.ensures in
     let m = c.in_ok-count.ensures in
-    outcome_fault _ _ c.from_residual-in_err-cells.ensures.1 (whole_cells c.args.extent _ refl h.value h.past w.value w.past m.value m.past (rw c.size.ensures.value at c.in_err-cells.ensures.codes))
+    outcome_fault _ _ c.from_residual-in_err-read_cells.ensures.1
+    (whole_cells c.args.extent _ refl h.value h.past w.value w.past m.value m.past (zeros_front c.size.result c.size.ensures.small ∙ c.size.ensures.value) c.in_err-read_cells.ensures.codes)
 
 pub read_arrows-requires : goal.read_arrows-requires
 read_arrows-requires c =
-    let small = c.size.ensures.small in (
-      omega (arith, c.in_ok-cells.ensures.past.on, c.in_ok-count.ensures.past.on, c.in_ok-width.ensures.past.on, c.in_ok-height.ensures.past.on, small),
+    let small = c.size.ensures.small in
+    let front = zeros_front c.size.result small in (
+      omega (arith, c.in_ok-read_cells.ensures.past.on, c.in_ok-count.ensures.past.on, c.in_ok-width.ensures.past.on, c.in_ok-height.ensures.past.on, small, front),
       omega (arith, field-ok _ _ 11 (sym c.in_ok-count.ensures.value)),
       c.new-line.ensures,
+      zeros,
     )
 
-pub returns-in_err-ends : goal.returns-in_err-ends
-returns-in_err-ends c =
+pub returns-in_err-read_arrows : goal.returns-in_err-read_arrows
+returns-in_err-read_arrows c =
     let h = c.in_ok-height.ensures in
     let w = c.in_ok-width.ensures in
     let m = c.in_ok-count.ensures in
-    let d = rw c.size.ensures.value at c.in_ok-cells.ensures.codes in
-    outcome_fault _ _ c.from_residual-in_err-ends.ensures.1
-    (whole_arrows c.args.extent _ refl h.value h.past w.value w.past m.value m.past d.1 (rw c.size.ensures.value at c.in_ok-cells.ensures.past) c.in_err-ends.ensures)
+    let front = zeros_front c.size.result c.size.ensures.small in
+    let d = c.in_ok-read_cells.ensures in
+    outcome_fault _ _ c.from_residual-in_err-read_arrows.ensures.1
+    (whole_arrows c.args.extent _ refl h.value h.past w.value w.past m.value m.past (front ∙ c.size.ensures.value) d.codes.1 d.past c.in_err-read_arrows.ensures)
 
 pub returns : goal.returns
 returns c =
     let h = c.in_ok-height.ensures in
     let w = c.in_ok-width.ensures in
     let m = c.in_ok-count.ensures in
-    let d = rw c.size.ensures.value at c.in_ok-cells.ensures.codes in
-    let e = c.in_ok-ends.ensures in
-    whole_done c.args.extent _ refl h.value h.past w.value w.past m.value m.past d.1 (rw c.size.ensures.value at c.in_ok-cells.ensures.past) d.2 e.1 (c.into_cells.ensures ∙ ap (array_of 0) e.2.0) e.2.1
+    let front = zeros_front c.size.result c.size.ensures.small in
+    let d = c.in_ok-read_cells.ensures in
+    let e = c.in_ok-read_arrows.ensures in
+    whole_done c.args.extent _ refl h.value h.past w.value w.past m.value m.past (front ∙ c.size.ensures.value) d.codes.1 d.past
+    (zeros_over c.size.result _ (c.read_cells.auto.cells ∙ front) ∙ ap (array_of 0) d.codes.2) e.1 (c.into_cells.ensures ∙ ap (array_of 0) e.2.0) e.2.1

@@ -18,7 +18,7 @@ pub returns-in-Err-2 : goal.returns-in-Err-2
 returns-in-Err-2 c = long_told c.args.found.now c.in-Err.number c.in-Err-2.number c.in-Err.is c.if-number-lt10000.false c.in-Err-2.is c.last_digits.ensures c.requires.room c.push.ensures c.push-in-Err-2.ensures c.push-in-Err-2-2.ensures
 
 pub returns-in-Ok-eq0 : goal.returns-in-Ok-eq0
-returns-in-Ok-eq0 c = none_told c.args.found.now c.in-Ok-eq0.field-0 c.in-Ok-eq0.is (rw c.in-Ok-eq0.is at c.in-Ok-eq0.field-0-test) c.push-in-Ok-eq0.ensures
+returns-in-Ok-eq0 c = none_told c.args.found.now c.in-Ok-eq0.field-0 c.in-Ok-eq0.is (rw c.in-Ok-eq0.is at c.in-Ok-eq0.field-0-test) _ c.push-in-Ok-eq0.ensures (omega arith)
 
 pub returns-in-Ok : goal.returns-in-Ok
 returns-in-Ok c =

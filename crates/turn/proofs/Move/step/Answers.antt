@@ -24,8 +24,8 @@ shared_ref_as_front-line c =
     let r = parts c.args.puzzle.now k.valid c.puzzle.inside.problem k.arrays in
     omega (arith, c.arrow_total-total.ensures, r.short)
 
-pub line-arrows-requires : goal.line-arrows-requires
-line-arrows-requires c =
+pub line-puzzle-inside-requires : goal.line-puzzle-inside-requires
+line-puzzle-inside-requires c =
     let k = kept c.puzzle.inside.problem c.puzzle.invariant c.puzzle.view_is in
     let r = parts c.args.puzzle.now k.valid c.puzzle.inside.problem k.arrays in
     let n = c.arrow_total-total.result in
@@ -34,14 +34,14 @@ line-arrows-requires c =
       λ t h. rw (get_or-take n line t 0 (omega (arith, length-take n line)), c.grid-grid.ensures.height, c.grid-grid.ensures.width) (r.cells t (omega (arith, length-take n line, c.arrow_total-total.ensures))),
     )
 
-pub invariant_of-result : goal.invariant_of-result
-invariant_of-result c =
+pub invariant_of-puzzle : goal.invariant_of-puzzle
+invariant_of-puzzle c =
     let k = kept c.puzzle.inside.problem c.puzzle.invariant c.puzzle.view_is in
     step_formed c.args.puzzle.now k.valid c.args.self k.arrays
-    (record { sides = (rw (c.grid-grid.ensures.height, c.grid-grid.ensures.width) at c.to_grid-moved.ensures); all = c.arrow_total-total.ensures; codes = (rw (c.grid-grid.ensures.height, c.grid-grid.ensures.width) at c.codes-cells.ensures); line = (rw (c.grid-grid.ensures.height, c.grid-grid.ensures.width) at c.line-arrows.ensures) })
+    (record { sides = (rw (c.grid-grid.ensures.height, c.grid-grid.ensures.width) at c.to_grid-moved.ensures); all = c.arrow_total-total.ensures; codes = (rw (c.grid-grid.ensures.height, c.grid-grid.ensures.width) at c.codes-puzzle-inside.ensures); line = (rw (c.grid-grid.ensures.height, c.grid-grid.ensures.width) at c.line-puzzle-inside.ensures) })
 
 pub returns : goal.returns
 returns c =
     let k = kept c.puzzle.inside.problem c.puzzle.invariant c.puzzle.view_is in
     step_kept c.args.puzzle.now k.valid c.args.self k.arrays
-    (record { sides = (rw (c.grid-grid.ensures.height, c.grid-grid.ensures.width) at c.to_grid-moved.ensures); all = c.arrow_total-total.ensures; codes = (rw (c.grid-grid.ensures.height, c.grid-grid.ensures.width) at c.codes-cells.ensures); line = (rw (c.grid-grid.ensures.height, c.grid-grid.ensures.width) at c.line-arrows.ensures) })
+    (record { sides = (rw (c.grid-grid.ensures.height, c.grid-grid.ensures.width) at c.to_grid-moved.ensures); all = c.arrow_total-total.ensures; codes = (rw (c.grid-grid.ensures.height, c.grid-grid.ensures.width) at c.codes-puzzle-inside.ensures); line = (rw (c.grid-grid.ensures.height, c.grid-grid.ensures.width) at c.line-puzzle-inside.ensures) })

@@ -11,4 +11,4 @@ use Rattle.groups_replay.proofs.rounds.Rounds.compute_kinds.Given as goal
 abbrev pub invariant-loop-i : goal.invariant-loop-i
 invariant-loop-i l =
     0 < l._i → (arrows : List (List ℕ)) → Given (puzzle_with (sized l.board.grid.height l.board.grid.width) arrows) (take (l.board.grid.height * l.board.grid.width) l.board.cells.now) l.blocks.labels l.blocks.arrowed
-    → Held (view (puzzle_with (sized l.board.grid.height l.board.grid.width) arrows) (take (l.board.grid.height * l.board.grid.width) l.board.cells.now)) l.known.kinds l.known.owners
+    → Held (view (puzzle_with (sized l.board.grid.height l.board.grid.width) arrows) (take (l.board.grid.height * l.board.grid.width) l.board.cells.now)) l.kinds l.owners

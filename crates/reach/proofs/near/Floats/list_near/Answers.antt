@@ -16,25 +16,25 @@ pub list_floats_beside-total-requires : goal.list_floats_beside-total-requires
 list_floats_beside-total-requires c =
     let W = c.loop-i.invariant in
     record {
-      cell = walk_in c.args.linked.now.chains c.args.f c.requires.name W.walk c.loop-i-test.true;
+      cell = walk_in c.args.linked.now.chains c.args.f c.requires.name W.walk (rw c.from-in-loop-i.ensures at c.loop-i-test.true);
       listing = record { test = _; so_far = W.so_far };
     }
 
 pub loop-i-smaller : goal.loop-i-smaller
-loop-i-smaller c = rw c.from-i-in-loop-i.ensures (walk_less c.args.linked.now.chains c.args.f c.requires.name c.loop-i.invariant.walk c.loop-i-test.true)
+loop-i-smaller c = rw c.from-i-in-loop-i.ensures (walk_less c.args.linked.now.chains c.args.f c.requires.name c.loop-i.invariant.walk (rw c.from-in-loop-i.ensures at c.loop-i-test.true))
 
 pub loop-i-preserved : goal.loop-i-preserved
 loop-i-preserved c =
     let W = c.loop-i.invariant in
-    rw c.from-i-in-loop-i.ensures (Nearby-more c.args.linked.now.info.kinds.now _ c.args.linked.now.chains c.args.f c.requires.name W c.loop-i-test.true (c.list_floats_beside-total.ensures _ W.so_far))
+    rw c.from-i-in-loop-i.ensures (Nearby-more c.args.linked.now.info.kinds.now _ c.args.linked.now.chains c.args.f c.requires.name W (rw c.from-in-loop-i.ensures at c.loop-i-test.true) (c.list_floats_beside-total.ensures _ W.so_far))
 
 pub returns-clause-near : goal.returns-clause-near
 returns-clause-near c =
     let a = c.args.linked.now.info in
     let small = area a.grid.height a.grid.width a.grid.tall a.grid.wide in
-    let L = nearby_end a.kinds.now _ c.args.linked.now.chains c.args.f c.requires.name c.loop-i.invariant c.loop-i-test.false in
+    let L = nearby_end a.kinds.now _ c.args.linked.now.chains c.args.f c.requires.name c.loop-i.invariant (rw c.from-in-loop-i.ensures at c.loop-i-test.false) in
     λ arrows cells held. near_computed a.grid.height a.grid.width small a.kinds.now a.owners.now c.args.f _ _ _ L arrows cells held
 
 pub returns-clause-names : goal.returns-clause-names
 returns-clause-names c =
-    listed_small (nearby_end c.args.linked.now.info.kinds.now _ c.args.linked.now.chains c.args.f c.requires.name c.loop-i.invariant c.loop-i-test.false)
+    listed_small (nearby_end c.args.linked.now.info.kinds.now _ c.args.linked.now.chains c.args.f c.requires.name c.loop-i.invariant (rw c.from-in-loop-i.ensures at c.loop-i-test.false))
