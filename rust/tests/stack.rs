@@ -1,4 +1,4 @@
-//! What the calls take of the stack, where they take most: each runs in a thread that has what its documentation says, and 16 kilobytes for the thread itself.
+//! What the calls take of the stack, on boards where they take much: each runs in a thread that has what its documentation says, and 16 kilobytes for the thread itself.
 
 use evolmino::{
     certain_bytes, clauses_bytes, find_bytes, finished_bytes, join_bytes, player_file_bytes,
