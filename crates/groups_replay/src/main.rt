@@ -28,7 +28,7 @@ ghost use Rattle.groups_replay.specs.Blocks.{KindsSo, GroupsSo, PotentialSo, arr
 ghost use Rattle.groups_replay.specs.Entries.{KindsRun, ArrowsRun, BoardRun, board_end, RecordRun, EntrySo};
 
 use board::Board;
-use groups::{Groups, Members, NO_GROUP};
+use groups::{Groups, Members};
 use kinds::{BoardInfo, VACANT};
 use replay::{Cursor, Entries, Run};
 use rounds::{Marked, Rounds};
@@ -83,7 +83,8 @@ impl Rounds {
             → KindsRun p (take n board.now.cells.now) n (arrowed_names blocks.now) cursor.entry.list.now cursor.entry.at result }
     {
         let mut kinds = [VACANT; 1024];
-        let mut owners = [NO_GROUP; 1024];
+        // 0 and no `NO_GROUP`: what a list that says no rounds is compared with; a round sets each place anew.
+        let mut owners = [0; 1024];
         self.compute_kinds(board, blocks, &mut kinds, &mut owners);
         let info = BoardInfo {
             grid: board.grid,

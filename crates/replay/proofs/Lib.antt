@@ -1,3 +1,4 @@
 pub mod ListLaws
 mod TallyLaws
 pub mod ComparisonLaws
+mod WrittenLaws

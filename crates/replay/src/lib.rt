@@ -13,6 +13,7 @@ ghost use Rattle.replay.specs.Tallies.{sum_of, broken_run, run_of, then_of, also
 ghost use Rattle.replay.specs.Lists.{area_of, number_at, data_start, byte_in, number_in, differs};
 ghost use Rattle.replay.specs.Printed.{tally_text};
 
+use arrayvec::ArrayString;
 use refusal::Refusal;
 use std::io::{Read, Write};
 use std::{fmt, io};
@@ -46,6 +47,9 @@ pub struct Report<'a> {
 
 // What stands in every place of a fresh buffer: a number that is the literal of no cell.
 pub const NO_LITERAL: u16 = 65535;
+
+// Room for the text of every tally with words of up to 47 bytes: three numbers of 20 digits each, ` differ`, `list damaged` and two newlines.
+const TEXT: usize = 128;
 
 // What stands in the place of a name where there is none: the number behind that of the last cell. It is `groups::NO_GROUP`, and this crate is not above that one.
 const NO_NAME: u16 = 1024;
@@ -399,6 +403,17 @@ fn go_through<E: Entries>(entries: &E, list: &[u8]) -> Tally
     tally
 }
 
+// Hands the text of a report to the output in one write, so that a line comes whole to whoever reads it; where the words leave no room for it, as it comes.
+fn hand_over<W: Write>(report: Report<'_>, output: &mut W) -> io::Result<()>
+    ensures { OnOk result (Appends (W.contents output.old) (W.contents output.new) (tally_text report.entry.tally report.entry.entries.now (option_map (λ word. word.now) report.entry.parts))) }
+{
+    let mut text: ArrayString<TEXT> = ArrayString::new();
+    if fmt::Write::write_fmt(&mut text, format_args!("{report}")).is_err() {
+        return write!(output, "{report}");
+    }
+    output.write_all(text.as_bytes())
+}
+
 // Replays the list on the input: goes through its entries, and prints what was counted, with a word for them and, where their parts are told
 // too, one for these.
 pub fn replay<E: Entries, R: Read + Drop, W: Write>(
@@ -421,5 +436,5 @@ pub fn replay<E: Entries, R: Read + Drop, W: Write>(
         entries,
         parts,
     };
-    write!(output, "{report}")
+    hand_over(report, output)
 }
