@@ -2,7 +2,7 @@
 -- Assumes nothing.
 use Prim.Native.Nat.{ℕ, ◌*◌, ◌≤◌, ◌<◌}
 use native.Mathlib.Omega.{arith}
-use mathlib.Core.Path.{◌≡◌, refl, ap, ◌∙◌}
+use mathlib.Core.Path.{◌≡◌, refl, sym, ap, subst, ◌∙◌}
 use mathlib.Core.Bool.{Bool}
 use mathlib.Core.List.{List, ◌++◌, Memᴰ}
 use lib.ListN.{length, get_or, take}
@@ -11,22 +11,24 @@ use Rattle.grid.specs.Lists.{flat_map, upto, last, member, array_of}
 use Rattle.grid.specs.Side.{sized}
 use Rattle.grid.specs.Marks.{Marks}
 use Rattle.grid.specs.Grid.{Grid, size, cells_of, neighbours}
-use Rattle.grid.proofs.ListLaws.{upto-mem}
+use Rattle.grid.proofs.ListLaws.{upto-mem, at_mem}
 use Rattle.grid.proofs.AppendLaws.{filter_agree, flat_map_agree}
-use Rattle.grid.proofs.ArrayLaws.{array_in, array_take}
+use Rattle.grid.proofs.ArrayLaws.{array_in, array_length, array_take}
 use Rattle.grid.proofs.MarkLaws.{mark_is}
 use Rattle.grid.proofs.GridLaws.{beside, on_grid}
 use Rattle.record.specs.Record.{Puzzle}
+use Rattle.record.specs.Lines.{Lines}
 use Rattle.record.specs.Valid.{Valid}
 use Rattle.record.specs.Problem.{arrow_cells, ends_from, problem_of, puzzle_of, total_of}
 use Rattle.record.specs.declared.Problem.{Problem}
 use Rattle.record.proofs.RecordLaws.{Valid-size}
 use Rattle.record.proofs.FreshLaws.{arrows_length}
-use Rattle.record.proofs.ProblemLaws.{problem_puzzle}
+use Rattle.record.proofs.ProblemLaws.{length_ends, problem_puzzle}
+use Rattle.record.proofs.LinesLaws.{problem_Lines}
 use Rattle.groups.specs.Arrows.{on_arrow}
 use Rattle.groups.proofs.MarkLaws.{on_arrow_lem}
-use Rattle.form.proofs.ProblemForm.{ends_taken, last_end}
-use Rattle.clauses.specs.Clauses.{Clause, given_at, onwards, touching_at, around, between_at, arrow_clauses, given_part, touching_part, between_part, arrow_part, sheet}
+use Rattle.form.proofs.ProblemForm.{ends_taken, last_end, line_below}
+use Rattle.clauses.specs.Clauses.{Clause, given_at, onwards, touching_at, around, between_at, arrow_clauses, given_part, touching_part, between_part, arrow_part, sheet, clauses_bytes, sheet_bytes}
 use Rattle.clauses.specs.Inside.{marked}
 use Rattle.clauses.proofs.AroundLaws.{around_near, onwards_near}
 
@@ -91,6 +93,52 @@ module _ (p : Puzzle) (v : Valid p) where
     unfolding problem_of sheet
     sheet_there = rw (given_there, touching_there, between_there, arrows_there) refl
 
--- the clauses in the arrays of a puzzle are its sheet
-pub sheeted : (p : Puzzle) → Valid p → (q : Problem) → q ≡ problem_of p → (M : List ℕ) → Marks M (λ i. member i (take (total_of q) q.arrows)) → clauses_in q M ≡ sheet p
-sheeted p v q e M = rw e (λ K. sheet_there p v M K)
+    bytes_there : clauses_bytes (clauses_in (problem_of p) M) ≡ sheet_bytes p
+    unfolding sheet_bytes
+    bytes_there = ap clauses_bytes sheet_there
+
+  ends_there : (problem_of p).count ≤ length (problem_of p).ends
+  unfolding problem_of
+  ends_there =
+      let n = (problem_Lines p v (problem_of p) refl).few in
+      omega (arith, n, array_length 0 (ends_from 0 p.arrows) (omega (arith, n, length_ends 0 p.arrows)))
+
+  cells_long : length (problem_of p).arrows ≡ 1024
+  unfolding problem_of
+  cells_long = array_length 0 (arrow_cells p.arrows) few
+
+  within : total_of (problem_of p) ≤ 1024
+  unfolding problem_of
+  within = omega (arith, few, ap (last 0) (ends_taken p v) ∙ last_end p v)
+
+  cells_small : (k : ℕ) → k < total_of (problem_of p) → get_or (problem_of p).arrows k 0 < 1024
+  unfolding problem_of
+  cells_small k h =
+      let b : k < length (arrow_cells p.arrows) = omega (arith, h, ap (last 0) (ends_taken p v) ∙ last_end p v) in
+      rw (array_in 0 (arrow_cells p.arrows) 0 k b)
+      (omega (arith, line_below p v (get_or (arrow_cells p.arrows) k 0) (at_mem (arrow_cells p.arrows) k b), Valid-size v))
+
+-- what stands in the arrays of the problem of a puzzle, and that the clauses in them are its sheet
+pub record Sheeted (p : Puzzle) (q : Problem) : Type 0 where
+  pub lines : Lines q.height q.width q.arrows q.ends q.count
+  pub there : q.count ≤ length q.ends
+  pub long : length q.arrows ≡ 1024
+  pub within : total_of q ≤ 1024
+  pub cells : (k : ℕ) → k < total_of q → get_or q.arrows k 0 < 1024
+  pub clauses : (M : List ℕ) → Marks M (λ i. member i (take (total_of q) q.arrows)) → clauses_in q M ≡ sheet p
+  pub bytes : (M : List ℕ) → Marks M (λ i. member i (take (total_of q) q.arrows)) → clauses_bytes (clauses_in q M) ≡ sheet_bytes p
+
+Sheeted-of : (p : Puzzle) → Valid p → Sheeted p (problem_of p)
+Sheeted-of p v = record {
+  lines = problem_Lines p v (problem_of p) refl;
+  there = ends_there p v;
+  long = cells_long p v;
+  within = within p v;
+  cells = cells_small p v;
+  clauses = λ M K. sheet_there p v M K;
+  bytes = λ M K. bytes_there p v M K;
+}
+
+-- the clauses in the arrays of a puzzle are its sheet, and their bytes its bytes
+pub sheeted : (p : Puzzle) → Valid p → (q : Problem) → q ≡ problem_of p → Sheeted p q
+sheeted p v q e = subst (λ x. Sheeted p x) (sym e) (Sheeted-of p v)

@@ -30,7 +30,7 @@ returns-clause-sheet c =
     let h = c.grid-grid.ensures.height in
     let w = c.grid-grid.ensures.width in
     let k = kept c.puzzle.inside.problem c.puzzle.invariant c.puzzle.view_is in
-    push_same (sheeted c.args.puzzle.now k.valid c.puzzle.inside.problem k.arrays c.mark_arrow_cells-marks.result (rw c.arrow_total.ensures at c.mark_arrow_cells-marks.ensures))
+    push_same ((sheeted c.args.puzzle.now k.valid c.puzzle.inside.problem k.arrays).clauses c.mark_arrow_cells-marks.result (rw c.arrow_total.ensures at c.mark_arrow_cells-marks.ensures))
     (push_clauses _ _ (rw (c.size.ensures.value, h, w) at c.write_given.ensures) (push_clauses _ _ (rw (h, w) at c.write_touching.ensures) (push_clauses _ _ (rw (h, w) at c.write_between.ensures) c.write_arrows.ensures)))
 
 pub returns-clause-few : goal.returns-clause-few
