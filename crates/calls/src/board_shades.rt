@@ -15,7 +15,8 @@ use refusal::Refusal;
 fn measure(record: &[u8]) -> Result<Grid, Refusal>
     ensures { Agrees (read_record «record».now) (λ p grid. sized grid.height grid.width ≡ p.grid) result }
 {
-    let problem = Problem::read(record)?;
+    let mut problem = Problem::new();
+    problem.read_record_in(record)?;
     Ok(problem.grid())
 }
 

@@ -128,7 +128,8 @@ pub fn ask<Q: Question>(
     ensures told { Told (leaf_from «record».now edition sizes.now) (Q.told question.now) output.old output.new result }
     ensures few { ForOk result (λ n. n < 2 ^ 31) }
 {
-    let problem = Problem::read(record)?;
+    let mut problem = Problem::new();
+    problem.read_record_in(record)?;
     let edition = Edition::try_from(edition)?;
     if sizes.is_empty() {
         return question.ask(&bare(&problem, edition), output);

@@ -101,7 +101,8 @@ fn tail_behind<'a>(file: &'a [u8], problem: &Problem) -> Result<Tail<'a>, Refusa
 fn player_within(file: &[u8], room: usize) -> Result<Player, Refusal>
     ensures { outcome_of result ≡ player_of (player_within room file.now) }
 {
-    let problem = Problem::read_head(file)?;
+    let mut problem = Problem::new();
+    problem.read_head_in(file)?;
     if room < 1 {
         return Err(Refusal::OutputShort);
     }
@@ -117,7 +118,8 @@ fn player_within(file: &[u8], room: usize) -> Result<Player, Refusal>
 fn setter_within(file: &[u8], edition: u32, room: usize) -> Result<Setter, Refusal>
     ensures { outcome_of result ≡ setter_of (setter_within room edition file.now) }
 {
-    let problem = Problem::read_head(file)?;
+    let mut problem = Problem::new();
+    problem.read_head_in(file)?;
     if room < 1 + problem.size() {
         return Err(Refusal::OutputShort);
     }

@@ -2,7 +2,7 @@
 -- Assumes nothing.
 use Prim.Native.Nat.{ℕ, suc, ◌+◌, ◌-◌}
 use native.Mathlib.Omega.{arith}
-use mathlib.Core.Path.{◌≡◌, refl, ap, ◌∙◌}
+use mathlib.Core.Path.{◌≡◌, refl, sym, ap, ◌∙◌}
 use mathlib.Core.List.{List, [], ◌∷◌, ◌++◌, append_assoc}
 use lib.ListN.{length, take, drop, replicate, length-append}
 use lib.Seq.{take-append_seam, drop_at}
@@ -61,3 +61,7 @@ pub problem_refused : (o : Outcome Puzzle) {k : ℕ} → refused k ≡ as_proble
 unfolding as_problem ◌>>=◌
 problem_refused (refused j) {k} e = let z : j ≡ k = cc in rw z refl
 problem_refused (ok p) e = let z : ◌≡◌ {A = ℕ} 0 1 = cc in absurd (omega arith)
+
+-- a problem that was read in place
+pub read_ok : {o : Outcome Problem} {q : Problem} → (a : Problem) × (o ≡ ok a) × (q ≡ a) → ok q ≡ o
+read_ok r = ap {B = Outcome Problem} ok r.2 ∙ sym r.1

@@ -1,5 +1,6 @@
 -- What the functions inside `read` answer: an outcome of Record as the code's value, and what the lent arrays hold then.
 -- Assumes nothing.
+use Rattle.record.specs.declared.Problem.{Problem}
 use Rattle.std.specs.Prelude.{ℕ, ◌*◌, ◌+◌, ◌<◌, ◌≡◌, Bool, not, length}
 use mathlib.Core.List.{List, [], Memᴰ}
 use Rattle.grid.specs.Lists.{member, array_of}
@@ -53,3 +54,7 @@ read_as extent s =
     read_fields s >>= λ p.
     unless (ended extent s (head_bits p)) 5 >>= λ _.
     ok p
+
+-- room for a problem
+abbrev pub no_problem : Problem
+no_problem = record { height = 0; width = 0; cells = array_of 0 []; arrows = array_of 0 []; ends = array_of 0 []; count = 0 }

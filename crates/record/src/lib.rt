@@ -8,6 +8,7 @@ ghost use Rattle.refusal.specs.Refusals.{Outcome, refused, outcome_of};
 ghost use Rattle.fields.specs.Fields.{unless, bytes_for};
 ghost use Rattle.fields.specs.Inside.{Agrees, Past};
 ghost use Rattle.record.specs.Record.{Puzzle, cell_codes, step_cells, arrow_at, read_record};
+ghost use Rattle.record.specs.Inside.{no_problem};
 ghost use Rattle.record.specs.Problem.{arrow_cells, ends_from, as_problem, total_of};
 ghost use Rattle.record.specs.Lines.{start_at};
 ghost use Rattle.record.specs.Head.{read_head, puzzle_in};
@@ -215,28 +216,66 @@ impl Problem {
         Problem::read_as(bytes, Extent::Head)
     }
 
-    // The problem of a whole record, or of one at the head of a file, or the refusal of its first fault.
-    fn read_as(bytes: &[u8], extent: Extent) -> Result<Problem, Refusal>
-        ensures { outcome_of result ≡ as_problem (read_as extent bytes.now) }
+    // Room for a problem.
+    pub fn new() -> Problem
+        ensures { result ≡ no_problem }
+    {
+        Problem {
+            height: 0,
+            width: 0,
+            cells: [0; 1024],
+            arrows: [0; 1024],
+            ends: [0; 1024],
+            count: 0,
+        }
+    }
+
+    // Reads a whole record, or one at the head of a file, into a problem that comes new, or tells the refusal of its first fault.
+    fn read_in(&mut self, bytes: &[u8], extent: Extent) -> Result<(), Refusal>
+        requires { self.old ≡ no_problem }
+        ensures { Agrees (as_problem (read_as extent bytes.now)) (λ p _. self.new ≡ p) result }
     {
         let mut bits = BitReader { bytes, at: 0 };
         let height = bits.read_field(5)? + 1;
         let width = bits.read_field(5)? + 1;
         let count = bits.read_field(11)?;
         let grid = Grid { height, width };
-        let mut cells = [0; 1024];
-        read_cells(&mut bits, &mut cells[..grid.size()])?;
+        read_cells(&mut bits, &mut self.cells[..grid.size()])?;
         let mut line = Line::new();
-        let mut ends = [0; 1024];
-        line.read_arrows(&mut bits, grid, count, extent, &mut ends)?;
-        Ok(Problem {
-            height,
-            width,
-            cells,
-            arrows: line.into_cells(),
-            ends,
-            count,
-        })
+        line.read_arrows(&mut bits, grid, count, extent, &mut self.ends)?;
+        self.height = height;
+        self.width = width;
+        self.arrows = line.into_cells();
+        self.count = count;
+        Ok(())
+    }
+
+    // Reads a record into a problem that comes new, or tells the refusal of its first fault: `read` in place, for a call that C makes. What is returned takes its
+    // five kilobytes of the stack once more in each function that hands it on.
+    #[tactic(auto, using(crate::proofs::FieldsLaws::record_as))]
+    pub fn read_record_in(&mut self, bytes: &[u8]) -> Result<(), Refusal>
+        requires { self.old ≡ no_problem }
+        ensures { Agrees (as_problem (read_record bytes.now)) (λ p _. self.new ≡ p) result }
+    {
+        self.read_in(bytes, Extent::Whole)
+    }
+
+    // Reads the record at the head of a file into a problem that comes new, or tells the refusal of its first fault: `read_head` in place.
+    #[tactic(auto, using(crate::proofs::FieldsLaws::head_as))]
+    pub fn read_head_in(&mut self, bytes: &[u8]) -> Result<(), Refusal>
+        requires { self.old ≡ no_problem }
+        ensures { Agrees (as_problem (puzzle_in (read_head bytes.now))) (λ p _. self.new ≡ p) result }
+    {
+        self.read_in(bytes, Extent::Head)
+    }
+
+    // The problem of a whole record, or of one at the head of a file, or the refusal of its first fault.
+    fn read_as(bytes: &[u8], extent: Extent) -> Result<Problem, Refusal>
+        ensures { outcome_of result ≡ as_problem (read_as extent bytes.now) }
+    {
+        let mut problem = Problem::new();
+        problem.read_in(bytes, extent)?;
+        Ok(problem)
     }
 
     // How many cells its grid has.
