@@ -28,7 +28,8 @@ impl Accepted {
     pub fn read(bytes: &[u8]) -> Result<Accepted, Refusal>
         ensures { outcome_of result ≡ read_record bytes.now }
     {
-        let problem = Problem::read(bytes)?;
+        let mut problem = Problem::new();
+        problem.read_record_in(bytes)?;
         Ok(Accepted { problem })
     }
 }
