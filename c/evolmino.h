@@ -143,7 +143,7 @@ int32_t evolmino_find(const uint8_t *record, size_t record_len,
  * square, the block rules hold, and two squares or more stand on every arrow. Decisions and pointers are as for evolmino_find.
  *
  * Returns 1 for yes, 0 for no, or the negated number of a refusal: the record's 1 to 5, then for each decision in turn 12, 7, 9, and 12 for a
- * single byte that is left over. It keeps nothing either, and takes up to about 50 kilobytes of stack.
+ * single byte that is left over. It keeps nothing either, and takes up to about 45 kilobytes of stack.
  */
 int32_t evolmino_finished(const uint8_t *record, size_t record_len,
                           const uint8_t *decisions, size_t decisions_len);
@@ -157,7 +157,7 @@ int32_t evolmino_finished(const uint8_t *record, size_t record_len,
  * Returns the number of bytes written, which are the output's first, or the negated number of a refusal: the record's 1 to 5, then 13. Bytes
  * behind the sheet are unchanged, and all of them after a refusal. EVOLMINO_SHEET bytes are enough for every record; most sheets are far shorter, so
  * that a caller may also begin with less and lend more as long as 13 is returned. Pointers are as for evolmino_find. It keeps nothing either, and
- * takes up to about 30 kilobytes of stack.
+ * takes up to about 20 kilobytes of stack.
  */
 int32_t evolmino_clauses(const uint8_t *record, size_t record_len,
                          uint8_t *output, size_t output_len);
@@ -201,7 +201,7 @@ int32_t evolmino_certain(const uint8_t *record, size_t record_len,
  * end inside a range, or have a range that starts at 0, is upside down, sits off an arrow or does not rise above the cell before it; 11 for an
  * output shorter than 2 * (3 * height * width + 1) bytes; then for each decision in turn 12, 7, 9, and 12 for a single byte that is left over. In
  * edition 1 and without sizes it is evolmino_find. Pointers are as there, and the output does not overlap the sizes either. It keeps nothing
- * either, and takes up to about 125 kilobytes of stack.
+ * either, and takes up to about 120 kilobytes of stack.
  */
 int32_t evolmino_find_with(const uint8_t *record, size_t record_len,
                            uint32_t edition,
@@ -214,7 +214,7 @@ int32_t evolmino_find_with(const uint8_t *record, size_t record_len,
  *
  * Returns 1 for yes, 0 for no, or the negated number of a refusal, in this order: the record's 1 to 5, 16, 22, then for each decision in turn 12,
  * 7, 9, and 12 for a single byte that is left over. In edition 1 and without sizes it is evolmino_finished. With no decisions it tells whether a
- * leaf can be opened. It keeps nothing either, and takes up to about 60 kilobytes of stack.
+ * leaf can be opened. It keeps nothing either, and takes up to about 50 kilobytes of stack.
  */
 int32_t evolmino_finished_with(const uint8_t *record, size_t record_len,
                                uint32_t edition,
@@ -272,7 +272,7 @@ int32_t evolmino_join(const uint8_t *left, size_t left_len,
  * byte that is not zero: a whole byte behind it belongs to what follows. The output's first byte is the grade, 0 to 7; one byte follows for each
  * cell in row order, 1 for a square and 0 for empty. Bytes behind those written are unchanged. The pointers are not null, also where a length is
  * 0, and the output does not overlap the file. The call keeps nothing and may be made from any thread, also from several at once; it takes up to
- * about 50 kilobytes of stack.
+ * about 45 kilobytes of stack.
  */
 int32_t evolmino_setter_file(const uint8_t *file, size_t file_len, uint32_t edition,
                              uint8_t *output, size_t output_len);
@@ -282,7 +282,7 @@ int32_t evolmino_setter_file(const uint8_t *file, size_t file_len, uint32_t edit
  *
  * Returns the record's length in bytes, or the negated number of a refusal, which changes no byte: the record's 1 to 5, as for
  * evolmino_setter_file, then 11 for an output without a byte, and last 20. The output's first byte is the grade, 0 to 7. Bytes behind it are
- * unchanged. Pointers are as for evolmino_setter_file. It keeps nothing either, and takes up to about 25 kilobytes of stack.
+ * unchanged. Pointers are as for evolmino_setter_file. It keeps nothing either, and takes up to about 10 kilobytes of stack.
  */
 int32_t evolmino_player_file(const uint8_t *file, size_t file_len,
                              uint8_t *output, size_t output_len);
@@ -365,7 +365,7 @@ int32_t evolmino_board_hints(const struct evolmino_board *board, uint8_t player)
  *
  * Returns 1, or the negated number of a refusal: 1 to 5 for the record, then 16, then 22, then 23 to 25, then for each step in turn 26 to 29, and
  * last 30. Nothing is written. The pointers are not null, also where a length is 0. It keeps nothing, and takes up to
- * about 115 kilobytes of stack.
+ * about 105 kilobytes of stack.
  */
 int32_t evolmino_unique(const uint8_t *record, size_t record_len,
                         uint32_t edition,

@@ -74,7 +74,7 @@ pub struct PlayerFile<'a> {
 ///
 /// It refuses as [`find_bytes`](crate::find_bytes) what has no record at its front, but a whole byte behind the record is none of
 /// [`Refusal::Filler`]; then [`Refusal::OutputShort`] for an output below 1 + height × width bytes, [`Refusal::Tail`],
-/// [`Refusal::Edition`], and last [`Refusal::Unfinished`]. It keeps nothing, takes nothing from the heap and up to about 50 kilobytes
+/// [`Refusal::Edition`], and last [`Refusal::Unfinished`]. It keeps nothing, takes nothing from the heap and up to about 45 kilobytes
 /// of stack.
 pub fn setter_file_bytes(file: &[u8], edition: u32, output: &mut [u8]) -> Result<usize, Refusal> {
     written_by(evolmino_setter_file, file, edition, output)
@@ -84,7 +84,7 @@ pub fn setter_file_bytes(file: &[u8], edition: u32, output: &mut [u8]) -> Result
 /// byte; behind it, and where it refuses, the output is unchanged. Nothing of the solution reaches number or output.
 ///
 /// It refuses as [`setter_file_bytes`] the record, then [`Refusal::OutputShort`] for an output without a byte, and last
-/// [`Refusal::Tail`]. It keeps nothing, takes nothing from the heap and up to about 25 kilobytes of stack.
+/// [`Refusal::Tail`]. It keeps nothing, takes nothing from the heap and up to about 10 kilobytes of stack.
 pub fn player_file_bytes(file: &[u8], output: &mut [u8]) -> Result<usize, Refusal> {
     written_from_one(evolmino_player_file, file, output)
 }

@@ -323,7 +323,7 @@ pub fn find(record: &[u8], decisions: &[Literal]) -> Result<Option<Vec<Literal>>
 
 /// The exported call that tells whether a leaf is finished, on bytes: a record, and decisions of two bytes each.
 ///
-/// It keeps nothing, takes nothing from the heap and up to about 50 kilobytes of stack.
+/// It keeps nothing, takes nothing from the heap and up to about 45 kilobytes of stack.
 pub fn finished_bytes(record: &[u8], decisions: &[u8]) -> Result<bool, Refusal> {
     // Safe: each pointer comes from a slice and goes with its length; the call reads both and keeps neither.
     let answer = unsafe {

@@ -64,11 +64,11 @@ fn find_and_finished() {
     within(105, || {
         assert_eq!(find_bytes(&arrowed, &[], &mut output), Ok(0))
     });
-    within(125, || {
+    within(120, || {
         assert_eq!(sized.find_bytes(&[], &mut output), Ok(0))
     });
-    within(50, || assert_eq!(finished_bytes(&arrowed, &full), Ok(true)));
-    within(60, || assert_eq!(sized.finished_bytes(&full), Ok(true)));
+    within(45, || assert_eq!(finished_bytes(&arrowed, &full), Ok(true)));
+    within(50, || assert_eq!(sized.finished_bytes(&full), Ok(true)));
 }
 
 #[test]
@@ -93,7 +93,7 @@ fn records_and_files() {
     let (left, right) = (open_grid(15, true), open_grid(16, true));
     let file = write_file(&record, 3, &solution()).unwrap();
     let mut output = vec![0; 8_192];
-    within(30, || assert!(clauses_bytes(&record, &mut output).is_ok()));
+    within(20, || assert!(clauses_bytes(&record, &mut output).is_ok()));
     within(40, || {
         assert!(shades_bytes(&record, &full, &mut output).is_ok())
     });
@@ -101,11 +101,11 @@ fn records_and_files() {
     within(40, || {
         assert!(join_bytes(&left, &right, &mut output).is_ok())
     });
-    within(50, || {
+    within(45, || {
         assert!(setter_file_bytes(&file, 1, &mut output).is_ok())
     });
     within(
-        25,
+        10,
         || assert!(player_file_bytes(&file, &mut output).is_ok()),
     );
 }
@@ -114,7 +114,7 @@ fn records_and_files() {
 fn certificate() {
     let (record, claim) = (open_grid(32, false), claim_of_empty());
     let leaf = Leaf::new(&record);
-    within(115, || {
+    within(105, || {
         assert_eq!(leaf.unique(&claim), Err(Refusal::NotClosed))
     });
 }
