@@ -87,6 +87,10 @@ impl Sheet<'_> {
     fn put(&mut self, words: &[u16])
         ensures { Pushed self.old self.new (bytes_of words.now) }
     {
+        // Beside the first and the last cell of an arrow.
+        if words.is_empty() {
+            return;
+        }
         let from = self.len;
         self.len = from.saturating_add(2 * words.len());
         if self.out.len() < self.len {

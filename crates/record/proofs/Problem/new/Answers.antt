@@ -1,9 +1,8 @@
 -- `record::Problem::new` meets its contract.
 -- Assumes nothing.
-use mathlib.Core.Path.{ap, sym}
+use mathlib.Core.Path.{ap}
 use mathlib.Core.List.{List}
 use Prim.Native.Nat.{ℕ}
-use Rattle.record.specs.declared.Problem.{Problem}
 use Rattle.record.proofs.CellLaws.{zeros}
 use Rattle.record.proofs.Problem.new.Goals as goal
 

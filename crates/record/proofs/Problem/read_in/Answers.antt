@@ -84,6 +84,9 @@ returns c =
     let front = front_is c.requires c.size.result c.size.ensures.small in
     let d = c.in_ok-read_cells.ensures in
     let e = c.in_ok-read_arrows.ensures in
-    let cells_were = ap (λ (p : Problem). p.cells) c.requires in
-    (_, sym (whole_done c.args.extent _ refl h.value h.past w.value w.past m.value m.past (front ∙ c.size.ensures.value) d.codes.1 d.past
-    (ap (λ (l : List ℕ). c.read_cells.new.cells ++ drop c.size.result l) (cells_were ∙ sym zeros) ∙ zeros_over c.size.result _ (c.read_cells.auto.cells ∙ front) ∙ ap (array_of 0) d.codes.2) e.1 (c.into_cells-self.ensures ∙ ap (array_of 0) e.2.0) e.2.1), refl)
+    let cells_were = ap (λ (p : Problem). p.cells) c.requires in (
+      _,
+      sym (whole_done c.args.extent _ refl h.value h.past w.value w.past m.value m.past (front ∙ c.size.ensures.value) d.codes.1 d.past
+          (ap (λ (l : List ℕ). c.read_cells.new.cells ++ drop c.size.result l) (cells_were ∙ sym zeros) ∙ zeros_over c.size.result _ (c.read_cells.auto.cells ∙ front) ∙ ap (array_of 0) d.codes.2) e.1 (c.into_cells-self.ensures ∙ ap (array_of 0) e.2.0) e.2.1),
+      refl,
+    )
