@@ -157,7 +157,7 @@ int32_t evolmino_finished(const uint8_t *record, size_t record_len,
  * Returns the number of bytes written, which are the output's first, or the negated number of a refusal: the record's 1 to 5, then 13. Bytes
  * behind the sheet are unchanged, and all of them after a refusal. EVOLMINO_SHEET bytes are enough for every record; most sheets are far shorter, so
  * that a caller may also begin with less and lend more as long as 13 is returned. Pointers are as for evolmino_find. It keeps nothing either, and
- * takes up to about 20 kilobytes of stack.
+ * takes up to about 21 kilobytes of stack.
  */
 int32_t evolmino_clauses(const uint8_t *record, size_t record_len,
                          uint8_t *output, size_t output_len);
@@ -214,7 +214,7 @@ int32_t evolmino_find_with(const uint8_t *record, size_t record_len,
  *
  * Returns 1 for yes, 0 for no, or the negated number of a refusal, in this order: the record's 1 to 5, 16, 22, then for each decision in turn 12,
  * 7, 9, and 12 for a single byte that is left over. In edition 1 and without sizes it is evolmino_finished. With no decisions it tells whether a
- * leaf can be opened. It keeps nothing either, and takes up to about 50 kilobytes of stack.
+ * leaf can be opened. It keeps nothing either, and takes up to about 55 kilobytes of stack.
  */
 int32_t evolmino_finished_with(const uint8_t *record, size_t record_len,
                                uint32_t edition,
@@ -331,7 +331,7 @@ int32_t evolmino_board_find(struct evolmino_board *board, uint8_t player,
 
 /* Tells whether the board is finished, by the rules of its edition and with its sizes, as evolmino_finished_with does.
  *
- * Returns 1 for yes, 0 for no, or -6 for a board that no list of calls could leave. The board is unchanged. It takes up to about 45 kilobytes of
+ * Returns 1 for yes, 0 for no, or -6 for a board that no list of calls could leave. The board is unchanged. It takes up to about 50 kilobytes of
  * stack.
  */
 int32_t evolmino_board_finished(const struct evolmino_board *board);

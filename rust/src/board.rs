@@ -163,7 +163,7 @@ pub enum Cell {
 ///
 /// Two boards are equal where they have the same leaf, the same decisions in the same order, and the same counts of hints. The memory is in the heap;
 /// the exported calls take nothing from it, and of the stack that of [`Board::certain`] up to about 280 kilobytes, that of [`Board::find`] 90, and any
-/// other 45.
+/// other 50.
 #[derive(Clone, PartialEq, Eq, Hash)]
 pub struct Board {
     memory: Box<Memory>,

@@ -24,7 +24,7 @@ pub const SHEET_LIMIT: usize = 4 * 1024 + 6 * 2 * 31 * 32 + 2 * 1024 * 1024;
 ///
 /// A clause is a 16-bit count, high byte first, and that many literals of two bytes each, as in [`find_bytes`](crate::find_bytes). The
 /// call refuses an output that is too short for the whole sheet with [`Refusal::SheetShort`], after the record's own refusals. It keeps
-/// nothing, takes nothing from the heap and up to about 20 kilobytes of stack.
+/// nothing, takes nothing from the heap and up to about 21 kilobytes of stack.
 pub fn clauses_bytes(record: &[u8], output: &mut [u8]) -> Result<usize, Refusal> {
     written_from_one(evolmino_clauses, record, output)
 }

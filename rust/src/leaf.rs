@@ -111,7 +111,7 @@ pub type Size = (usize, u16, u16);
 /// assert_eq!(leaf.sizes(&[(4, 1, 2)]).finished(&full), Err(Refusal::Sizes));
 /// ```
 ///
-/// Of the stack the exported call of [`Leaf::certain`] takes up to about 270 kilobytes, those of [`Leaf::find`] and [`Leaf::unique`] 120 and 105, and any other 50.
+/// Of the stack the exported call of [`Leaf::certain`] takes up to about 270 kilobytes, those of [`Leaf::find`] and [`Leaf::unique`] 120 and 105, and any other 55.
 #[derive(Clone, Debug, PartialEq, Eq, Hash)]
 pub struct Leaf<'a> {
     record: Cow<'a, [u8]>,

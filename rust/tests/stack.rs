@@ -33,11 +33,18 @@ fn solution() -> Vec<bool> {
     (0..CELLS).map(|i| SQUARES.contains(&i)).collect()
 }
 
+/// Two blocks of one on the arrow, of which the later is not one larger.
+const UNFINISHED: [usize; 2] = [1_021, 1_023];
+
+/// All cells decided, with these squares.
+fn full_with(squares: &[usize]) -> Vec<u8> {
+    let word = |i| i as u16 + if squares.contains(&i) { 32_768 } else { 0 };
+    (0..CELLS).map(word).flat_map(u16::to_be_bytes).collect()
+}
+
 /// All cells decided as in the solution.
 fn decisions() -> Vec<u8> {
-    let word = |(i, square)| i as u16 + if square { 32_768 } else { 0 };
-    let words = solution().into_iter().enumerate().map(word);
-    words.flat_map(u16::to_be_bytes).collect()
+    full_with(&SQUARES)
 }
 
 /// A certificate that claims that all cells are empty, with the step of no literals behind, which
@@ -68,7 +75,13 @@ fn find_and_finished() {
         assert_eq!(sized.find_bytes(&[], &mut output), Ok(0))
     });
     within(45, || assert_eq!(finished_bytes(&arrowed, &full), Ok(true)));
-    within(50, || assert_eq!(sized.finished_bytes(&full), Ok(true)));
+    within(55, || assert_eq!(sized.finished_bytes(&full), Ok(true)));
+    // Where a full board has a reason against it, its fence is written too.
+    let full = full_with(&UNFINISHED);
+    within(45, || {
+        assert_eq!(finished_bytes(&arrowed, &full), Ok(false))
+    });
+    within(55, || assert_eq!(sized.finished_bytes(&full), Ok(false)));
 }
 
 #[test]
@@ -92,8 +105,10 @@ fn records_and_files() {
     let (record, full) = (open_grid(32, true), decisions());
     let (left, right) = (open_grid(15, true), open_grid(16, true));
     let file = write_file(&record, 3, &solution()).unwrap();
+    let unfinished: Vec<bool> = (0..CELLS).map(|i| UNFINISHED.contains(&i)).collect();
+    let other = write_file(&record, 3, &unfinished).unwrap();
     let mut output = vec![0; 8_192];
-    within(20, || assert!(clauses_bytes(&record, &mut output).is_ok()));
+    within(21, || assert!(clauses_bytes(&record, &mut output).is_ok()));
     within(40, || {
         assert!(shades_bytes(&record, &full, &mut output).is_ok())
     });
@@ -103,6 +118,10 @@ fn records_and_files() {
     });
     within(45, || {
         assert!(setter_file_bytes(&file, 1, &mut output).is_ok())
+    });
+    within(45, || {
+        let answer = setter_file_bytes(&other, 1, &mut output);
+        assert_eq!(answer, Err(Refusal::Unfinished))
     });
     within(
         10,
@@ -133,8 +152,11 @@ fn board() {
     within(280, || {
         assert!(board.certain_bytes(5_000, &mut output).is_ok())
     });
-    for (index, square) in solution().into_iter().enumerate() {
-        board.decide(index, square).unwrap();
+    for (squares, is_finished) in [(&SQUARES[..], true), (&UNFINISHED[..], false)] {
+        let mut full = Board::open(&record, 1, &[]).unwrap();
+        for index in 0..CELLS {
+            full.decide(index, squares.contains(&index)).unwrap();
+        }
+        within(50, || assert_eq!(full.finished(), Ok(is_finished)));
     }
-    within(45, || assert_eq!(board.finished(), Ok(true)));
 }

@@ -87,7 +87,7 @@ impl Sheet<'_> {
     fn put(&mut self, words: &[u16])
         ensures { Pushed self.old self.new (bytes_of words.now) }
     {
-        // Beside the first and the last cell of an arrow.
+        // Before the first cell of an arrow and behind its last one there are none.
         if words.is_empty() {
             return;
         }
