@@ -21,7 +21,6 @@ use finds::{Find, Said, Way};
 use refusal::Refusal;
 use replay::{Cursor, Entries, Report, Run};
 use std::io;
-use std::io::Write;
 
 // The most numbers of sizes that an entry may have.
 const SIZES: usize = 4096;
@@ -228,5 +227,5 @@ fn main(rt: HostRuntime) -> io::Result<()> {
         entries: " damaged boards, ",
         parts: None,
     };
-    write!(output, "{report}")
+    replay::hand_over(report, output)
 }

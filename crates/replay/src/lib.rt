@@ -404,7 +404,7 @@ fn go_through<E: Entries>(entries: &E, list: &[u8]) -> Tally
 }
 
 // Hands the text of a report to the output in one write, so that a line comes whole to whoever reads it; where the words leave no room for it, as it comes.
-fn hand_over<W: Write>(report: Report<'_>, output: &mut W) -> io::Result<()>
+pub fn hand_over<W: Write>(report: Report<'_>, output: &mut W) -> io::Result<()>
     ensures { OnOk result (Appends (W.contents output.old) (W.contents output.new) (tally_text report.entry.tally report.entry.entries.now (option_map (λ word. word.now) report.entry.parts))) }
 {
     let mut text: ArrayString<TEXT> = ArrayString::new();
